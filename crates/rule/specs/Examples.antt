@@ -1,0 +1,66 @@
+-- The marked examples of 01, M1 to M9, as rows of one list, and one theorem that computes them all.
+use mathlib.Core.Bool.{Bool, true, false, _&&_}
+use mathlib.Core.List.{List, [], _∷_, foldr}
+use Prim.Native.Nat.{ℕ}
+use lib.Dec.{T, eqb}
+use Rattle.rule.specs.Lists.{upto, filter, some, memb, insertBy, sortBy}
+use Rattle.rule.specs.Order.{earlierBy}
+use Rattle.rule.specs.Graph.{Graph, neighbours, degree, earlier, later, earlierNeighbours, order, empty, pair, added}
+use Rattle.rule.specs.Wave.{lowestFrom, lowestFree, waveIn, wave, waves, waveCount}
+use Rattle.rule.specs.Reach.{Kind, adding, striking, edited, changed, isNamed, isTurned, isReached, onTrail, trail, moved}
+
+-- are the two lists equal?
+same : List ℕ → List ℕ → Bool
+same [] [] = true
+same [] (y ∷ ys) = false
+same (x ∷ xs) [] = false
+same (x ∷ xs) (y ∷ ys) = eqb x y && same xs ys
+
+-- n banks with these clashes
+clashes : ℕ → List (ℕ × ℕ) → Graph
+clashes n pairs = foldr (λ p G. added G (p .0) (p .1)) (empty n) pairs
+
+-- a case: either n, the clashes, the number of waves and the waves; or an edit of the case before, the number of waves and the waves after
+-- it, the trail and the moved list
+pub data Case : Type 0 where
+  given : ℕ → List (ℕ × ℕ) → ℕ → List ℕ → Case
+  then : Kind → ℕ → ℕ → ℕ → List ℕ → List ℕ → List ℕ → Case
+
+-- the clashes after a case, from those of the case before
+pub after : Case → Graph → Graph
+after (given n pairs k ws) G = clashes n pairs
+after (then e a b k ws path moves) G = edited e G a b
+
+-- is the case as the definitions have it?
+pub right : Case → Graph → Bool
+right (given n pairs k ws) G = let H = clashes n pairs in eqb (waveCount H) k && same (waves H) ws
+right (then e a b k ws path moves) G =
+    let H = edited e G a b in
+    eqb (waveCount H) k && same (waves H) ws && same (trail e G H a b) path && same (moved G H) moves
+
+-- are they all, each from the case before?
+pub allRight : List Case → Graph → Bool
+allRight [] G = true
+allRight (c ∷ cs) G = right c G && allRight cs (after c G)
+
+pub cases : List Case
+cases =
+    -- M1
+    given 0 [] 0 []
+    -- M2, M3, M4
+    ∷ given 3 [] 1 (0 ∷ 0 ∷ 0 ∷ [])
+    ∷ then adding 1 2 2 (0 ∷ 0 ∷ 1 ∷ []) (1 ∷ 2 ∷ []) (2 ∷ [])
+    ∷ then adding 0 1 2 (1 ∷ 0 ∷ 1 ∷ []) (1 ∷ 0 ∷ []) (0 ∷ [])
+    ∷ then adding 0 2 3 (0 ∷ 1 ∷ 2 ∷ []) (0 ∷ 1 ∷ 2 ∷ []) (0 ∷ 1 ∷ 2 ∷ [])
+    -- M5, M6, M7
+    ∷ given 4 ((0, 1) ∷ (1, 2) ∷ (2, 3) ∷ []) 2 (1 ∷ 0 ∷ 1 ∷ 0 ∷ [])
+    ∷ then adding 0 3 2 (0 ∷ 1 ∷ 0 ∷ 1 ∷ []) (0 ∷ 1 ∷ 2 ∷ 3 ∷ []) (0 ∷ 1 ∷ 2 ∷ 3 ∷ [])
+    ∷ then striking 0 3 2 (1 ∷ 0 ∷ 1 ∷ 0 ∷ []) (1 ∷ 2 ∷ 0 ∷ 3 ∷ []) (1 ∷ 2 ∷ 0 ∷ 3 ∷ [])
+    -- M8, M9
+    ∷ given 6 ((0, 4) ∷ (0, 2) ∷ (2, 3) ∷ (1, 3) ∷ (1, 5) ∷ (2, 5) ∷ []) 2 (1 ∷ 0 ∷ 0 ∷ 1 ∷ 0 ∷ 1 ∷ [])
+    ∷ then striking 2 5 3 (0 ∷ 0 ∷ 1 ∷ 2 ∷ 1 ∷ 1 ∷ []) (0 ∷ 2 ∷ 3 ∷ 4 ∷ 5 ∷ []) (0 ∷ 2 ∷ 3 ∷ 4 ∷ [])
+    ∷ []
+
+pub examples-hold : T (allRight cases (empty 0))
+unfolding same clashes after right allRight cases upto filter some memb insertBy sortBy earlierBy neighbours degree earlier later earlierNeighbours order pair lowestFrom lowestFree waveIn wave waves waveCount edited changed isNamed isTurned isReached onTrail trail moved
+examples-hold = tt

@@ -1,0 +1,39 @@
+// The numbers of a plan, and the rule order of its banks.
+ghost use mathlib.Core.Path.{_≡_};
+ghost use Rattle.rule.specs.Order.{earlierBy};
+
+// A bank's number: the vertex id of a graph.
+pub struct Bank(pub u16);
+
+// A wave's number: the colour of a vertex.
+pub struct Wave(pub u16);
+
+// The most banks of a plan.
+pub const MOST_BANKS: usize = 1024;
+
+// The cells of a bank's row in Neighbours: the highest degree.
+pub const ROW_CELLS: usize = 23;
+
+// The cells of a bank in Counts: the most waves.
+pub const COUNT_CELLS: usize = 24;
+
+// What stands in the cells of a row that are left over.
+pub const UNUSED: u16 = 65535;
+
+// A cell as an index.
+pub fn wide(x: u16) -> usize
+    ensures { λ r. ⌜ r ≡ x ⌝ }
+{
+    x as usize
+}
+
+// Whether p is earlier than q: a larger degree, or the same degree and a smaller number.
+pub fn earlier(degree_p: u16, p: Bank, degree_q: u16, q: Bank) -> bool
+    ensures { λ r. ⌜ r ≡ earlierBy «degree_p» (p .0) «degree_q» (q .0) ⌝ }
+{
+    if degree_p == degree_q {
+        p.0 < q.0
+    } else {
+        degree_q < degree_p
+    }
+}

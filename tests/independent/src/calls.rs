@@ -1,0 +1,155 @@
+//! The planner's calls: open, add, strike, wave of a bank, clashes of a bank. Each asks its
+//! questions in the paper's order, and a refused call writes nothing.
+
+use crate::graph::{Bank, Graph};
+use crate::memory::Memory;
+use crate::plan::{MAX_BANKS, MAX_DEGREE};
+use crate::reach::{reach, Edit, Reach};
+use crate::refusals::*;
+
+/// The answer to an edit: the number, and how many cells of moved and trail it wrote.
+#[derive(Clone, Copy, Debug, PartialEq, Eq)]
+pub struct EditAnswer {
+    pub number: u16,
+    pub moved: usize,
+    pub trail: usize,
+}
+
+/// The answer to wave of a bank: the number and the wave.
+#[derive(Clone, Copy, Debug, PartialEq, Eq)]
+pub struct WaveAnswer {
+    pub number: u16,
+    pub wave: u16,
+}
+
+impl Memory {
+    /// Open: n banks, no clash.
+    pub fn open(&mut self, n: u16) -> u16 {
+        let n = usize::from(n);
+        let asked = ask(n <= MAX_BANKS, TOO_MANY_BANKS)
+            .and_then(|()| ask(self.plan_fits(n), SLICE_TOO_SHORT));
+        match asked {
+            Ok(()) => {
+                self.store_plan(&Graph::empty(n));
+                ACCEPTED
+            }
+            Err(number) => number,
+        }
+    }
+
+    /// Add the clash of a and b.
+    pub fn add(&mut self, a: u16, b: u16) -> EditAnswer {
+        self.edit(Edit::Add, a, b)
+    }
+
+    /// Strike the clash of a and b.
+    pub fn strike(&mut self, a: u16, b: u16) -> EditAnswer {
+        self.edit(Edit::Strike, a, b)
+    }
+
+    fn edit(&mut self, edit: Edit, a: u16, b: u16) -> EditAnswer {
+        let (a, b) = (usize::from(a), usize::from(b));
+        let asked = self.edit_questions(edit, a, b);
+        match asked {
+            Ok((old, new)) => {
+                let reach = self.store_edit(edit, a, b, &old, &new);
+                EditAnswer {
+                    number: ACCEPTED,
+                    moved: reach.moved.len(),
+                    trail: reach.trail.len(),
+                }
+            }
+            Err(number) => EditAnswer {
+                number,
+                moved: 0,
+                trail: 0,
+            },
+        }
+    }
+
+    /// All questions of an edit. The answer is the old and the new graph.
+    fn edit_questions(&self, edit: Edit, a: Bank, b: Bank) -> Result<(Graph, Graph), u16> {
+        let n = self.tally_banks()?;
+        ask(self.all_fit(n), SLICE_TOO_SHORT)?;
+        let old = self.held_graph().ok_or(NO_PLAN)?;
+        let new = clash_questions(edit, a, b, &old)?;
+        Ok((old, new))
+    }
+
+    /// Writes what an accepted edit leaves: the plan of the new graph, trail and moved.
+    pub(crate) fn store_edit(
+        &mut self,
+        edit: Edit,
+        a: Bank,
+        b: Bank,
+        old: &Graph,
+        new: &Graph,
+    ) -> Reach {
+        let reach = reach(edit, a, b, old, new);
+        self.store_plan(new);
+        self.store_reach(&reach);
+        reach
+    }
+
+    /// Wave of bank b.
+    pub fn wave_of(&self, b: u16) -> WaveAnswer {
+        match self.bank_questions(b) {
+            Ok(_) => WaveAnswer {
+                number: ACCEPTED,
+                wave: self.waves[usize::from(b)],
+            },
+            Err(number) => WaveAnswer { number, wave: 0 },
+        }
+    }
+
+    /// Clashes of bank b: the filled part of its row, empty if refused.
+    pub fn clashes_of(&self, b: u16) -> &[u16] {
+        match self.bank_questions(b) {
+            Ok(graph) => {
+                let b = usize::from(b);
+                &self.neighbours[MAX_DEGREE * b..][..graph.degree(b)]
+            }
+            Err(_) => &[],
+        }
+    }
+
+    /// All questions of a call about one bank. The answer is the graph.
+    fn bank_questions(&self, b: u16) -> Result<Graph, u16> {
+        let graph = self.plan_questions()?;
+        ask(usize::from(b) < graph.banks(), NO_SUCH_BANK)?;
+        Ok(graph)
+    }
+
+    /// The questions of a call that uses the plan but neither trail nor moved.
+    pub(crate) fn plan_questions(&self) -> Result<Graph, u16> {
+        let n = self.tally_banks()?;
+        ask(self.plan_fits(n), SLICE_TOO_SHORT)?;
+        self.held_graph().ok_or(NO_PLAN)
+    }
+
+    /// The tally's bank count, if it is at most 1,024.
+    fn tally_banks(&self) -> Result<usize, u16> {
+        let n = usize::from(self.tally.banks);
+        ask(n <= MAX_BANKS, TOO_MANY_BANKS)?;
+        Ok(n)
+    }
+}
+
+/// The questions on the two banks of an edit. The answer is the new graph.
+pub(crate) fn clash_questions(edit: Edit, a: Bank, b: Bank, old: &Graph) -> Result<Graph, u16> {
+    let n = old.banks();
+    ask(a < n && b < n, NO_SUCH_BANK)?;
+    ask(a != b, SAME_BANK)?;
+    match edit {
+        Edit::Add => {
+            ask(!old.clash(a, b), CLASH_EXISTS)?;
+            let room = old.degree(a) < MAX_DEGREE && old.degree(b) < MAX_DEGREE;
+            ask(room, DEGREE_FULL)?;
+            Ok(old.with(a, b))
+        }
+        Edit::Strike => {
+            ask(old.clash(a, b), NO_SUCH_CLASH)?;
+            Ok(old.without(a, b))
+        }
+    }
+}

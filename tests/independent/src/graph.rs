@@ -1,0 +1,119 @@
+//! Banks and clashes as a graph; the rule order and the rule waves, worked out from scratch.
+
+use std::cmp::Reverse;
+
+/// The number of a bank (a vertex id).
+pub type Bank = usize;
+
+/// The number of a wave (a colour).
+pub type Wave = usize;
+
+/// A set of clashes on banks 0 to n-1: by bank, the banks that clash with it, ascending.
+#[derive(Clone, Debug, PartialEq, Eq)]
+pub struct Graph {
+    neighbours: Vec<Vec<Bank>>,
+}
+
+impl Graph {
+    /// n banks without a clash.
+    pub fn empty(n: usize) -> Graph {
+        Graph {
+            neighbours: vec![Vec::new(); n],
+        }
+    }
+
+    /// n banks with the given clashes.
+    pub fn of(n: usize, clashes: impl IntoIterator<Item = (Bank, Bank)>) -> Graph {
+        let mut graph = Graph::empty(n);
+        for (a, b) in clashes {
+            graph.insert(a, b);
+        }
+        graph
+    }
+
+    fn insert(&mut self, a: Bank, b: Bank) {
+        assert_ne!(a, b, "a clash is a pair of different banks");
+        for (p, q) in [(a, b), (b, a)] {
+            if let Err(place) = self.neighbours[p].binary_search(&q) {
+                self.neighbours[p].insert(place, q);
+            }
+        }
+    }
+
+    /// This graph with the clash of a and b added.
+    pub fn with(&self, a: Bank, b: Bank) -> Graph {
+        let mut graph = self.clone();
+        graph.insert(a, b);
+        graph
+    }
+
+    /// This graph with the clash of a and b struck.
+    pub fn without(&self, a: Bank, b: Bank) -> Graph {
+        let mut graph = self.clone();
+        graph.neighbours[a].retain(|&q| q != b);
+        graph.neighbours[b].retain(|&q| q != a);
+        graph
+    }
+
+    /// The number of banks.
+    pub fn banks(&self) -> usize {
+        self.neighbours.len()
+    }
+
+    /// The number of clashes. Each is counted at its smaller bank.
+    pub fn clashes(&self) -> usize {
+        let above = |b: Bank| self.neighbours(b).filter(|&q| b < q).count();
+        (0..self.banks()).map(above).sum()
+    }
+
+    /// Whether a and b clash.
+    pub fn clash(&self, a: Bank, b: Bank) -> bool {
+        self.neighbours[a].contains(&b)
+    }
+
+    /// The banks that clash with b, ascending.
+    pub fn neighbours(&self, b: Bank) -> impl Iterator<Item = Bank> + '_ {
+        self.neighbours[b].iter().copied()
+    }
+
+    /// The number of banks that clash with b.
+    pub fn degree(&self, b: Bank) -> usize {
+        self.neighbours[b].len()
+    }
+
+    /// Whether p is earlier than q: larger degree, or equal degree and smaller number.
+    pub fn earlier(&self, p: Bank, q: Bank) -> bool {
+        let (of_p, of_q) = (self.degree(p), self.degree(q));
+        of_p > of_q || (of_p == of_q && p < q)
+    }
+
+    /// All banks in the rule order, earliest first.
+    pub fn order(&self) -> Vec<Bank> {
+        let mut banks: Vec<Bank> = (0..self.banks()).collect();
+        banks.sort_by_key(|&b| (Reverse(self.degree(b)), b));
+        banks
+    }
+
+    /// The rule waves by bank number: greedy colouring in the rule order. When a bank's turn
+    /// comes, its neighbours that have a wave are its earlier ones.
+    pub fn waves(&self) -> Vec<Wave> {
+        let mut waves: Vec<Option<Wave>> = vec![None; self.banks()];
+        for b in self.order() {
+            let held: Vec<Wave> = self.neighbours(b).filter_map(|q| waves[q]).collect();
+            waves[b] = Some(lowest_free(&held));
+        }
+        let given = |wave: Option<Wave>| wave.expect("the order has each bank");
+        waves.into_iter().map(given).collect()
+    }
+}
+
+/// The smallest number from 0 that is not held.
+fn lowest_free(held: &[Wave]) -> Wave {
+    let free = |wave: &Wave| !held.contains(wave);
+    (0..=held.len()).find(free).expect("one more than are held")
+}
+
+/// The number of waves: the highest wave plus 1, or 0 without banks.
+pub fn number_of_waves(waves: &[Wave]) -> usize {
+    waves.iter().max().map_or(0, |highest| highest + 1)
+}

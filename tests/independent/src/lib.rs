@@ -1,0 +1,25 @@
+//! A model of the wave planner, to hold the planner against. It is written from the papers alone
+//! and shares no code with the planner. It keeps no state between edits other than the lent
+//! memory, and works every plan out from scratch: sort the banks by the rule order, colour
+//! greedily, fill in the cells.
+//!
+//! - `graph`: banks, clashes, rule order, rule waves.
+//! - `reach`: trail and moved of an edit, from the old and the new graph.
+//! - `plan`: the plan's cells and tally.
+//! - `memory`: the lent slices, and whether they hold a plan.
+//! - `refusals`: the numbers of the questions.
+//! - `calls`: open, add, strike, wave of a bank, clashes of a bank.
+//! - `list`: the list's rows and the call that reads a list.
+//! - `sheet`: the sheet's text, the call that writes it, and the output of the program.
+//! - `random`, `lists`: inputs for the tests.
+
+pub mod calls;
+pub mod graph;
+pub mod list;
+pub mod lists;
+pub mod memory;
+pub mod plan;
+pub mod random;
+pub mod reach;
+pub mod refusals;
+pub mod sheet;

@@ -1,0 +1,10 @@
+//! Tests of the model: the papers' examples, and the rule and demand 3 on random graphs.
+
+mod marked;
+mod plan_cells;
+mod reach;
+mod read_list;
+mod refusals;
+mod rule;
+mod sheet;
+mod support;

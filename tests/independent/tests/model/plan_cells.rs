@@ -1,0 +1,196 @@
+//! The plan's cells against the paper's words, and memory that holds no plan.
+
+use crate::support::{any_graph, memory_of};
+use independent::graph::Graph;
+use independent::memory::Memory;
+use independent::random::Random;
+
+#[test]
+fn cells_of_a_small_plan() {
+    // Degrees 2 1 3 2 0: order 2 0 3 1 4; waves 1 1 0 2 0.
+    let graph = Graph::of(5, [(0, 2), (3, 2), (1, 2), (0, 3)]);
+    let memory = memory_of(&graph, 0);
+    let rows: [&[u16]; 5] = [&[2, 3], &[2], &[0, 1, 3], &[0, 2], &[]];
+    for (b, row) in rows.iter().enumerate() {
+        let mut cells = [65_535; 23];
+        cells[..row.len()].copy_from_slice(row);
+        assert_eq!(memory.neighbours[23 * b..23 * b + 23], cells);
+        assert_eq!(memory.clashes_of(b as u16), *row);
+    }
+    assert_eq!(memory.degrees, [2, 1, 3, 2, 0]);
+    assert_eq!(memory.waves, [1, 1, 0, 2, 0]);
+    let counts: [&[u16]; 5] = [&[1], &[1], &[], &[1, 1], &[]];
+    for (b, front) in counts.iter().enumerate() {
+        let mut cells = [0; 24];
+        cells[..front.len()].copy_from_slice(front);
+        assert_eq!(memory.counts[24 * b..24 * b + 24], cells);
+    }
+    let tally = memory.tally;
+    assert_eq!((tally.banks, tally.clashes, tally.waves), (5, 4, 3));
+}
+
+#[test]
+fn open_sets_every_cell() {
+    let mut memory = Memory::filled(4, 500);
+    assert_eq!(memory.open(3), 0);
+    assert_eq!(memory.neighbours[..69], [65_535; 69]);
+    assert_eq!(memory.degrees[..3], [0; 3]);
+    assert_eq!(memory.waves[..3], [0; 3]);
+    assert_eq!(memory.counts[..72], [0; 72]);
+    let tally = memory.tally;
+    assert_eq!((tally.banks, tally.clashes, tally.waves), (3, 0, 1));
+    for rest in [
+        &memory.neighbours[69..],
+        &memory.degrees[3..],
+        &memory.waves[3..],
+        &memory.counts[72..],
+        &memory.trail,
+        &memory.moved,
+    ] {
+        assert!(!rest.is_empty() && rest.iter().all(|&cell| cell == 500));
+    }
+}
+
+/// Counts, degrees and tally, counted clash by clash from the rows and waves that stand in memory.
+#[test]
+fn cells_agree_with_rows_and_waves() {
+    let mut random = Random::new(21);
+    for _ in 0..200 {
+        let graph = any_graph(&mut random, 50);
+        let memory = memory_of(&graph, 0);
+        let n = graph.banks();
+        let clash = |p: usize, q: usize| memory.neighbours[23 * p..][..23].contains(&(q as u16));
+        let mut clashes = 0;
+        for b in 0..n {
+            assert_eq!(
+                usize::from(memory.degrees[b]),
+                (0..n).filter(|&q| clash(b, q)).count()
+            );
+            clashes += (0..b).filter(|&q| clash(b, q)).count();
+            for wave in 0..24 {
+                let stands = |q: &usize| {
+                    let more = memory.degrees[*q] > memory.degrees[b];
+                    let tie = memory.degrees[*q] == memory.degrees[b] && *q < b;
+                    clash(b, *q) && (more || tie) && memory.waves[*q] == wave
+                };
+                let count = (0..n).filter(stands).count();
+                assert_eq!(
+                    usize::from(memory.counts[24 * b + usize::from(wave)]),
+                    count
+                );
+            }
+        }
+        assert_eq!(usize::from(memory.tally.clashes), clashes);
+        assert_eq!(memory.tally.waves, memory.waves.iter().max().unwrap() + 1);
+    }
+}
+
+type Slice = fn(&mut Memory) -> &mut Vec<u16>;
+
+/// Two plans of the same bank count never differ in one cell only.
+#[test]
+fn a_changed_cell_is_no_plan() {
+    let mut random = Random::new(22);
+    for _ in 0..20 {
+        let graph = any_graph(&mut random, 12);
+        let memory = memory_of(&graph, 1);
+        assert!(memory.holds_plan());
+        let n = graph.banks();
+        let slices: [(Slice, usize); 4] = [
+            (|memory| &mut memory.neighbours, 23 * n),
+            (|memory| &mut memory.degrees, n),
+            (|memory| &mut memory.waves, n),
+            (|memory| &mut memory.counts, 24 * n),
+        ];
+        for (slice, used) in slices {
+            for place in 0..used {
+                let mut changed = memory.clone();
+                let cell = &mut slice(&mut changed)[place];
+                *cell = other_content(&mut random, *cell, n);
+                assert!(!changed.holds_plan(), "cell {place}");
+            }
+            let mut changed = memory.clone();
+            slice(&mut changed)[used] ^= 1;
+            assert!(changed.holds_plan(), "a cell beyond the plan");
+        }
+    }
+}
+
+/// Content other than the present one: near it, a bank, the filler or anything.
+fn other_content(random: &mut Random, present: u16, n: usize) -> u16 {
+    loop {
+        let content = match random.below(4) {
+            0 => present.wrapping_add(1),
+            1 => random.below(n) as u16,
+            2 => 65_535,
+            _ => random.draw() as u16,
+        };
+        if content != present {
+            return content;
+        }
+    }
+}
+
+#[test]
+fn a_changed_tally_is_no_plan() {
+    let mut memory = memory_of(&Graph::of(4, [(0, 1), (2, 3)]), 0);
+    let tally = memory.tally;
+    memory.tally.clashes = 1;
+    assert!(!memory.holds_plan());
+    memory.tally = tally;
+    memory.tally.waves = 3;
+    assert!(!memory.holds_plan());
+    memory.tally = tally;
+    memory.tally.banks = 3;
+    assert!(!memory.holds_plan(), "bank 2 clashes with bank 3");
+    memory.tally = tally;
+    assert!(memory.holds_plan());
+}
+
+#[test]
+fn a_smaller_tally_may_be_a_plan_too() {
+    let mut memory = memory_of(&Graph::of(4, [(0, 1)]), 0);
+    memory.tally.banks = 2;
+    assert!(memory.holds_plan(), "banks 2 and 3 are now beyond the plan");
+    memory.tally.banks = 0;
+    assert!(
+        !memory.holds_plan(),
+        "0 banks have neither clashes nor waves"
+    );
+    memory.tally.clashes = 0;
+    memory.tally.waves = 0;
+    assert!(memory.holds_plan());
+}
+
+/// Rows that break one condition on rows only, with all other cells made to fit.
+#[test]
+fn rows_that_are_no_graph() {
+    let good = memory_of(&Graph::of(3, [(0, 1), (0, 2)]), 0);
+    let with_row_0 = |cells: [u16; 4]| {
+        let mut memory = good.clone();
+        memory.neighbours[..4].copy_from_slice(&cells);
+        memory.holds_plan()
+    };
+    let none = 65_535;
+    assert!(with_row_0([1, 2, none, none]));
+    assert!(!with_row_0([2, 1, none, none]), "descending");
+    assert!(!with_row_0([1, 1, 2, none]), "twice");
+    assert!(!with_row_0([1, none, 2, none]), "a gap");
+    assert!(!with_row_0([0, 1, 2, none]), "itself");
+    assert!(!with_row_0([1, 2, 3, none]), "no such bank");
+    assert!(!with_row_0([1, none, none, none]), "one-sided");
+}
+
+/// 24 rows name bank 0, which has no row cell for the last of them.
+#[test]
+fn a_degree_of_24_is_no_plan() {
+    let mut memory = memory_of(&Graph::of(25, (1..24).map(|q| (0, q))), 0);
+    assert!(memory.holds_plan());
+    memory.neighbours[23 * 24] = 0;
+    memory.degrees[0] = 24;
+    memory.degrees[24] = 1;
+    memory.waves[24] = 1;
+    memory.counts[24 * 24] = 1;
+    memory.tally.clashes = 24;
+    assert!(!memory.holds_plan());
+}
