@@ -1,6 +1,6 @@
 -- Lists by their members: `T (memb x xs)` is "x is in xs".
 use mathlib.Core.Bool.{Bool, true, false, cond, _&&_, _||_}
-use mathlib.Core.List.{List, [], _∷_, _++_, map}
+use mathlib.Core.List.{List, [], _∷_, _++_, map, append-nil}
 use mathlib.Core.Logic.{_⊎_, inl, inr, ⊎-elim}
 use mathlib.Core.Path.{_≡_, refl, sym, ap, ap₂, subst, _∙_}
 use native.Mathlib.Nat.{eq-or-lt-of-le}
@@ -9,7 +9,7 @@ use Prim.Native.Nat.{ℕ, zero, suc, _≤_, _<_}
 use lib.Dec.{T, eqb, ltb, eqb→eq}
 use lib.ListN.{length, length-append}
 use Rattle.rule.specs.Lists.{upto, filter, some, memb}
-use Rattle.rule.proofs.Booleans.{or-l, or-r, or-cases, eq→eqb}
+use Rattle.rule.proofs.Booleans.{or-l, or-r, or-cases, test-ext, eq→eqb}
 
 pub in-head : (x y : ℕ) (ys : List ℕ) → x ≡ y → T (memb x (y ∷ ys))
 unfolding memb some
@@ -129,6 +129,27 @@ filter-filter p q (x ∷ xs) = go (p x) (filter-filter p q xs)
         → filter q (cond b (x ∷ filter p xs) (filter p xs)) ≡ cond (b && q x) (x ∷ filter (λ x. p x && q x) xs) (filter (λ x. p x && q x) xs)
     go true e = ap (λ (r : List ℕ). cond (q x) (x ∷ r) r) e
     go false e = e
+
+-- one more at the end
+filter-snoc : (p : ℕ → Bool) (xs : List ℕ) (y : ℕ) → filter p (xs ++ (y ∷ [])) ≡ filter p xs ++ cond (p y) (y ∷ []) []
+unfolding filter
+filter-snoc p [] y = refl
+filter-snoc p (x ∷ xs) y = go (p x) (filter-snoc p xs y)
+  where
+    go : (t : Bool) → filter p (xs ++ (y ∷ [])) ≡ filter p xs ++ cond (p y) (y ∷ []) []
+        → cond t (x ∷ filter p (xs ++ (y ∷ []))) (filter p (xs ++ (y ∷ []))) ≡ cond t (x ∷ filter p xs) (filter p xs) ++ cond (p y) (y ∷ []) []
+    go true e = ap (_∷_ x) e
+    go false e = e
+
+pub filter-kept : (p : ℕ → Bool) (xs : List ℕ) (y : ℕ) → T (p y) → filter p (xs ++ (y ∷ [])) ≡ filter p xs ++ (y ∷ [])
+filter-kept p xs y t =
+    filter-snoc p xs y ∙ ap (λ (b : Bool). filter p xs ++ cond b (y ∷ []) []) (test-ext (p y) true (λ u. tt) (λ u. t))
+
+pub filter-left : (p : ℕ → Bool) (xs : List ℕ) (y : ℕ) → (T (p y) → ⊥) → filter p (xs ++ (y ∷ [])) ≡ filter p xs
+filter-left p xs y n =
+    filter-snoc p xs y
+    ∙ ap (λ (b : Bool). filter p xs ++ cond b (y ∷ []) []) (test-ext (p y) false n (λ u. absurd u))
+    ∙ append-nil (filter p xs)
 
 keep-le : (s t : Bool) (y : ℕ) (ks ls : List ℕ) → length ks ≤ length ls → (T s → T t) → length (cond s (y ∷ ks) ks) ≤ length (cond t (y ∷ ls) ls)
 keep-le true true y ks ls h k = omega arith

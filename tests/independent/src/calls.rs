@@ -4,7 +4,7 @@
 use crate::graph::{Bank, Graph};
 use crate::memory::Memory;
 use crate::plan::{MAX_BANKS, MAX_DEGREE};
-use crate::reach::{reach, Edit, Reach};
+use crate::reach::{reach, Edit};
 use crate::refusals::*;
 
 /// The answer to an edit: the number, and how many cells of moved and trail it wrote.
@@ -47,12 +47,14 @@ impl Memory {
         self.edit(Edit::Strike, a, b)
     }
 
+    /// An edit. If accepted, it leaves the plan of the new graph, trail and moved.
     fn edit(&mut self, edit: Edit, a: u16, b: u16) -> EditAnswer {
         let (a, b) = (usize::from(a), usize::from(b));
-        let asked = self.edit_questions(edit, a, b);
-        match asked {
+        match self.edit_questions(edit, a, b) {
             Ok((old, new)) => {
-                let reach = self.store_edit(edit, a, b, &old, &new);
+                let reach = reach(edit, a, b, &old, &new);
+                self.store_plan(&new);
+                self.store_reach(&reach);
                 EditAnswer {
                     number: ACCEPTED,
                     moved: reach.moved.len(),
@@ -74,21 +76,6 @@ impl Memory {
         let old = self.held_graph().ok_or(NO_PLAN)?;
         let new = clash_questions(edit, a, b, &old)?;
         Ok((old, new))
-    }
-
-    /// Writes what an accepted edit leaves: the plan of the new graph, trail and moved.
-    pub(crate) fn store_edit(
-        &mut self,
-        edit: Edit,
-        a: Bank,
-        b: Bank,
-        old: &Graph,
-        new: &Graph,
-    ) -> Reach {
-        let reach = reach(edit, a, b, old, new);
-        self.store_plan(new);
-        self.store_reach(&reach);
-        reach
     }
 
     /// Wave of bank b.

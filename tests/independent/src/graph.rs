@@ -90,7 +90,7 @@ impl Graph {
     /// All banks in the rule order, earliest first.
     pub fn order(&self) -> Vec<Bank> {
         let mut banks: Vec<Bank> = (0..self.banks()).collect();
-        banks.sort_by_key(|&b| (Reverse(self.degree(b)), b));
+        banks.sort_unstable_by_key(|&b| (Reverse(self.degree(b)), b));
         banks
     }
 

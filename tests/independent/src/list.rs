@@ -4,7 +4,7 @@ use crate::calls::clash_questions;
 use crate::graph::{Bank, Graph};
 use crate::memory::Memory;
 use crate::plan::MAX_BANKS;
-use crate::reach::Edit;
+use crate::reach::{reach, Edit};
 use crate::refusals::*;
 
 /// The most bytes of a list.
@@ -29,7 +29,7 @@ pub enum Row {
 /// final line feed is no row.
 pub fn rows(list: &[u8]) -> Vec<&[u8]> {
     let mut rows: Vec<&[u8]> = list.split(|&byte| byte == b'\n').collect();
-    if rows.last().is_some_and(|last| last.is_empty()) {
+    if let Some([]) = rows.last() {
         rows.pop();
     }
     rows
@@ -80,19 +80,19 @@ impl Memory {
         }
     }
 
-    /// The pass over a list. A refusal is number and row.
+    /// The pass over a list. A refusal is number and row. Once row 1 is accepted, the plan of the
+    /// rows that were accepted is left, whether the pass ends in a refusal or not.
     fn pass(&mut self, list: &[u8]) -> Result<(), (u16, usize)> {
         ask(list.len() <= MAX_BYTES, LIST_TOO_LONG).map_err(|number| (number, 0))?;
         let rows = rows(list);
         let n = self.first_row(&rows).map_err(|number| (number, 1))?;
         let mut graph = Graph::empty(n);
+        let passed = (2..).zip(&rows[1..]).try_for_each(|(place, row)| {
+            let made = self.later_row(row, &mut graph);
+            made.map_err(|number| (number, place))
+        });
         self.store_plan(&graph);
-        for (place, row) in rows.iter().enumerate().skip(1) {
-            graph = self
-                .later_row(row, graph)
-                .map_err(|number| (number, place + 1))?;
-        }
-        Ok(())
+        passed
     }
 
     /// The questions on row 1. The answer is the bank count.
@@ -104,23 +104,24 @@ impl Memory {
         Ok(n)
     }
 
-    /// One further row: its questions, then its edits. The answer is the new graph.
-    fn later_row(&mut self, row: &[u8], graph: Graph) -> Result<Graph, u16> {
+    /// One further row: its questions, then its edits.
+    fn later_row(&mut self, row: &[u8], graph: &mut Graph) -> Result<(), u16> {
         match edit_row(row).ok_or(NOT_A_ROW)? {
             Row::Add(a, b) => self.row_edit(Edit::Add, a, b, graph),
             Row::Strike(a, b) => self.row_edit(Edit::Strike, a, b, graph),
             Row::StrikeAll(b) => {
                 ask(b < graph.banks(), NO_SUCH_BANK)?;
-                let ascending: Vec<Bank> = graph.neighbours(b).collect();
-                let strike = |graph, q| self.row_edit(Edit::Strike, b, q, graph);
-                ascending.into_iter().try_fold(graph, strike)
+                let mut ascending = graph.neighbours(b).collect::<Vec<Bank>>().into_iter();
+                ascending.try_for_each(|q| self.row_edit(Edit::Strike, b, q, graph))
             }
         }
     }
 
-    fn row_edit(&mut self, edit: Edit, a: Bank, b: Bank, old: Graph) -> Result<Graph, u16> {
-        let new = clash_questions(edit, a, b, &old)?;
-        self.store_edit(edit, a, b, &old, &new);
-        Ok(new)
+    /// One edit of a row: its questions, its trail and moved, and the graph after it.
+    fn row_edit(&mut self, edit: Edit, a: Bank, b: Bank, graph: &mut Graph) -> Result<(), u16> {
+        let new = clash_questions(edit, a, b, graph)?;
+        self.store_reach(&reach(edit, a, b, graph, &new));
+        *graph = new;
+        Ok(())
     }
 }

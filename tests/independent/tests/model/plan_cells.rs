@@ -1,6 +1,6 @@
 //! The plan's cells against the paper's words, and memory that holds no plan.
 
-use crate::support::{any_graph, memory_of};
+use crate::support::{any_graph, memory_of, opened};
 use independent::graph::Graph;
 use independent::memory::Memory;
 use independent::random::Random;
@@ -27,6 +27,25 @@ fn cells_of_a_small_plan() {
     }
     let tally = memory.tally;
     assert_eq!((tally.banks, tally.clashes, tally.waves), (5, 4, 3));
+}
+
+/// All 276 clashes of 24 banks: bank b stands in wave b, after one bank in each lower wave.
+#[test]
+fn cells_of_the_most_waves() {
+    let mut memory = opened(24, &[]);
+    for a in 0..24 {
+        for b in 0..a {
+            assert_eq!(memory.add(a, b).number, 0);
+        }
+    }
+    assert_eq!(memory.degrees, [23; 24]);
+    for (b, counts) in memory.counts.chunks(24).enumerate() {
+        assert_eq!(usize::from(memory.waves[b]), b);
+        assert!(counts[..b].iter().all(|&count| count == 1));
+        assert!(counts[b..].iter().all(|&count| count == 0));
+    }
+    let tally = memory.tally;
+    assert_eq!((tally.banks, tally.clashes, tally.waves), (24, 276, 24));
 }
 
 #[test]

@@ -5,6 +5,8 @@ use crate::support::{memory_of, opened};
 use independent::calls::{EditAnswer, WaveAnswer};
 use independent::graph::Graph;
 use independent::memory::Memory;
+use independent::random::Random;
+use std::collections::BTreeSet;
 
 const NO_COUNTS: EditAnswer = EditAnswer {
     number: 0,
@@ -204,4 +206,62 @@ fn accepted_calls_about_a_bank_answer_from_the_plan() {
     assert_eq!(waves, [1, 0, 1, 0]);
     let clashes: Vec<&[u16]> = (0..4).map(|b| memory.clashes_of(b)).collect();
     assert_eq!(clashes, [&[1][..], &[0, 2], &[1, 3], &[2]]);
+}
+
+/// Memory of random lengths and content, most of it without a plan.
+fn random_memory(random: &mut Random) -> Memory {
+    let banks = *random.pick(&[0, 1, 2, 3, 5, 1024, 1025, 65_535]);
+    let mut memory = Memory::filled(random.below(7), 0);
+    memory.tally.banks = banks;
+    memory.tally.waves = random.below(3) as u16;
+    for slice in [
+        &mut memory.neighbours,
+        &mut memory.degrees,
+        &mut memory.waves,
+        &mut memory.counts,
+        &mut memory.trail,
+        &mut memory.moved,
+    ] {
+        slice.truncate(slice.len() - random.below(slice.len().min(2) + 1));
+        slice.fill_with(|| *random.pick(&[0, 0, 1, 2, 65_535]));
+    }
+    if random.one_in(2) {
+        memory.neighbours.fill(65_535);
+        memory.degrees.fill(0);
+        memory.waves.fill(0);
+        memory.counts.fill(0);
+    }
+    memory
+}
+
+#[test]
+fn any_memory_gets_the_first_refusal_due() {
+    let mut random = Random::new(61);
+    let mut seen = BTreeSet::new();
+    for _ in 0..3000 {
+        let memory = random_memory(&mut random);
+        let n = usize::from(memory.tally.banks);
+        let plan = memory.neighbours.len() >= 23 * n
+            && memory.degrees.len() >= n
+            && memory.waves.len() >= n
+            && memory.counts.len() >= 24 * n;
+        let lists = memory.trail.len() >= n && memory.moved.len() >= n;
+        if n > 1024 {
+            all_refused(&memory, 1);
+            seen.insert(1);
+        } else if !plan {
+            all_refused(&memory, 2);
+            seen.insert(2);
+        } else if !lists {
+            add_refused(&memory, 0, 1, 2);
+            strike_refused(&memory, 0, 1, 2);
+        } else if !memory.holds_plan() {
+            all_refused(&memory, 3);
+            seen.insert(3);
+        } else if n >= 2 {
+            assert_eq!(memory.clone().add(0, 1).number, 0);
+            seen.insert(0);
+        }
+    }
+    assert_eq!(seen, BTreeSet::from([0, 1, 2, 3]));
 }

@@ -1,0 +1,148 @@
+-- Question 5: `holds` is true exactly if memory is, cell by cell, the plan of some set of clashes.
+use mathlib.Core.Bool.{Bool, true, false, _&&_, _||_, not}
+use mathlib.Core.Logic.{inl, inr}
+use mathlib.Core.Path.{_≡_, refl, sym, ap, _∙_}
+use Prim.Native.Nat.{ℕ, _≤_, _<_}
+use lib.Dec.{T, eqb, eqb→eq, not-T, T-not}
+use Rattle.rule.specs.Lists.{upto, memb, some}
+use Rattle.rule.specs.Graph.{Graph}
+use Rattle.rule.specs.Wave.{waves, waveCount}
+use Rattle.rule.proofs.Booleans.{and-l, and-r, both, or-l, or-r, or-cases, stable, test-ext, T-along, eq→eqb}
+use Rattle.rule.proofs.Lists.{in-upto, upto-below, some-in, in-some}
+use Rattle.memory.specs.declared.Tally.{Tally}
+use Rattle.memory.specs.Cells.{starts}
+use Rattle.memory.specs.Plan.{Slices, longEnough, neighbourCells, degreeCells, countCells, clashCount, tallyOf, graphIn, proper, holds, PlanOf}
+use Rattle.memory.specs.Test.{row, Tested}
+use Rattle.memory.proofs.Cells.{starts-over, over-starts}
+use Rattle.memory.proofs.Plans.{long, long-enough}
+use Rattle.memory.proofs.Agree.{tally-eq, plan-agree}
+use Rattle.memory.proofs.Views.{AtFronts, fronts-of, of-fronts, fronts-long, tally-banks, held-of}
+use Rattle.memory.proofs.Rows.{inRows, few-named, row-names}
+use Rattle.memory.proofs.Tested.{tested-plan, plan-tested}
+
+-- clashes of different banks, each in both rows
+module _ (G : Graph) where
+  abbrev wrong : ℕ → Bool
+  wrong x = G .clash x x || some (λ y. G .clash x y && not (G .clash y x)) (upto (G .banks))
+
+  proper-apart : T (proper G) → (x : ℕ) → x < G .banks → T (G .clash x x) → ⊥
+  unfolding proper
+  proper-apart t x h c =
+      T-not (some wrong (upto (G .banks))) t (some-in wrong (upto (G .banks)) x (in-upto (G .banks) x h) (or-l (G .clash x x) _ c))
+
+  proper-back : T (proper G) → (x y : ℕ) → x < G .banks → y < G .banks → T (G .clash x y) → T (G .clash y x)
+  unfolding proper
+  proper-back t x y hx hy c =
+      stable (G .clash y x) (λ u.
+      T-not (some wrong (upto (G .banks))) t (some-in wrong (upto (G .banks)) x (in-upto (G .banks) x hx) (or-r (G .clash x x) _ (
+      some-in (λ z. G .clash x z && not (G .clash z x)) (upto (G .banks)) y (in-upto (G .banks) y hy) (both (G .clash x y) (not (G .clash y x)) c u)))))
+
+  is-proper : ((x : ℕ) → x < G .banks → T (G .clash x x) → ⊥) → ((x y : ℕ) → x < G .banks → y < G .banks → G .clash x y ≡ G .clash y x) → T (proper G)
+  unfolding proper
+  is-proper apart symmetric =
+      not-T (some wrong (upto (G .banks))) (λ u.
+      let r = in-some wrong (upto (G .banks)) u in
+      let h = upto-below (G .banks) (r .0) (r .1) in
+      elim (or-cases (G .clash (r .0) (r .0)) _ (r .2)) [
+        | inl c ↦ apart (r .0) h c
+        | inr v ↦
+            let q = in-some (λ y. G .clash (r .0) y && not (G .clash y (r .0))) (upto (G .banks)) v in
+            T-not (G .clash (q .0) (r .0)) (and-r (G .clash (r .0) (q .0)) _ (q .2))
+            (T-along (symmetric (r .0) (q .0) h (upto-below (G .banks) (q .0) (q .1))) (and-l (G .clash (r .0) (q .0)) _ (q .2)))
+      ])
+
+-- the parts of `holds`
+record Parts (s : Slices) (t : Tally) (G : Graph) : Type 0 where
+  isProper : T (proper G)
+  fronts : AtFronts G s
+  clashes : t .clashes ≡ clashCount G
+  most : t .waves ≡ waveCount G
+
+module _ (s : Slices) (t : Tally) where
+  abbrev all : Graph → Bool
+  all G =
+      proper G
+      && (starts (neighbourCells G) (s .neighbours)
+      && (starts (degreeCells G) (s .degrees)
+      && (starts (waves G) (s .waves)
+      && (starts (countCells G) (s .counts)
+      && (eqb (t .clashes) (clashCount G) && eqb (t .waves) (waveCount G))))))
+
+  apart : (G : Graph) → T (all G) → Parts s t G
+  apart G h =
+      let h₁ = and-r (proper G) _ h in
+      let h₂ = and-r (starts (neighbourCells G) (s .neighbours)) _ h₁ in
+      let h₃ = and-r (starts (degreeCells G) (s .degrees)) _ h₂ in
+      let h₄ = and-r (starts (waves G) (s .waves)) _ h₃ in
+      let h₅ = and-r (starts (countCells G) (s .counts)) _ h₄ in
+      record {
+        isProper = and-l (proper G) _ h;
+        fronts = record {
+          rows = starts-over (neighbourCells G) (s .neighbours) (and-l (starts (neighbourCells G) (s .neighbours)) _ h₁);
+          degrees = starts-over (degreeCells G) (s .degrees) (and-l (starts (degreeCells G) (s .degrees)) _ h₂);
+          waves-are = starts-over (waves G) (s .waves) (and-l (starts (waves G) (s .waves)) _ h₃);
+          counts = starts-over (countCells G) (s .counts) (and-l (starts (countCells G) (s .counts)) _ h₄);
+        };
+        clashes = eqb→eq (t .clashes) (clashCount G) (and-l (eqb (t .clashes) (clashCount G)) _ h₅);
+        most = eqb→eq (t .waves) (waveCount G) (and-r (eqb (t .clashes) (clashCount G)) _ h₅);
+      }
+
+  together : (G : Graph) → Parts s t G → T (all G)
+  together G p =
+      both (proper G) _ (p .isProper)
+      (both (starts (neighbourCells G) (s .neighbours)) _ (over-starts (neighbourCells G) (s .neighbours) (p .fronts .rows))
+      (both (starts (degreeCells G) (s .degrees)) _ (over-starts (degreeCells G) (s .degrees) (p .fronts .degrees))
+      (both (starts (waves G) (s .waves)) _ (over-starts (waves G) (s .waves) (p .fronts .waves-are))
+      (both (starts (countCells G) (s .counts)) _ (over-starts (countCells G) (s .counts) (p .fronts .counts))
+      (both (eqb (t .clashes) (clashCount G)) _ (eq→eqb (t .clashes) (clashCount G) (p .clashes)) (eq→eqb (t .waves) (waveCount G) (p .most)))))))
+
+  abbrev K : Graph
+  K = inRows (t .banks) (s .neighbours)
+
+  own-plan : t .banks ≤ 1024 → T (holds s t) → PlanOf K s t
+  unfolding holds graphIn tallyOf
+  own-plan few h =
+      let p = apart K h in
+      record {
+        clashes = record {
+          most = few;
+          symmetric = λ x y hx hy. test-ext (K .clash x y) (K .clash y x) (proper-back K (p .isProper) x y hx hy) (proper-back K (p .isProper) y x hy hx);
+          apart = proper-apart K (p .isProper);
+          few = λ x l. few-named (t .banks) (s .neighbours) x;
+        };
+        long = long-enough (t .banks) s (fronts-long (p .fronts));
+        cells = of-fronts (p .fronts);
+        tally = tally-eq refl (p .clashes) (p .most);
+      }
+
+  own-holds : PlanOf K s t → T (holds s t)
+  unfolding holds graphIn tallyOf
+  own-holds p = together K (record {
+    isProper = is-proper K (p .clashes .apart) (p .clashes .symmetric);
+    fronts = fronts-of (p .cells);
+    clashes = ap (λ (u : Tally). u .clashes) (p .tally);
+    most = ap (λ (u : Tally). u .waves) (p .tally);
+  })
+
+  -- memory that holds a plan holds that of the clashes that its rows name
+  pub holds-plan : t .banks ≤ 1024 → T (holds s t) → PlanOf (graphIn (t .banks) s) s t
+  unfolding graphIn
+  holds-plan = own-plan
+
+  -- and these are the plan's
+  module _ (G : Graph) (p : PlanOf G s t) where
+    pub rows-give-clashes : (x y : ℕ) → x < G .banks → y < G .banks → graphIn (t .banks) s .clash x y ≡ G .clash x y
+    unfolding graphIn
+    rows-give-clashes x y hx hy = row-names (held-of G s t p .rowed) x hx y hy
+
+    pub plan-holds : T (holds s t)
+    unfolding graphIn
+    plan-holds = own-holds (plan-agree K G (tally-banks G t (p .tally)) rows-give-clashes s t p)
+
+  -- the answer of the test
+  module _ (few : t .banks ≤ 1024) (room : longEnough (t .banks) s ≡ true) where
+    pub accepts : Tested s t → true ≡ holds s t
+    accepts h = test-ext true (holds s t) (λ u. own-holds (tested-plan s t few (long (t .banks) s room) h)) (λ u. tt)
+
+    pub refuses : (Tested s t → ⊥) → false ≡ holds s t
+    refuses h = test-ext false (holds s t) (λ u. absurd u) (λ u. h (plan-tested s t (own-plan few u)))

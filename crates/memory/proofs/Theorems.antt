@@ -1,0 +1,111 @@
+-- The theorems to cite. Their proofs are in the files beside this one.
+use mathlib.Core.Bool.{true}
+use mathlib.Core.List.{List}
+use mathlib.Core.Logic.{_↔_}
+use mathlib.Core.Path.{_≡_, refl}
+use Prim.Native.Nat.{ℕ, _*_, _≤_, _<_}
+use lib.Dec.{T}
+use lib.ListN.{length, getD}
+use Rattle.rule.specs.Graph.{Graph, earlier, earlierNeighbours, empty}
+use Rattle.rule.specs.Wave.{wave, waves, waveCount}
+use Rattle.memory.specs.declared.Tally.{Tally}
+use Rattle.memory.specs.Plan.{Slices, longEnough, neighbourCells, degreeCells, countCells, tallyOf, planIn, graphIn, holds, PlanOf}
+use Rattle.memory.specs.Counts.{byCells, standing, Countable, mostOf}
+use Rattle.memory.specs.View.{Shown, Rowed, Held}
+use Rattle.memory.specs.Test.{countsOf}
+use Rattle.memory.proofs.Plans
+use Rattle.memory.proofs.Agree
+use Rattle.memory.proofs.Views
+use Rattle.memory.proofs.Tallies
+use Rattle.memory.proofs.Sums
+use Rattle.memory.proofs.Question
+
+-- 1. question 5: memory passes exactly if it holds the plan of some set of clashes; then it holds that of the clashes that its rows name,
+-- which are the plan's
+pub question-5 : (s : Slices) (t : Tally) → t .banks ≤ 1024 → T (holds s t) ↔ ((G : Graph) × PlanOf G s t)
+question-5 s t few = (λ h. (graphIn (t .banks) s, Question.holds-plan s t few h), λ g. Question.plan-holds s t (g .0) (g .1))
+
+pub holds-plan : (s : Slices) (t : Tally) → t .banks ≤ 1024 → T (holds s t) → PlanOf (graphIn (t .banks) s) s t
+holds-plan = Question.holds-plan
+
+pub plan-holds : (s : Slices) (t : Tally) (G : Graph) → PlanOf G s t → T (holds s t)
+plan-holds = Question.plan-holds
+
+pub rows-give-clashes : (s : Slices) (t : Tally) (G : Graph) → PlanOf G s t → (x y : ℕ) → x < G .banks → y < G .banks
+    → graphIn (t .banks) s .clash x y ≡ G .clash x y
+rows-give-clashes = Question.rows-give-clashes
+
+-- 2. as many banks and the same clashes between them: the same plan cells, whatever lies beyond, and the same tally
+module _ (G H : Graph) (banks : G .banks ≡ H .banks)
+    (clash : (x y : ℕ) → x < H .banks → y < H .banks → G .clash x y ≡ H .clash x y) where
+  pub same-cells : (s s′ : Slices) → Agree.planCells (H .banks) (planIn G s) ≡ Agree.planCells (H .banks) (planIn H s′)
+  same-cells = Agree.same-cells G H banks clash
+
+  pub planIn-agree : (s : Slices) → planIn G s ≡ planIn H s
+  planIn-agree = Agree.planIn-agree G H banks clash
+
+  pub tally-agree : tallyOf G ≡ tallyOf H
+  tally-agree = Agree.tally-agree G H banks clash
+
+  pub plan-agree : (s : Slices) (t : Tally) → PlanOf H s t → PlanOf G s t
+  plan-agree = Agree.plan-agree G H banks clash
+
+-- 3. a plan put over one of as many banks, or over itself
+pub plan-over : (G H : Graph) (s : Slices) → H .banks ≡ G .banks → planIn H (planIn G s) ≡ planIn H s
+plan-over = Plans.plan-over
+
+pub plan-again : (G : Graph) (s : Slices) → planIn G (planIn G s) ≡ planIn G s
+plan-again G s = Plans.plan-over G G s refl
+
+-- 4. the sizes of a plan
+pub length-neighbourCells : (G : Graph) → length (neighbourCells G) ≡ 23 * G .banks
+length-neighbourCells = Plans.length-neighbourCells
+
+pub length-degreeCells : (G : Graph) → length (degreeCells G) ≡ G .banks
+length-degreeCells = Plans.length-degreeCells
+
+pub length-waves : (G : Graph) → length (waves G) ≡ G .banks
+length-waves = Plans.length-waves
+
+pub length-countCells : (G : Graph) → length (countCells G) ≡ 24 * G .banks
+length-countCells = Plans.length-countCells
+
+pub long : (n : ℕ) (s : Slices) → longEnough n s ≡ true → Plans.Long n s
+long = Plans.long
+
+pub long-enough : (n : ℕ) (s : Slices) → Plans.Long n s → longEnough n s ≡ true
+long-enough = Plans.long-enough
+
+pub long-again : (G : Graph) (s : Slices) → longEnough (G .banks) s ≡ true → longEnough (G .banks) (planIn G s) ≡ true
+long-again = Plans.long-again
+
+-- 5. memory that holds a plan, as facts on its cells, and the other way
+pub held-of : (G : Graph) (s : Slices) (t : Tally) → PlanOf G s t → Held G (s .neighbours) (s .degrees) (s .waves) (s .counts) (t .banks)
+held-of = Views.held-of
+
+pub plan-of : (G : Graph) (s : Slices) (t : Tally) (n : ℕ) → Held G (s .neighbours) (s .degrees) (s .waves) (s .counts) n → t ≡ tallyOf G
+    → PlanOf G s t
+plan-of = Views.plan-of
+
+pub open-plan : (n : ℕ) (s : Slices) → n ≤ 1024 → longEnough n s ≡ true → PlanOf (empty n) (planIn (empty n) s) (tallyOf (empty n))
+open-plan = Plans.open-plan
+
+pub held-small : {G : Graph} {ns ds ws cs : List ℕ} {n : ℕ} → Held G ns ds ws cs n → (x : ℕ) → x < n → getD ws x 0 < 24
+held-small = Views.held-small
+
+-- 6. what the code finds in cells that show a plan: its order, its Counts, its number of waves
+pub shown : {G : Graph} {ns ds : List ℕ} → Rowed G ns ds → Shown G ns ds
+shown = Tallies.shown
+
+module _ {G : Graph} {ns ds : List ℕ} (sh : Shown G ns ds) where
+  pub cells-earlier : (p q : ℕ) → p < G .banks → q < G .banks → byCells ds p q ≡ earlier G p q
+  cells-earlier = Tallies.cells-earlier sh
+
+  pub countable : {ws : List ℕ} {n b : ℕ} → n ≡ G .banks → n ≤ length ws → ((x : ℕ) → x < n → getD ws x 0 < 24) → b < n → Countable ns ds ws n b
+  countable = Tallies.countable sh
+
+  pub counts-are : (ws : List ℕ) (b c : ℕ) → b < G .banks → countsOf ns ds ws b c ≡ standing (λ v. getD ws v 0) c (earlierNeighbours G b)
+  counts-are = Tallies.counts-are sh
+
+pub wave-count-is : (G : Graph) (ws : List ℕ) → ((x : ℕ) → x < G .banks → getD ws x 0 ≡ wave G x) → mostOf ws (G .banks) ≡ waveCount G
+wave-count-is = Sums.wave-count-is

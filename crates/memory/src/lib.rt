@@ -1,0 +1,18 @@
+// Plan memory: what its cells hold, and the test whether they hold a plan.
+mod count;
+mod order;
+mod room;
+mod test;
+
+pub use count::count_earlier;
+pub use count::wave_count;
+pub use order::is_earlier;
+pub use room::long_enough;
+pub use test::holds_plan;
+
+// The record that the caller owns and each edit brings up to date.
+pub struct Tally {
+    pub banks: u16,
+    pub clashes: u16,
+    pub waves: u16,
+}

@@ -1,0 +1,17 @@
+// The rule order of two banks, by their degree cells.
+use rule::Bank;
+use rule::earlier;
+ghost use mathlib.Core.Path.{_≡_};
+ghost use Prim.Native.Nat.{_<_};
+ghost use lib.ListN.{length};
+ghost use Rattle.memory.specs.Counts.{byCells};
+
+// Whether bank p is earlier than bank q.
+pub fn is_earlier(degrees: &[u16], p: Bank, q: Bank) -> bool
+    requires { ⌜ (p .0 < length (now degrees)) × (q .0 < length (now degrees)) ⌝ }
+    ensures { λ r. ⌜ r ≡ byCells (now (degrees .entry)) (p .0) (q .0) ⌝ }
+{
+    let at_p = p.0 as usize;
+    let at_q = q.0 as usize;
+    earlier(degrees[at_p], p, degrees[at_q], q)
+}

@@ -1,0 +1,32 @@
+// Question 4 of the four slices of plan memory.
+use rule::COUNT_CELLS;
+use rule::ROW_CELLS;
+use rule::wide;
+ghost use mathlib.Core.Path.{_≡_};
+ghost use Rattle.memory.specs.Plan.{slicesOf, longEnough};
+
+// Whether the slices have room for so many banks.
+pub fn long_enough(
+    neighbours: &[u16],
+    degrees: &[u16],
+    waves: &[u16],
+    counts: &[u16],
+    banks: u16,
+) -> bool
+    ensures { λ r. ⌜ r ≡ longEnough banks (slicesOf (now (neighbours .entry)) (now (degrees .entry)) (now (waves .entry)) (now (counts .entry))) ⌝ }
+{
+    let n = wide(banks);
+    if neighbours.len() < n * ROW_CELLS {
+        return false;
+    }
+    if degrees.len() < n {
+        return false;
+    }
+    if waves.len() < n {
+        return false;
+    }
+    if counts.len() < n * COUNT_CELLS {
+        return false;
+    }
+    true
+}

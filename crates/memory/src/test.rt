@@ -1,0 +1,335 @@
+// Question 5: whether lent memory holds a plan. Each bank is tested from the cells alone; no plan is worked out.
+use crate::Tally;
+use crate::count::count_earlier;
+use crate::count::wave_count;
+use rule::Bank;
+use rule::COUNT_CELLS;
+use rule::MOST_BANKS;
+use rule::ROW_CELLS;
+use rule::UNUSED;
+use rule::Wave;
+use rule::wide;
+ghost use mathlib.Core.Bool.{true};
+ghost use mathlib.Core.Path.{_≡_};
+ghost use Prim.Native.Nat.{ℕ, _+_, _*_, _≤_, _<_};
+ghost use lib.ListN.{length, getD};
+ghost use Rattle.memory.specs.Plan.{slicesOf, longEnough, holds};
+ghost use Rattle.memory.specs.Test.{Says, row, part, Named, RowRight, RowsRight, Rows, Symmetric, Seen, Walk, OrNot, CellRight, PartRight, countsOf, CountsRight, Small, WavesSmall, sum};
+
+// Whether cell i of b's row is a bank other than b, larger than that before it.
+fn named_right(row: &[u16], i: usize, banks: u16, b: Bank) -> bool
+    requires { ⌜ i < length (now row) ⌝ }
+    ensures { λ r. ⌜ Says (Named (now (row .entry)) banks (b .0) i) r ⌝ }
+{
+    let v = row[i];
+    if banks <= v {
+        return false;
+    }
+    if v == b.0 {
+        return false;
+    }
+    if i == 0 {
+        return true;
+    }
+    if v <= row[i - 1] {
+        return false;
+    }
+    true
+}
+
+// The same of the first cells.
+fn all_named(row: &[u16], named: usize, banks: u16, b: Bank) -> bool
+    requires { ⌜ named ≤ length (now row) ⌝ }
+    ensures { λ r. ⌜ Says ((i : ℕ) → i < named → Named (now (row .entry)) banks (b .0) i) r ⌝ }
+{
+    let mut i = 0;
+    while i < named {
+        if !named_right(row, i, banks, b) {
+            return false;
+        }
+        i += 1;
+    }
+    true
+}
+
+// Whether the cells of a row that are left over hold UNUSED.
+fn rest_unused(row: &[u16], named: usize) -> bool
+    requires { ⌜ length (now row) ≡ 23 ⌝ }
+    ensures { λ r. ⌜ Says ((i : ℕ) → named ≤ i → i < 23 → getD (now (row .entry)) i 0 ≡ 65535) r ⌝ }
+{
+    let mut i = named;
+    while i < ROW_CELLS {
+        if row[i] != UNUSED {
+            return false;
+        }
+        i += 1;
+    }
+    true
+}
+
+// Whether b's row ascends, names `degree` banks other than b, and is filled up with UNUSED.
+fn row_right(row: &[u16], degree: u16, banks: u16, b: Bank) -> bool
+    requires { ⌜ length (now row) ≡ 23 ⌝ }
+    ensures { λ r. ⌜ Says (RowRight (now (row .entry)) degree banks (b .0)) r ⌝ }
+{
+    let named = degree as usize;
+    if ROW_CELLS < named {
+        return false;
+    }
+    if !all_named(row, named, banks, b) {
+        return false;
+    }
+    if !rest_unused(row, named) {
+        return false;
+    }
+    true
+}
+
+// The same of bank b's cells.
+fn bank_row_right(neighbours: &[u16], degrees: &[u16], banks: u16, b: Bank) -> bool
+    requires { ⌜ 23 * banks ≤ length (now neighbours) ⌝ }
+    requires { ⌜ banks ≤ length (now degrees) ⌝ }
+    requires { ⌜ b .0 < banks ⌝ }
+    ensures { λ r. ⌜ Says (RowRight (row (now (neighbours .entry)) (b .0)) (getD (now (degrees .entry)) (b .0) 0) banks (b .0)) r ⌝ }
+{
+    let at = b.0 as usize;
+    let start = at * ROW_CELLS;
+    let end = start + ROW_CELLS;
+    row_right(&neighbours[start..end], degrees[at], banks, b)
+}
+
+// The same of every row.
+fn rows_right(neighbours: &[u16], degrees: &[u16], banks: u16) -> bool
+    requires { ⌜ 23 * banks ≤ length (now neighbours) ⌝ }
+    requires { ⌜ banks ≤ length (now degrees) ⌝ }
+    ensures { λ r. ⌜ Says (RowsRight (now (neighbours .entry)) (now (degrees .entry)) banks) r ⌝ }
+{
+    let mut b: u16 = 0;
+    while b < banks {
+        if !bank_row_right(neighbours, degrees, banks, Bank(b)) {
+            return false;
+        }
+        b += 1;
+    }
+    true
+}
+
+// Whether b is the next bank of the row of v, the bank in cell i of b's row; if so, v's cursor goes on.
+fn match_one(
+    neighbours: &[u16],
+    degrees: &[u16],
+    cursors: &mut [u16; 1024],
+    banks: u16,
+    b: Bank,
+    i: usize,
+) -> bool
+    requires { ⌜ Walk (now neighbours) (now degrees) banks (b .0) i (now cursors) ⌝ }
+    requires { ⌜ i < getD (now degrees) (b .0) 0 ⌝ }
+    ensures { λ r. ⌜ OrNot (Walk (now (neighbours .entry)) (now (degrees .entry)) banks (b .0) (i + 1) (now (cursors .exit))) (now (neighbours .entry)) banks r ⌝ }
+{
+    let at = b.0 as usize;
+    let v = wide(neighbours[at * ROW_CELLS + i]);
+    let met = cursors[v];
+    if degrees[v] <= met {
+        return false;
+    }
+    if neighbours[v * ROW_CELLS + wide(met)] != b.0 {
+        return false;
+    }
+    cursors[v] = met + 1;
+    true
+}
+
+// The same for each bank that b's row names.
+fn row_matched(
+    neighbours: &[u16],
+    degrees: &[u16],
+    cursors: &mut [u16; 1024],
+    banks: u16,
+    b: Bank,
+) -> bool
+    requires { ⌜ Seen (now neighbours) (now degrees) banks (b .0) (now cursors) ⌝ }
+    requires { ⌜ b .0 < banks ⌝ }
+    ensures { λ r. ⌜ OrNot (Seen (now (neighbours .entry)) (now (degrees .entry)) banks (b .0 + 1) (now (cursors .exit))) (now (neighbours .entry)) banks r ⌝ }
+{
+    let at = b.0 as usize;
+    let degree = wide(degrees[at]);
+    let mut i = 0;
+    while i < degree {
+        if !match_one(neighbours, degrees, cursors, banks, b, i) {
+            return false;
+        }
+        i += 1;
+    }
+    true
+}
+
+// Whether the rows, which are right one by one, name each other: one walk over the cells, in which each bank meets the
+// banks that name it in the order of its own row.
+fn symmetric(neighbours: &[u16], degrees: &[u16], banks: u16) -> bool
+    requires { ⌜ Rows (now neighbours) (now degrees) banks ⌝ }
+    ensures { λ r. ⌜ Says (Symmetric (now (neighbours .entry)) banks) r ⌝ }
+{
+    let mut cursors = [0u16; MOST_BANKS];
+    let mut b: u16 = 0;
+    while b < banks {
+        if !row_matched(neighbours, degrees, &mut cursors, banks, Bank(b)) {
+            return false;
+        }
+        b += 1;
+    }
+    true
+}
+
+// Whether every wave is below 24.
+fn waves_small(waves: &[u16], banks: u16) -> bool
+    requires { ⌜ banks ≤ length (now waves) ⌝ }
+    ensures { λ r. ⌜ Says (Small (now (waves .entry)) banks) r ⌝ }
+{
+    let n = banks as usize;
+    let mut i = 0;
+    while i < n {
+        if 24 <= waves[i] {
+            return false;
+        }
+        i += 1;
+    }
+    true
+}
+
+// Whether cell c of a bank's part of Counts is its count, which is 0 at the bank's wave and not below it.
+fn cell_right(cell: u16, count: u16, c: Wave, wave: Wave) -> bool
+    ensures { λ r. ⌜ Says (CellRight cell count (c .0) (wave .0)) r ⌝ }
+{
+    if cell != count {
+        return false;
+    }
+    if wave.0 < c.0 {
+        return true;
+    }
+    if c.0 == wave.0 {
+        if count == 0 {
+            return true;
+        }
+        return false;
+    }
+    if count == 0 {
+        return false;
+    }
+    true
+}
+
+// The same of the whole part.
+fn part_right(part: &[u16], cells: &[u16; 24], wave: Wave) -> bool
+    requires { ⌜ length (now part) ≡ 24 ⌝ }
+    ensures { λ r. ⌜ Says (PartRight (now (part .entry)) (λ c. getD (now (cells .entry)) c 0) (wave .0)) r ⌝ }
+{
+    let mut c: u16 = 0;
+    while c < 24 {
+        let at = c as usize;
+        if !cell_right(part[at], cells[at], Wave(c), wave) {
+            return false;
+        }
+        c += 1;
+    }
+    true
+}
+
+// The same of bank b's cells.
+fn bank_counts_right(
+    neighbours: &[u16],
+    degrees: &[u16],
+    waves: &[u16],
+    counts: &[u16],
+    banks: u16,
+    b: Bank,
+) -> bool
+    requires { ⌜ Rows (now neighbours) (now degrees) banks ⌝ }
+    requires { ⌜ WavesSmall (now waves) banks ⌝ }
+    requires { ⌜ 24 * banks ≤ length (now counts) ⌝ }
+    requires { ⌜ b .0 < banks ⌝ }
+    ensures { λ r. ⌜ Says (PartRight (part (now (counts .entry)) (b .0))
+        (countsOf (now (neighbours .entry)) (now (degrees .entry)) (now (waves .entry)) (b .0))
+        (getD (now (waves .entry)) (b .0) 0)) r ⌝ }
+{
+    let mut cells = [0u16; COUNT_CELLS];
+    count_earlier(neighbours, degrees, waves, &mut cells[..], banks, b);
+    let at = b.0 as usize;
+    let start = at * COUNT_CELLS;
+    let end = start + COUNT_CELLS;
+    part_right(&counts[start..end], &cells, Wave(waves[at]))
+}
+
+// The same of every bank.
+fn counts_right(
+    neighbours: &[u16],
+    degrees: &[u16],
+    waves: &[u16],
+    counts: &[u16],
+    banks: u16,
+) -> bool
+    requires { ⌜ Rows (now neighbours) (now degrees) banks ⌝ }
+    requires { ⌜ WavesSmall (now waves) banks ⌝ }
+    requires { ⌜ 24 * banks ≤ length (now counts) ⌝ }
+    ensures { λ r. ⌜ Says (CountsRight (now (neighbours .entry)) (now (degrees .entry)) (now (waves .entry)) (now (counts .entry)) banks) r ⌝ }
+{
+    let mut b: u16 = 0;
+    while b < banks {
+        if !bank_counts_right(neighbours, degrees, waves, counts, banks, Bank(b)) {
+            return false;
+        }
+        b += 1;
+    }
+    true
+}
+
+// The sum of the degrees.
+fn degree_sum(degrees: &[u16], banks: u16) -> u16
+    requires { ⌜ banks ≤ 1024 ⌝ }
+    requires { ⌜ banks ≤ length (now degrees) ⌝ }
+    requires { ⌜ Small (now degrees) banks ⌝ }
+    ensures { λ r. ⌜ r ≡ sum (now (degrees .entry)) banks ⌝ }
+{
+    let n = banks as usize;
+    let mut total: u16 = 0;
+    let mut i = 0;
+    while i < n {
+        total += degrees[i];
+        i += 1;
+    }
+    total
+}
+
+// Whether memory that is long enough holds a plan.
+pub fn holds_plan(
+    neighbours: &[u16],
+    degrees: &[u16],
+    waves: &[u16],
+    counts: &[u16],
+    tally: Tally,
+) -> bool
+    requires { ⌜ tally .banks ≤ 1024 ⌝ }
+    requires { ⌜ longEnough (tally .banks) (slicesOf (now neighbours) (now degrees) (now waves) (now counts)) ≡ true ⌝ }
+    ensures { λ r. ⌜ r ≡ holds (slicesOf (now (neighbours .entry)) (now (degrees .entry)) (now (waves .entry)) (now (counts .entry))) tally ⌝ }
+{
+    let banks = tally.banks;
+    if !rows_right(neighbours, degrees, banks) {
+        return false;
+    }
+    if !symmetric(neighbours, degrees, banks) {
+        return false;
+    }
+    if !waves_small(waves, banks) {
+        return false;
+    }
+    if !counts_right(neighbours, degrees, waves, counts, banks) {
+        return false;
+    }
+    if tally.clashes != degree_sum(degrees, banks) / 2 {
+        return false;
+    }
+    if tally.waves != wave_count(waves, banks) {
+        return false;
+    }
+    true
+}

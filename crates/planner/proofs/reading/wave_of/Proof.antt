@@ -1,0 +1,36 @@
+-- `wave_of` meets its contract: a bank that passes the questions stands in the plan that memory holds, and its cell has its rule wave.
+use borrow.Author.Needs.{needs}
+use Prim.Native.Nat.{ℕ}
+use lib.ListN.{getD}
+use mathlib.Core.Path.{_≡_, sym, ap, _∙_}
+use native.Mathlib.Omega.{arith}
+use Rattle.planner.proofs.Rows.{wave-cell, plan-wave, wave-refused, wave-found}
+use Rattle.planner.proofs.reading.wave_of.Statement.{statement}
+use Rattle.planner.proofs.reading.wave_of.Tie as tie
+
+check-bank-requires : tie.Need-check-bank-requires
+check-bank-requires c κs = search needs
+
+returns : tie.Need-returns
+returns c = (c .before .check-bank .ensures .0, wave-refused _ _ _ _ (c .before .check-bank .ensures .0) (c .if1 .taken))
+
+wide-requires : tie.Need-wide-requires
+wide-requires c κs = search needs
+
+mul-t11 : tie.Need-mul-t11
+mul-t11 c = search needs
+
+shared-slice-read-t13 : tie.Need-shared-slice-read-t13
+shared-slice-read-t13 c =
+    let h = c .before .before .before .check-bank .ensures .1 (c .before .before .if1 .left) in omega (arith, wave-cell (h .0) (h .1), c .before .wide .ensures)
+
+returns-2 : tie.Need-returns-2
+returns-2 c =
+    let z = sym (c .before .before .if1 .left) ∙ c .before .before .before .check-bank .ensures .0 in
+    let h = c .before .before .before .check-bank .ensures .1 (c .before .before .if1 .left) in
+    (z, ap (λ (k : ℕ). getD (c .before .before .before .before .before .before .before .before .args .waves .now) k 0) (c .before .wide .ensures) ∙ plan-wave (h .0) (h .1) ∙ wave-found _ _ _ z)
+
+pub wave-of-spec : {M : Type 1} → statement M
+wave-of-spec =
+    tie.close
+    (tie.spec check-bank-requires returns wide-requires mul-t11 shared-slice-read-t13 returns-2)

@@ -1,0 +1,21 @@
+//! A safe wrapper of the static library wave_plan.
+//!
+//! - `raw`: the functions that include/wave_plan.h declares.
+//! - `lent`: the calls on lent slices. The library takes slices of any content and length, so
+//!   that nothing is asked of a caller.
+//! - `plan`: a plan that owns its memory, for programs.
+//!
+//! A bank number where a wave number belongs does not compile, nor the other way round:
+//!
+//! ```compile_fail,E0308
+//! use library_tests::{Bank, Plan, Wave};
+//! let mut plan = Plan::open(2).unwrap();
+//! plan.add(Bank(0), Wave(1)).unwrap();
+//! ```
+
+mod lent;
+mod plan;
+mod raw;
+
+pub use lent::Lent;
+pub use plan::{Bank, Edit, Plan, Refused, Wave};

@@ -1,0 +1,146 @@
+//! A plan that owns its memory.
+
+use crate::lent::Lent;
+
+/// The number of a bank (a vertex id).
+#[derive(Clone, Copy, Debug, PartialEq, Eq)]
+pub struct Bank(pub u16);
+
+/// The number of a wave (a colour).
+#[derive(Clone, Copy, Debug, PartialEq, Eq)]
+pub struct Wave(pub u16);
+
+/// A refused call: its number, and the row if a list was refused at a row (else 0).
+#[derive(Clone, Copy, Debug, PartialEq, Eq)]
+pub struct Refused {
+    pub number: u16,
+    pub row: u16,
+}
+
+/// An accepted edit: the banks taken up and the banks whose wave changed, both in the new order.
+#[derive(Clone, Debug, PartialEq, Eq)]
+pub struct Edit {
+    pub trail: Vec<Bank>,
+    pub moved: Vec<Bank>,
+}
+
+/// The most banks of a plan.
+const MAX_BANKS: u16 = 1024;
+
+/// More bytes than the longest sheet: 9 for its first line, 2 for each of 24 waves, 5 for each bank.
+const SHEET_BYTES: usize = 9 + 24 * 2 + 1024 * 5;
+
+/// A plan and the memory that it stands in.
+#[derive(Clone, Debug)]
+pub struct Plan {
+    neighbours: Vec<u16>,
+    degrees: Vec<u16>,
+    waves: Vec<u16>,
+    counts: Vec<u16>,
+    trail: Vec<u16>,
+    moved: Vec<u16>,
+    tally: [u16; 3],
+    result: [u16; 2],
+}
+
+impl Plan {
+    /// A plan of n banks without a clash.
+    pub fn open(n: u16) -> Result<Plan, Refused> {
+        let mut plan = Plan::memory_for(n.min(MAX_BANKS));
+        answer(plan.lent().open(n))?;
+        Ok(plan)
+    }
+
+    /// The plan of a list.
+    pub fn read_list(list: &[u8]) -> Result<Plan, Refused> {
+        let mut plan = Plan::memory_for(MAX_BANKS);
+        let number = plan.lent().read_list(list);
+        answer(number).map_err(|refused| Refused {
+            row: plan.result[0],
+            ..refused
+        })?;
+        Ok(plan)
+    }
+
+    /// Adds the clash of a and b.
+    pub fn add(&mut self, a: Bank, b: Bank) -> Result<Edit, Refused> {
+        answer(self.lent().add(a.0, b.0))?;
+        Ok(self.edit())
+    }
+
+    /// Strikes the clash of a and b.
+    pub fn strike(&mut self, a: Bank, b: Bank) -> Result<Edit, Refused> {
+        answer(self.lent().strike(a.0, b.0))?;
+        Ok(self.edit())
+    }
+
+    /// The wave of bank b.
+    pub fn wave_of(&mut self, b: Bank) -> Result<Wave, Refused> {
+        answer(self.lent().wave_of(b.0))?;
+        Ok(Wave(self.result[0]))
+    }
+
+    /// The banks that clash with bank b, ascending.
+    pub fn clashes_of(&mut self, b: Bank) -> Result<Vec<Bank>, Refused> {
+        answer(self.lent().clashes_of(b.0))?;
+        let [start, length] = self.result.map(usize::from);
+        Ok(banks(&self.neighbours[start..start + length]))
+    }
+
+    /// The sheet.
+    pub fn sheet(&mut self) -> Result<String, Refused> {
+        let mut out = vec![0; SHEET_BYTES];
+        answer(self.lent().write_sheet(&mut out))?;
+        out.truncate(usize::from(self.result[0]));
+        Ok(String::from_utf8(out).expect("a sheet is ASCII"))
+    }
+
+    /// Memory for a plan of n banks, all cells 0.
+    fn memory_for(n: u16) -> Plan {
+        let n = usize::from(n);
+        Plan {
+            neighbours: vec![0; 23 * n],
+            degrees: vec![0; n],
+            waves: vec![0; n],
+            counts: vec![0; 24 * n],
+            trail: vec![0; n],
+            moved: vec![0; n],
+            tally: [0; 3],
+            result: [0; 2],
+        }
+    }
+
+    fn lent(&mut self) -> Lent<'_> {
+        Lent {
+            neighbours: &mut self.neighbours,
+            degrees: &mut self.degrees,
+            waves: &mut self.waves,
+            counts: &mut self.counts,
+            trail: &mut self.trail,
+            moved: &mut self.moved,
+            tally: &mut self.tally,
+            result: &mut self.result,
+        }
+    }
+
+    /// What the last accepted edit left in trail and moved.
+    fn edit(&self) -> Edit {
+        let [moved, trail] = self.result.map(usize::from);
+        Edit {
+            trail: banks(&self.trail[..trail]),
+            moved: banks(&self.moved[..moved]),
+        }
+    }
+}
+
+fn banks(cells: &[u16]) -> Vec<Bank> {
+    cells.iter().copied().map(Bank).collect()
+}
+
+/// The refusal of a number, if it is one.
+fn answer(number: u16) -> Result<(), Refused> {
+    match number {
+        0 => Ok(()),
+        number => Err(Refused { number, row: 0 }),
+    }
+}
