@@ -3,10 +3,10 @@ use mathlib.Core.List.{List, [], _∷_, map, foldr}
 use mathlib.Core.Path.{_≡_, refl, sym, ap, ap₂, _∙_}
 use Prim.Native.Nat.{ℕ, suc, _+_, _*_, _/_, _%_, _<_, max}
 use native.Mathlib.Omega.{arith}
-use lib.Dec.{T, eqb}
+use lib.Dec.{T}
 use lib.ListN.{length, getD, take, drop}
 use lib.Seq.{take-at}
-use Rattle.rule.specs.Lists.{upto, filter, memb}
+use Rattle.rule.specs.Lists.{upto, memb}
 use Rattle.rule.specs.Graph.{Graph, neighbours, degree, earlierNeighbours}
 use Rattle.rule.specs.Wave.{wave, waves, waveCount}
 use Rattle.rule.proofs.Booleans.{T-along}

@@ -14,7 +14,7 @@ use lib.Dec.{T, eqb, eqb→eq}
 use lib.ListN.{length, getD, take, set, length-append, length-set, length-take, replicate, length-replicate, getD-replicate, List·getD-append}
 use lib.Seq.{getD-take, getD-set-same, getD-set-other, getD-at}
 use Rattle.rule.specs.Lists.{upto, filter, memb}
-use Rattle.rule.specs.Graph.{Graph, neighbours, degree}
+use Rattle.rule.specs.Graph.{neighbours}
 use Rattle.rule.proofs.Booleans.{or-l, or-r, or-cases, passes?, test-ext, T-along, eq→eqb, cond-yes, cond-no}
 use Rattle.rule.proofs.Lists.{in-none, upto-below, filter-cong, filter-kept, filter-left}
 use Rattle.rule.proofs.Neighbours.{degree-length}

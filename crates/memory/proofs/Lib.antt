@@ -1,4 +1,5 @@
--- Theorems: what to cite. Fronts, Parts, Standing: laws of slices and counts for the layer above too. The others: the proofs.
+-- Theorems: what to cite. Fronts, Parts, Standing: laws of slices and counts, for the layer above too. The others: the proofs.
+pub mod Theorems
 pub mod Fronts
 pub mod Parts
 pub mod Standing
@@ -13,4 +14,3 @@ pub mod Tallies
 pub mod Sums
 pub mod Tested
 pub mod Question
-pub mod Theorems

@@ -1,10 +1,10 @@
 -- Question 5: `holds` is true exactly if memory is, cell by cell, the plan of some set of clashes.
 use mathlib.Core.Bool.{Bool, true, false, _&&_, _||_, not}
 use mathlib.Core.Logic.{inl, inr}
-use mathlib.Core.Path.{_≡_, refl, sym, ap, _∙_}
+use mathlib.Core.Path.{_≡_, refl, ap}
 use Prim.Native.Nat.{ℕ, _≤_, _<_}
 use lib.Dec.{T, eqb, eqb→eq, not-T, T-not}
-use Rattle.rule.specs.Lists.{upto, memb, some}
+use Rattle.rule.specs.Lists.{upto, some}
 use Rattle.rule.specs.Graph.{Graph}
 use Rattle.rule.specs.Wave.{waves, waveCount}
 use Rattle.rule.proofs.Booleans.{and-l, and-r, both, or-l, or-r, or-cases, stable, test-ext, T-along, eq→eqb}
@@ -12,7 +12,7 @@ use Rattle.rule.proofs.Lists.{in-upto, upto-below, some-in, in-some}
 use Rattle.memory.specs.declared.Tally.{Tally}
 use Rattle.memory.specs.Cells.{starts}
 use Rattle.memory.specs.Plan.{Slices, longEnough, neighbourCells, degreeCells, countCells, clashCount, tallyOf, graphIn, proper, holds, PlanOf}
-use Rattle.memory.specs.Test.{row, Tested}
+use Rattle.memory.specs.Test.{Tested}
 use Rattle.memory.proofs.Cells.{starts-over, over-starts}
 use Rattle.memory.proofs.Plans.{long, long-enough}
 use Rattle.memory.proofs.Agree.{tally-eq, plan-agree}
@@ -137,7 +137,7 @@ module _ (s : Slices) (t : Tally) where
 
     pub plan-holds : T (holds s t)
     unfolding graphIn
-    plan-holds = own-holds (plan-agree K G (tally-banks G t (p .tally)) rows-give-clashes s t p)
+    plan-holds = own-holds (plan-agree K G (tally-banks t G (p .tally)) rows-give-clashes s t p)
 
   -- the answer of the test
   module _ (few : t .banks ≤ 1024) (room : longEnough (t .banks) s ≡ true) where

@@ -1,15 +1,13 @@
 -- Counting the earlier neighbours of a bank by their waves, and what it counts.
 use mathlib.Core.Bool.{Bool, true, false}
 use mathlib.Core.List.{List, [], _∷_, _++_}
-use mathlib.Core.Path.{_≡_, refl, sym, ap, _∙_}
+use mathlib.Core.Path.{_≡_, sym, ap, _∙_}
 use Prim.Native.Nat.{ℕ, _+_, _*_, _≤_, _<_}
 use native.Mathlib.Decide.{ℕ-discrete}
 use native.Mathlib.Omega.{arith}
-use lib.Dec.{T}
 use lib.ListN.{length, getD, set, take, drop, length-set, length-take, length-drop}
 use lib.Seq.{getD-take, getD-drop, getD-set-same, getD-set-other, length-take-le, ext-getD}
 use Rattle.rule.specs.Lists.{filter}
-use Rattle.rule.specs.Order.{earlierBy}
 use Rattle.rule.specs.Graph.{Graph, neighbours, degree, earlier, earlierNeighbours}
 use Rattle.rule.proofs.Booleans.{T-along}
 use Rattle.rule.proofs.Lists.{filter-cong, filter-short, filter-kept, filter-left}
@@ -18,7 +16,7 @@ use Rattle.memory.specs.Counts.{byCells, standing, countIn, Countable, T
 use Rattle.memory.specs.View.{Shown, Rowed}
 use Rattle.memory.specs.Test.{countsOf}
 use Rattle.memory.proofs.Fronts.{take-next, getD-any, in-cell}
-use Rattle.memory.proofs.Standing.{bit, bit-yes, bit-no, standing-snoc, standing-le}
+use Rattle.memory.proofs.Standing.{bit-yes, bit-no, standing-snoc, standing-le}
 
 -- cells set to 0 one after the other
 pub cleared : (row : List ℕ) (i : ℕ) → i < length row → ((k : ℕ) → k < i → getD row k 0 ≡ 0) → (k : ℕ) → k < i + 1 → getD (set row i 0) k 0 ≡ 0

@@ -2,7 +2,7 @@
 use mathlib.Core.Bool.{Bool, true, false, not}
 use mathlib.Core.List.{List, map}
 use mathlib.Core.Path.{_≡_, refl, sym, ap, _∙_, subst}
-use Prim.Native.Nat.{ℕ, zero, suc, _+_, _*_, _-_, _/_, _≤_, _<_}
+use Prim.Native.Nat.{ℕ, zero, suc, _+_, _*_, _-_, _≤_, _<_}
 use native.Mathlib.Omega.{arith}
 use borrow.Author.Tests.{not-true, not-false}
 use lib.Dec.{T}
@@ -16,7 +16,7 @@ use Rattle.rule.proofs.Theorems.{wave-equation, wave-unique, lowestFree-free, l
 use Rattle.rule.proofs.Waves.{earlierNeighbours-in}
 use Rattle.memory.specs.declared.Tally.{Tally}
 use Rattle.memory.specs.Counts.{standing, Tallied}
-use Rattle.memory.specs.Plan.{Slices, clashCount, tallyOf, PlanOf}
+use Rattle.memory.specs.Plan.{Slices, tallyOf, PlanOf}
 use Rattle.memory.specs.View.{Rowed, Held}
 use Rattle.memory.specs.Test.{Says, row, part, RowsRight, Rows, CellRight, PartRight, Tested}
 use Rattle.memory.proofs.Fronts.{pos}

@@ -5,14 +5,13 @@ use mathlib.Core.Logic.{_↔_}
 use mathlib.Core.Path.{_≡_, refl}
 use Prim.Native.Nat.{ℕ, _*_, _≤_, _<_}
 use lib.Dec.{T}
-use lib.ListN.{length, getD}
+use lib.ListN.{length, getD, take, drop}
 use Rattle.rule.specs.Graph.{Graph, earlier, earlierNeighbours, empty}
 use Rattle.rule.specs.Wave.{wave, waves, waveCount}
 use Rattle.memory.specs.declared.Tally.{Tally}
 use Rattle.memory.specs.Plan.{Slices, longEnough, neighbourCells, degreeCells, countCells, tallyOf, planIn, graphIn, holds, PlanOf}
-use Rattle.memory.specs.Counts.{byCells, standing, Countable, mostOf}
+use Rattle.memory.specs.Counts.{byCells, standing, countIn, Countable, mostOf}
 use Rattle.memory.specs.View.{Shown, Rowed, Held}
-use Rattle.memory.specs.Test.{countsOf}
 use Rattle.memory.proofs.Plans
 use Rattle.memory.proofs.Agree
 use Rattle.memory.proofs.Views
@@ -104,7 +103,8 @@ module _ {G : Graph} {ns ds : List ℕ} (sh : Shown G ns ds) where
   pub countable : {ws : List ℕ} {n b : ℕ} → n ≡ G .banks → n ≤ length ws → ((x : ℕ) → x < n → getD ws x 0 < 24) → b < n → Countable ns ds ws n b
   countable = Tallies.countable sh
 
-  pub counts-are : (ws : List ℕ) (b c : ℕ) → b < G .banks → countsOf ns ds ws b c ≡ standing (λ v. getD ws v 0) c (earlierNeighbours G b)
+  pub counts-are : (ws : List ℕ) (b c : ℕ) → b < G .banks
+      → countIn ds ws b (take (getD ds b 0) (drop (b * 23) ns)) c ≡ standing (λ v. getD ws v 0) c (earlierNeighbours G b)
   counts-are = Tallies.counts-are sh
 
 pub wave-count-is : (G : Graph) (ws : List ℕ) → ((x : ℕ) → x < G .banks → getD ws x 0 ≡ wave G x) → mostOf ws (G .banks) ≡ waveCount G

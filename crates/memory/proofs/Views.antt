@@ -1,11 +1,9 @@
 -- Memory that holds a plan, and the plan's cells as facts: the one gives the other.
-use mathlib.Core.Path.{_≡_, refl, ap, _∙_}
-use mathlib.Core.List.{List, [], _∷_}
-use Prim.Native.Nat.{ℕ, _*_, _/_, _%_, _≤_, _<_}
+use mathlib.Core.Path.{_≡_, ap}
+use mathlib.Core.List.{List}
+use Prim.Native.Nat.{ℕ, _*_, _<_}
 use native.Mathlib.Omega.{arith}
-use lib.Dec.{eqb}
-use lib.ListN.{length, getD}
-use Rattle.rule.specs.Lists.{filter}
+use lib.ListN.{getD}
 use Rattle.rule.specs.Graph.{Graph, neighbours, degree, earlierNeighbours}
 use Rattle.rule.specs.Wave.{wave, waves}
 use Rattle.rule.proofs.Neighbours.{fewer-earlier}
@@ -18,9 +16,9 @@ use Rattle.memory.specs.View.{Held}
 use Rattle.memory.proofs.Cells.{cells-long, cells-at, cells-by, table-at, table-by}
 use Rattle.memory.proofs.Plans.{Long, long, long-enough}
 
-pub tally-banks : (G : Graph) (t : Tally) → t ≡ tallyOf G → t .banks ≡ G .banks
+pub tally-banks : (t : Tally) (G : Graph) → t ≡ tallyOf G → t .banks ≡ G .banks
 unfolding tallyOf
-tally-banks G t e = ap (λ (u : Tally). u .banks) e
+tally-banks t G e = ap (λ (u : Tally). u .banks) e
 
 -- the four slices, each with the cells of G at its front
 pub record AtFronts (G : Graph) (s : Slices) : Type 0 where
@@ -58,7 +56,7 @@ module _ (G : Graph) (s : Slices) (t : Tally) where
   held-of p =
       let l = long (G .banks) s (p .long) in
       let f = fronts-of (p .cells) in
-      let e = tally-banks G t (p .tally) in
+      let e = tally-banks t G (p .tally) in
       record {
         banks = e;
         rowed = record {

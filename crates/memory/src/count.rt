@@ -8,7 +8,6 @@ ghost use mathlib.Core.Path.{_≡_};
 ghost use Prim.Native.Nat.{ℕ, _+_, _*_, _≤_, _<_};
 ghost use lib.ListN.{length, getD, take, drop};
 ghost use Rattle.memory.specs.Counts.{countIn, Countable, Tallied, mostOf};
-ghost use Rattle.memory.specs.Test.{countsOf};
 
 // Sets the 24 cells to 0.
 fn clear(row: &mut [u16])
@@ -57,7 +56,7 @@ pub fn count_earlier(
 )
     requires { ⌜ Countable (now neighbours) (now degrees) (now waves) banks (b .0) ⌝ }
     requires { ⌜ length (now row) ≡ 24 ⌝ }
-    ensures { λ _. ⌜ Tallied (now (row .exit)) (countsOf (now (neighbours .entry)) (now (degrees .entry)) (now (waves .entry)) (b .0)) ⌝ }
+    ensures { λ _. ⌜ Tallied (now (row .exit)) (countIn (now (degrees .entry)) (now (waves .entry)) (b .0) (take (getD (now (degrees .entry)) (b .0) 0) (drop (b .0 * 23) (now (neighbours .entry))))) ⌝ }
 {
     clear(row);
     let at = b.0 as usize;

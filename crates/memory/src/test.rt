@@ -118,7 +118,7 @@ fn rows_right(neighbours: &[u16], degrees: &[u16], banks: u16) -> bool
 fn match_one(
     neighbours: &[u16],
     degrees: &[u16],
-    cursors: &mut [u16; 1024],
+    cursors: &mut [u16; MOST_BANKS],
     banks: u16,
     b: Bank,
     i: usize,
@@ -144,7 +144,7 @@ fn match_one(
 fn row_matched(
     neighbours: &[u16],
     degrees: &[u16],
-    cursors: &mut [u16; 1024],
+    cursors: &mut [u16; MOST_BANKS],
     banks: u16,
     b: Bank,
 ) -> bool
@@ -220,7 +220,7 @@ fn cell_right(cell: u16, count: u16, c: Wave, wave: Wave) -> bool
 }
 
 // The same of the whole part.
-fn part_right(part: &[u16], cells: &[u16; 24], wave: Wave) -> bool
+fn part_right(part: &[u16], cells: &[u16; COUNT_CELLS], wave: Wave) -> bool
     requires { ⌜ length (now part) ≡ 24 ⌝ }
     ensures { λ r. ⌜ Says (PartRight (now (part .entry)) (λ c. getD (now (cells .entry)) c 0) (wave .0)) r ⌝ }
 {

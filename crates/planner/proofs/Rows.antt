@@ -26,7 +26,7 @@ module _ {G : Graph} {s : Slices} {t : Tally} (p : PlanOf G s t) {b : ℕ} (l : 
   held = held-of G s t p
 
   pub below : b < G .banks
-  below = omega (arith, tally-banks G t (p .tally))
+  below = omega (arith, tally-banks t G (p .tally))
 
   pub plan-degree : getD (s .degrees) b 0 ≡ degree G b
   plan-degree = held .rowed .degrees b below
@@ -111,4 +111,4 @@ here v i row l e = sym (is-true (memb v row) (rw e at (in-cell i row l)))
 -- a row names the banks that clash with its bank
 pub clash-named : {G : Graph} {s : Slices} {t : Tally} → PlanOf G s t → {a b : ℕ} → b < t .banks → (row : List ℕ) → row ≡ neighbours G a → (r : Bool) → r ≡ memb b row → G .clash a b ≡ r
 clash-named {G} {s} {t} p {a} {b} l row e r q =
-    sym (q ∙ ap (memb b) e ∙ memb-neighbours G a b (omega (arith, tally-banks G t (p .tally))))
+    sym (q ∙ ap (memb b) e ∙ memb-neighbours G a b (omega (arith, tally-banks t G (p .tally))))

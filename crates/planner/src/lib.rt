@@ -1,9 +1,14 @@
 // The planner: a wave plan in caller-lent memory.
 mod checks;
+mod editing;
 mod opening;
 mod reading;
 
 pub use checks::check_plan;
+pub use editing::add_core;
+pub use editing::add_held;
+pub use editing::strike_core;
+pub use editing::strike_held;
 pub use opening::open_core;
 pub use reading::clashes_held;
 pub use reading::clashes_of;

@@ -27,8 +27,9 @@ pub struct Edit {
 /// The most banks of a plan.
 const MAX_BANKS: u16 = 1024;
 
-/// More bytes than the longest sheet: 9 for its first line, 2 for each of 24 waves, 5 for each bank.
-const SHEET_BYTES: usize = 9 + 24 * 2 + 1024 * 5;
+/// The bytes of the longest sheet: 9 for its first line, 2 for each of 24 waves, 4,010 for 1,024
+/// banks.
+const SHEET_BYTES: usize = 4067;
 
 /// A plan and the memory that it stands in.
 #[derive(Clone, Debug)]

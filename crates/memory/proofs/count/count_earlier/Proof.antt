@@ -49,7 +49,9 @@ same-length : tie.Need-same-length Inv-loop μ-loop
 same-length c = search needs
 
 returns : tie.Need-returns Inv-loop μ-loop
-returns c = let e : c .before .loop .i ≡ getD (c .before .before .before .before .before .before .before .before .before .before .before .before .before .args .degrees .now) (c .before .before .before .before .before .before .before .before .before .before .before .before .before .args .b .0) 0 = omega (arith, c .before .before .wide .ensures) in rw e at (c .before .loop .inv .1)
+returns c =
+    let e : c .before .loop .i ≡ getD (c .before .before .before .before .before .before .before .before .before .before .before .before .before .args .degrees .now) (c .before .before .before .before .before .before .before .before .before .before .before .before .before .args .b .0) 0 = omega (arith, c .before .before .wide .ensures) in
+    rw e at (c .before .loop .inv .1)
 
 pub count-earlier-spec : {M : Type 1} → statement M
 count-earlier-spec =

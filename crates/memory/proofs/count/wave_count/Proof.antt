@@ -37,11 +37,14 @@ loop-less : tie.Need-loop-less Inv-loop μ-loop
 loop-less c = search needs
 
 loop-again : tie.Need-loop-again Inv-loop μ-loop
-loop-again c = let next = most-next (c .before .before .before .before .before .before .args .waves .now) (c .before .before .before .loop .i) in
+loop-again c =
+    let next = most-next (c .before .before .before .before .before .before .args .waves .now) (c .before .before .before .loop .i) in
     (search needs, ⊎-elim (λ w. omega (arith, w .1, w .0 .taken, next)) (λ w. omega (arith, w .1, w .0 .left, next)) (c .if1 .came))
 
 returns : tie.Need-returns Inv-loop μ-loop
-returns c = let e : c .before .loop .i ≡ c .before .before .before .before .args .banks = omega arith in c .before .loop .inv .1 ∙ ap (mostOf (c .before .before .before .before .args .waves .now)) e
+returns c =
+    let e : c .before .loop .i ≡ c .before .before .before .before .args .banks = omega arith in
+    c .before .loop .inv .1 ∙ ap (mostOf (c .before .before .before .before .args .waves .now)) e
 
 pub wave-count-spec : {M : Type 1} → statement M
 wave-count-spec =

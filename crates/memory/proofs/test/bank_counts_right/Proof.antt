@@ -11,7 +11,9 @@ slice-aggregate-count-earlier : tie.Need-slice-aggregate-count-earlier
 slice-aggregate-count-earlier c = search needs
 
 count-earlier-requires : tie.Need-count-earlier-requires
-count-earlier-requires c κs = let p = c .before .before .before .before .before .pre in (rows-countable (p .0) (p .1 .0) (p .1 .1 .1), refl)
+count-earlier-requires c κs =
+    let p = c .before .before .before .before .before .pre in
+    (rows-countable (p .0) (p .1 .0) (p .1 .1 .1), refl)
 
 cast-at : tie.Need-cast-at
 cast-at c = search needs
@@ -44,7 +46,9 @@ part-right-requires : tie.Need-part-right-requires
 part-right-requires c κs = search needs
 
 returns : tie.Need-returns
-returns c = let a = c .before .before .before .before .before .before .before .before .before .before .before .before .args in says-part (c .before .before .before .before .before .before .count-earlier .ensures) (a .counts .now) (a .b .0) (getD (a .waves .now) (a .b .0) 0) (c .part-right .result) (c .part-right .ensures)
+returns c =
+    let a = c .before .before .before .before .before .before .before .before .before .before .before .before .args in
+    says-part (c .before .before .before .before .before .before .count-earlier .ensures) (a .counts .now) (a .b .0) (getD (a .waves .now) (a .b .0) 0) (c .part-right .result) (c .part-right .ensures)
 
 pub bank-counts-right-spec : {M : Type 1} → statement M
 bank-counts-right-spec =

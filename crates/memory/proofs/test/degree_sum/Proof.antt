@@ -24,7 +24,8 @@ shared-slice-read-total : tie.Need-shared-slice-read-total Inv-loop μ-loop
 shared-slice-read-total c = search needs
 
 add-total : tie.Need-add-total Inv-loop μ-loop
-add-total c = let p = c .before .before .before .pre in
+add-total c =
+    let p = c .before .before .before .pre in
     omega (arith, sum-below (c .before .before .before .args .degrees .now) (c .before .before .loop .i) (c .before .before .before .args .banks) (omega arith) (p .1 .1), p .1 .1 (c .before .before .loop .i) (omega arith))
 
 add-i : tie.Need-add-i Inv-loop μ-loop
@@ -37,7 +38,9 @@ loop-again : tie.Need-loop-again Inv-loop μ-loop
 loop-again c = (search needs, omega (arith, sum-next (c .before .before .before .args .degrees .now) (c .before .before .loop .i)))
 
 returns : tie.Need-returns Inv-loop μ-loop
-returns c = let e : c .before .loop .i ≡ c .before .before .args .banks = omega arith in c .before .loop .inv .1 ∙ ap (sum (c .before .before .args .degrees .now)) e
+returns c =
+    let e : c .before .loop .i ≡ c .before .before .args .banks = omega arith in
+    c .before .loop .inv .1 ∙ ap (sum (c .before .before .args .degrees .now)) e
 
 pub degree-sum-spec : {M : Type 1} → statement M
 degree-sum-spec =

@@ -1,7 +1,7 @@
 -- The walk within the row of b, by the laws of `Cursors`.
 use borrow.Author.Needs.{needs}
 use native.Mathlib.Omega.{arith}
-use Prim.Native.Nat.{_-_, _<_, _≤_}
+use Prim.Native.Nat.{_-_, _≤_}
 use mathlib.Core.Path.{_≡_}
 use lib.ListN.{getD}
 use Rattle.memory.specs.Test.{Walk}
@@ -46,7 +46,9 @@ loop-again : tie.Need-loop-again Inv-loop μ-loop
 loop-again c = (search needs, goes-on _ _ _ (c .before .match-one .result) (c .before .match-one .ensures) (c .if1 .left))
 
 returns-2 : tie.Need-returns-2 Inv-loop μ-loop
-returns-2 c = let e : c .before .loop .i ≡ getD (c .before .before .before .before .before .before .before .args .degrees .now) (c .before .before .before .before .before .before .before .args .b .0) 0 = omega (arith, c .before .before .wide .ensures) in walk-end (rw e at (c .before .loop .inv .1))
+returns-2 c =
+    let e : c .before .loop .i ≡ getD (c .before .before .before .before .before .before .before .args .degrees .now) (c .before .before .before .before .before .before .before .args .b .0) 0 = omega (arith, c .before .before .wide .ensures) in
+    walk-end (rw e at (c .before .loop .inv .1))
 
 pub row-matched-spec : {M : Type 1} → statement M
 row-matched-spec =

@@ -1,0 +1,215 @@
+//! Plan memory, and the calls of the static libraries that are timed.
+
+use crate::BANKS;
+
+/// An edit by the C interface: six slices, tally, result, and the two banks.
+type EditCall = unsafe extern "C" fn(
+    *mut u16,
+    usize,
+    *mut u16,
+    usize,
+    *mut u16,
+    usize,
+    *mut u16,
+    usize,
+    *mut u16,
+    usize,
+    *mut u16,
+    usize,
+    *mut u16,
+    usize,
+    *mut u16,
+    usize,
+    u16,
+    u16,
+) -> u16;
+
+/// Declares functions of the type EditCall.
+macro_rules! edit_calls {
+    ($($name:ident)*) => {
+        extern "C" {
+            $(fn $name(
+                neighbours: *mut u16,
+                neighbours_length: usize,
+                degrees: *mut u16,
+                degrees_length: usize,
+                waves: *mut u16,
+                waves_length: usize,
+                counts: *mut u16,
+                counts_length: usize,
+                trail: *mut u16,
+                trail_length: usize,
+                moved: *mut u16,
+                moved_length: usize,
+                tally: *mut u16,
+                tally_length: usize,
+                result: *mut u16,
+                result_length: usize,
+                a: u16,
+                b: u16,
+            ) -> u16;)*
+        }
+    };
+}
+
+edit_calls! { bench_add bench_strike wave_plan_add wave_plan_strike }
+
+extern "C" {
+    fn wave_plan_open(
+        neighbours: *mut u16,
+        neighbours_length: usize,
+        degrees: *mut u16,
+        degrees_length: usize,
+        waves: *mut u16,
+        waves_length: usize,
+        counts: *mut u16,
+        counts_length: usize,
+        tally: *mut u16,
+        tally_length: usize,
+        banks: u16,
+    ) -> u16;
+
+    fn wave_plan_wave_of(
+        neighbours: *const u16,
+        neighbours_length: usize,
+        degrees: *const u16,
+        degrees_length: usize,
+        waves: *const u16,
+        waves_length: usize,
+        counts: *const u16,
+        counts_length: usize,
+        tally: *const u16,
+        tally_length: usize,
+        result: *mut u16,
+        result_length: usize,
+        b: u16,
+    ) -> u16;
+}
+
+/// The two edits with question 5 and without.
+#[derive(Clone, Copy)]
+pub struct EditCalls {
+    pub add: EditCall,
+    pub strike: EditCall,
+}
+
+/// Edits that ask no question 5.
+pub const CORE: EditCalls = EditCalls {
+    add: bench_add,
+    strike: bench_strike,
+};
+
+/// Edits that ask all questions.
+pub const CHECKED: EditCalls = EditCalls {
+    add: wave_plan_add,
+    strike: wave_plan_strike,
+};
+
+/// The memory of a plan of 1,024 banks.
+#[derive(Clone, PartialEq, Eq)]
+pub struct Memory {
+    pub neighbours: Vec<u16>,
+    pub degrees: Vec<u16>,
+    pub waves: Vec<u16>,
+    pub counts: Vec<u16>,
+    pub trail: Vec<u16>,
+    pub moved: Vec<u16>,
+    pub tally: [u16; 3],
+    /// Moved count and trail count, or the wave.
+    pub result: [u16; 2],
+}
+
+impl Memory {
+    /// A plan of 1,024 banks without a clash.
+    pub fn opened() -> Memory {
+        let mut memory = Memory {
+            neighbours: vec![0; 23 * BANKS],
+            degrees: vec![0; BANKS],
+            waves: vec![0; BANKS],
+            counts: vec![0; 24 * BANKS],
+            trail: vec![0; BANKS],
+            moved: vec![0; BANKS],
+            tally: [0; 3],
+            result: [0; 2],
+        };
+        // Sound: each slice is valid for its length, and no two overlap.
+        let number = unsafe {
+            wave_plan_open(
+                memory.neighbours.as_mut_ptr(),
+                memory.neighbours.len(),
+                memory.degrees.as_mut_ptr(),
+                memory.degrees.len(),
+                memory.waves.as_mut_ptr(),
+                memory.waves.len(),
+                memory.counts.as_mut_ptr(),
+                memory.counts.len(),
+                memory.tally.as_mut_ptr(),
+                memory.tally.len(),
+                BANKS as u16,
+            )
+        };
+        assert_eq!(number, 0);
+        memory
+    }
+
+    /// An edit, which must be accepted. The memory holds a plan, as the core edits require.
+    pub fn edit(&mut self, call: EditCall, a: u16, b: u16) {
+        // Sound: each slice is valid for its length, and no two overlap.
+        let number = unsafe {
+            call(
+                self.neighbours.as_mut_ptr(),
+                self.neighbours.len(),
+                self.degrees.as_mut_ptr(),
+                self.degrees.len(),
+                self.waves.as_mut_ptr(),
+                self.waves.len(),
+                self.counts.as_mut_ptr(),
+                self.counts.len(),
+                self.trail.as_mut_ptr(),
+                self.trail.len(),
+                self.moved.as_mut_ptr(),
+                self.moved.len(),
+                self.tally.as_mut_ptr(),
+                self.tally.len(),
+                self.result.as_mut_ptr(),
+                self.result.len(),
+                a,
+                b,
+            )
+        };
+        assert_eq!(number, 0);
+    }
+
+    /// The wave of a bank: question 5, then one cell read.
+    pub fn wave_of(&mut self, b: u16) -> u16 {
+        // Sound: each slice is valid for its length, and no two overlap.
+        let number = unsafe {
+            wave_plan_wave_of(
+                self.neighbours.as_ptr(),
+                self.neighbours.len(),
+                self.degrees.as_ptr(),
+                self.degrees.len(),
+                self.waves.as_ptr(),
+                self.waves.len(),
+                self.counts.as_ptr(),
+                self.counts.len(),
+                self.tally.as_ptr(),
+                self.tally.len(),
+                self.result.as_mut_ptr(),
+                self.result.len(),
+                b,
+            )
+        };
+        assert_eq!(number, 0);
+        self.result[0]
+    }
+
+    /// Whether the plan cells and the tally are equal.
+    pub fn same_plan(&self, other: &Memory) -> bool {
+        self.neighbours == other.neighbours
+            && self.degrees == other.degrees
+            && self.waves == other.waves
+            && self.counts == other.counts
+            && self.tally == other.tally
+    }
+}

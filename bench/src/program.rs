@@ -1,0 +1,172 @@
+//! The program *sheet* on a list of 60,000 bytes, against programs that colour from scratch: after
+//! every row, or once at the end. The latter are this program again, with a mode as its argument.
+
+use crate::clashes::{Clashes, Edit};
+use crate::scratch::Colouring;
+use crate::BANKS;
+use independent::list::{edit_row, n_row, rows, Row};
+use independent::random::Random;
+use independent::sheet::{program_output, sheet_text};
+use std::io::{self, Read, Write};
+use std::path::{Path, PathBuf};
+use std::process::{Command, Stdio};
+use std::time::Instant;
+use std::{env, thread};
+
+/// How often each program is run, the model aside.
+pub const RUNS: usize = 15;
+
+/// How often the model is run.
+pub const MODEL_RUNS: usize = 3;
+
+/// Waves from scratch after every row.
+const EVERY_ROW: &str = "every-row";
+
+/// Waves from scratch once, after the last row.
+const AT_END: &str = "at-end";
+
+/// The model: waves, trail and moved from scratch after every row.
+const MODEL: &str = "model";
+
+/// What was measured. Times are of a whole run, in seconds, by repeat.
+pub struct Programs {
+    pub rows: usize,
+    pub sheet: Vec<f64>,
+    pub every_row: Vec<f64>,
+    pub at_end: Vec<f64>,
+    pub model: Vec<f64>,
+}
+
+pub fn measure() -> Programs {
+    let list = list_of_60_000_bytes();
+    let mut programs = Programs {
+        rows: rows(&list).len(),
+        sheet: Vec::new(),
+        every_row: Vec::new(),
+        at_end: Vec::new(),
+        model: Vec::new(),
+    };
+    let wanted = output_of(Command::new(this_program()).arg(AT_END), &list).0;
+    let run = |times: &mut Vec<f64>, command: &mut Command| {
+        let (output, time) = output_of(command, &list);
+        assert!(output == wanted, "all programs print the same sheet");
+        times.push(time);
+    };
+    for repeat in 0..RUNS {
+        run(&mut programs.sheet, &mut Command::new(sheet_program()));
+        for (times, mode, repeats) in [
+            (&mut programs.every_row, EVERY_ROW, RUNS),
+            (&mut programs.at_end, AT_END, RUNS),
+            (&mut programs.model, MODEL, MODEL_RUNS),
+        ] {
+            if repeat < repeats {
+                run(times, Command::new(this_program()).arg(mode));
+            }
+        }
+    }
+    programs
+}
+
+/// The program *sheet*: the path in SHEET_PROGRAM, or the one that the build leaves.
+fn sheet_program() -> PathBuf {
+    match env::var_os("SHEET_PROGRAM") {
+        Some(path) => PathBuf::from(path),
+        None => Path::new(env!("CARGO_MANIFEST_DIR")).join("../target/bin/sheet"),
+    }
+}
+
+fn this_program() -> PathBuf {
+    env::current_exe().expect("the path of this program")
+}
+
+/// What the program prints for a list, and the time from its start to its end.
+fn output_of(command: &mut Command, list: &[u8]) -> (Vec<u8>, f64) {
+    let start = Instant::now();
+    let mut program = command
+        .stdin(Stdio::piped())
+        .stdout(Stdio::piped())
+        .spawn()
+        .unwrap_or_else(|error| panic!("{command:?}: {error}"));
+    let mut input = program.stdin.take().expect("standard input is a pipe");
+    let output = thread::scope(|scope| {
+        scope.spawn(move || input.write_all(list).expect("the list is read"));
+        program.wait_with_output().expect("the program ends")
+    });
+    (output.stdout, start.elapsed().as_secs_f64())
+}
+
+/// Reads an accepted list of 1,024 banks from standard input and prints its sheet, by a mode.
+pub fn from_scratch(mode: &str) -> io::Result<()> {
+    let mut list = Vec::new();
+    io::stdin().read_to_end(&mut list)?;
+    let sheet = match mode {
+        EVERY_ROW => colour_rows(&list, true),
+        AT_END => colour_rows(&list, false),
+        MODEL => program_output(&list),
+        _ => panic!("no such mode: {mode}"),
+    };
+    io::stdout().write_all(&sheet)
+}
+
+fn colour_rows(list: &[u8], every_row: bool) -> Vec<u8> {
+    let rows = rows(list);
+    assert_eq!(n_row(rows[0]), Some(BANKS));
+    let mut clashes = Clashes::none();
+    let mut colouring = Colouring::new();
+    for row in &rows[1..] {
+        match edit_row(row).expect("an accepted list") {
+            Row::Add(a, b) => clashes.make(Edit::Add(a as u16, b as u16)),
+            Row::Strike(a, b) => clashes.make(Edit::Strike(a as u16, b as u16)),
+            Row::StrikeAll(b) => {
+                let b = b as u16;
+                for q in clashes.row(b).to_vec() {
+                    clashes.make(Edit::Strike(b, q));
+                }
+            }
+        }
+        if every_row {
+            colouring.by_counting_sort(&clashes.neighbours, &clashes.degrees);
+        }
+    }
+    colouring.by_counting_sort(&clashes.neighbours, &clashes.degrees);
+    let waves: Vec<usize> = colouring.waves.iter().map(|&w| usize::from(w)).collect();
+    sheet_text(&waves).into_bytes()
+}
+
+/// A random list for 1,024 banks: adds, a strike in about eight rows, a D row in about 200.
+fn list_of_60_000_bytes() -> Vec<u8> {
+    let mut random = Random::new(60_000);
+    let mut clashes = Clashes::none();
+    let mut list = format!("N {BANKS}").into_bytes();
+    while list.len() < 60_000 {
+        let left = 60_000 - list.len();
+        if left > 100 && random.one_in(200) {
+            let b = random.below(BANKS) as u16;
+            list.extend(format!("\nD {b}").bytes());
+            for q in clashes.row(b).to_vec() {
+                clashes.make(Edit::Strike(b, q));
+            }
+            continue;
+        }
+        let edit = if random.one_in(8) && list.len() > 100 {
+            clashes.random_strike(&mut random)
+        } else {
+            clashes.random_add(&mut random)
+        };
+        let row = match edit {
+            Edit::Add(a, b) => format!("\n+ {a} {b}"),
+            Edit::Strike(a, b) => format!("\n- {a} {b}"),
+        };
+        // The last rows are drawn until they just fit. One row has up to 12 bytes, and rows of
+        // at least 8 are frequent enough to wait for.
+        let fits = match left.checked_sub(row.len()) {
+            Some(rest) => matches!(rest, 0 | 8..=12 | 16..),
+            None => false,
+        };
+        if fits {
+            list.extend(row.bytes());
+            clashes.make(edit);
+        }
+    }
+    list
+}

@@ -1,0 +1,175 @@
+//! The document: what was measured, as tables of ratios.
+
+use crate::edits::{Measured, EDITS, REPEATS};
+use crate::program::{Programs, MODEL_RUNS, RUNS};
+use crate::spread::{figure, Spread};
+
+const ABOUT: &str = "\
+# Benchmarks
+
+Written by `make bench`; all figures are from one run of it. What is compared is ratios: things timed on the same input, in turn, repeat
+by repeat. A figure is the median of the ratio over the repeats, with the lower and the upper quartile in brackets. Everything is built
+for release: the libraries and the program by the toolchain, the Rust code by `cargo --release`. Buffers are allocated once and used
+again. None is cleared first: what a call needs cleared it clears itself, within its time.
+
+## Edits at 1,024 banks
+
+- *Core edit*: one add or strike that asks no question 5, as a list makes for each row.
+- *Checked edit*: `wave_plan_add` or `wave_plan_strike`, which ask all questions.
+- *Question 5*: `wave_plan_wave_of`, a test of the whole memory and one cell read.
+- *Colouring from scratch*: in Rust, from the rows and degrees in memory; nothing is parsed. It sorts the banks into the rule order and
+  gives each the lowest wave that no neighbour holds so far, with a set of waves in one word. It leaves the waves and nothing else.
+  Measured with a counting sort, which the 24 possible degrees allow, and with the standard library's sort.
+- *Whole plan from scratch*: the colouring with a counting sort, then Counts and tally: all that an edit leaves, but trail and moved.
+";
+
+const AFTER_PLANS: &str = "\
+The plans have random clashes, and an edit's two banks are random. Trail and moved do not depend on the machine. Times are processor
+times.
+";
+
+pub fn document(plans: &[Measured], programs: &Programs) -> String {
+    let repeats = format!(
+        "A repeat times {EDITS} edits, adds and strikes in turn and then their inverses, so that \
+         the plan at its end is the one at its start.\nThere are {REPEATS} repeats.\n"
+    );
+    let core = |plan: &Measured, base: &[f64]| Spread::ratio(base, &plan.core);
+    let checked = |plan: &Measured, base: &[f64]| Spread::ratio(&plan.checked, base);
+    let question = |plan: &Measured, base: &[f64]| Spread::ratio(&plan.question, base);
+    [
+        ABOUT.to_string(),
+        repeats,
+        plan_table(plans),
+        AFTER_PLANS.to_string(),
+        "A core edit is so many times faster than (higher is better):\n".to_string(),
+        ratio_table(plans, core),
+        "A checked edit takes so many times as long as (lower is better):\n".to_string(),
+        ratio_table(plans, checked),
+        "Question 5 takes so many times as long as (lower is better):\n".to_string(),
+        ratio_table(plans, question),
+        "![Times relative to a colouring from scratch](benchmarks.svg)\n".to_string(),
+        goals(plans),
+        program_part(programs),
+    ]
+    .join("\n")
+}
+
+/// What edits are compared with, by name.
+fn bases(plan: &Measured) -> [(&'static str, &Vec<f64>); 3] {
+    [
+        ("colouring, counting sort", &plan.counting_sort),
+        ("colouring, standard sort", &plan.standard_sort),
+        ("whole plan from scratch", &plan.whole_plan),
+    ]
+}
+
+fn table(head: &[&str], rows: &[Vec<String>]) -> String {
+    let line = |cells: &[String]| format!("| {} |\n", cells.join(" | "));
+    let head: Vec<String> = head.iter().map(|cell| cell.to_string()).collect();
+    let rule = format!("|{}\n", "---|".repeat(head.len()));
+    let rows: String = rows.iter().map(|row| line(row)).collect();
+    line(&head) + &rule + &rows
+}
+
+fn plan_table(plans: &[Measured]) -> String {
+    let row = |plan: &Measured| {
+        vec![
+            plan.clashes.to_string(),
+            figure(plan.average_degree()),
+            plan.waves.to_string(),
+            figure(plan.average_trail),
+            plan.longest_trail.to_string(),
+            figure(plan.average_moved),
+        ]
+    };
+    let rows: Vec<Vec<String>> = plans.iter().map(row).collect();
+    table(
+        &[
+            "clashes",
+            "average degree",
+            "waves",
+            "average trail",
+            "longest trail",
+            "average moved",
+        ],
+        &rows,
+    )
+}
+
+fn ratio_table(plans: &[Measured], ratio: fn(&Measured, &[f64]) -> Spread) -> String {
+    let row = |plan: &Measured| {
+        let ratios = bases(plan).map(|(_, base)| ratio(plan, base).to_string());
+        let trail = figure(plan.average_trail);
+        [&[plan.clashes.to_string(), trail][..], &ratios].concat()
+    };
+    let rows: Vec<Vec<String>> = plans.iter().map(row).collect();
+    let names = bases(&plans[0]).map(|(name, _)| name);
+    table(&[&["clashes", "average trail"][..], &names].concat(), &rows)
+}
+
+/// The goals, against each base, and whether the medians meet them.
+fn goals(plans: &[Measured]) -> String {
+    let distance = |plan: &Measured| (plan.average_trail - 40.0).abs();
+    let nearer = |one: &&Measured, other: &&Measured| {
+        let order = distance(one).partial_cmp(&distance(other));
+        order.expect("numbers")
+    };
+    let plan = plans.iter().min_by(nearer).expect("a plan");
+    let row = |goal: &str, base: &str, measured: Spread, met: bool| {
+        vec![
+            goal.to_string(),
+            base.to_string(),
+            measured.to_string(),
+            yes(met),
+        ]
+    };
+    let mut rows = Vec::new();
+    for (name, base) in bases(plan) {
+        let faster = Spread::ratio(base, &plan.core);
+        let goal = "a core edit is at least 10 times faster";
+        rows.push(row(goal, name, faster, faster.median >= 10.0));
+    }
+    for (name, base) in bases(plan) {
+        let taken = Spread::ratio(&plan.checked, base);
+        let goal = "a checked edit takes at most 1.5 times as long";
+        rows.push(row(goal, name, taken, taken.median <= 1.5));
+    }
+    format!(
+        "## Goals\n\nOn the plan of {} clashes, whose edits have an average trail of {}:\n\n{}",
+        plan.clashes,
+        figure(plan.average_trail),
+        table(&["goal", "compared with", "measured", "met"], &rows)
+    )
+}
+
+fn yes(met: bool) -> String {
+    if met { "yes" } else { "no" }.to_string()
+}
+
+fn program_part(programs: &Programs) -> String {
+    let row = |name: &str, times: &[f64]| {
+        vec![
+            name.to_string(),
+            Spread::ratio(times, &programs.sheet).to_string(),
+            times.len().to_string(),
+        ]
+    };
+    let rows = [
+        row("waves from scratch after every row", &programs.every_row),
+        row("waves from scratch once, at the end", &programs.at_end),
+        row(
+            "the model: waves, trail and moved from scratch after every row",
+            &programs.model,
+        ),
+    ];
+    format!(
+        "## The program `sheet`\n\n\
+         A list of 60,000 bytes for 1,024 banks: {} rows, adds, strikes and D rows. `sheet` keeps \
+         the plan up to date row by row, trail and moved\nincluded. The other programs are in \
+         Rust and print the same sheet. A time is that of a whole run, from the start of the \
+         process to\nits end. There are {RUNS} runs of each in turn; the model runs {MODEL_RUNS} \
+         times.\n\n{}",
+        programs.rows,
+        table(&["program", "its time / time of `sheet`", "runs"], &rows)
+    )
+}

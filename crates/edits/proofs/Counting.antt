@@ -1,0 +1,91 @@
+-- Counts when one bank goes to another wave.
+use mathlib.Core.Bool.{Bool}
+use mathlib.Core.List.{List, [], _∷_}
+use mathlib.Core.Logic.{_⊎_, inl, inr, _≢_}
+use mathlib.Core.Path.{_≡_, refl, sym, ap, subst, _∙_}
+use Prim.Native.Nat.{ℕ, _+_, _*_, _-_, _≤_, _<_}
+use native.Mathlib.Decide.{ℕ-discrete, decLt}
+use native.Mathlib.Omega.{arith}
+use lib.Dec.{T, eqb}
+use lib.ListN.{length, getD, set, length-set}
+use lib.Seq.{getD-set-same, getD-set-other}
+use Rattle.rule.specs.Lists.{memb, Sorted}
+use Rattle.rule.specs.Graph.{Graph, earlierNeighbours}
+use Rattle.rule.proofs.Lists.{in-cons, in-none}
+use Rattle.memory.specs.Counts.{standing}
+use Rattle.memory.specs.View.{Counted}
+use Rattle.memory.proofs.Standing.{bit, bit-yes, bit-no, standing-cons, standing-cong}
+use Rattle.edits.specs.Work.{oneMoved}
+
+pub counted-cong : (G : Graph) (cs : List ℕ) (f g : ℕ → ℕ → ℕ) → ((b v : ℕ) → b < G .banks → T (memb v (earlierNeighbours G b)) → f b v ≡ g b v) → Counted G cs f → Counted G cs g
+counted-cong G cs f g h r = record {
+  wide-counts = r .wide-counts;
+  cell = λ b c lb lc. r .cell b c lb lc ∙ standing-cong (f b) (g b) c (earlierNeighbours G b) (λ v m. h b v lb m);
+}
+
+-- a walk over cells that are not 0 has not passed one that is
+pub still-below : (cs : List ℕ) (base c free : ℕ) → free < 24 → getD cs (base + free) 0 ≡ 0 → ((k : ℕ) → k < c → 0 < getD cs (base + k) 0) → (getD cs (base + c) 0 ≡ 0 → ⊥) → c + 1 < 24
+still-below cs base c free l zero held here = go (decLt c free) (decLt free c)
+  where
+    go : Dec (c < free) → Dec (free < c) → c + 1 < 24
+    go (yes h) k = omega arith
+    go (no h) (yes k) = let z : ⊥ = omega (arith, held free k) in absurd z
+    go (no h) (no k) = let e : free ≡ c = omega arith in absurd (here (rw e at zero))
+
+-- of the waves f and g, which differ at most at h
+module _ (R : ℕ → ℕ → Bool) (irrefl : (x : ℕ) → T (R x x) → ⊥) (f g : ℕ → ℕ) (h : ℕ) (others : (v : ℕ) → v ≢ h → f v ≡ g v) (c : ℕ) where
+  pub standing-move : (xs : List ℕ) → Sorted R xs → T (memb h xs) → standing g c xs + bit (eqb (f h) c) ≡ standing f c xs + bit (eqb (g h) c)
+  standing-move [] s m = absurd (in-none h m)
+  standing-move (y ∷ ys) s m = go (ℕ-discrete y h) (λ u. standing-move ys (s .1) u)
+    where
+      go : Dec (y ≡ h) → (T (memb h ys) → standing g c ys + bit (eqb (f h) c) ≡ standing f c ys + bit (eqb (g h) c))
+          → standing g c (y ∷ ys) + bit (eqb (f h) c) ≡ standing f c (y ∷ ys) + bit (eqb (g h) c)
+      go (yes e) more =
+          let rest : standing f c ys ≡ standing g c ys =
+          standing-cong f g c ys (λ v u. others v (λ d. irrefl y (subst (λ (k : ℕ). T (R y k)) (d ∙ sym e) (s .0 v u)))) in
+          let p : bit (eqb (f y) c) ≡ bit (eqb (f h) c) = ap (λ (k : ℕ). bit (eqb (f k) c)) e in
+          let q : bit (eqb (g y) c) ≡ bit (eqb (g h) c) = ap (λ (k : ℕ). bit (eqb (g k) c)) e in
+          omega (arith, standing-cons f c y ys, standing-cons g c y ys)
+      go (no n) more =
+          let r = more (elim (in-cons h y ys m) [ inl e ↦ absurd (n (sym e)) | inr u ↦ u ]) in
+          let p : bit (eqb (f y) c) ≡ bit (eqb (g y) c) = ap (λ (k : ℕ). bit (eqb k c)) (others y n) in
+          omega (arith, standing-cons f c y ys, standing-cons g c y ys)
+
+-- one count of v moved from o to w
+module _ (cs : List ℕ) (v o w : ℕ) (row : v * 24 + 24 ≤ length cs) (lo : o < 24) (lw : w < 24) (differ : o ≢ w) where
+  pub moved-elsewhere : (b c : ℕ) → c < 24 → b ≢ v → getD (oneMoved cs v o w) (b * 24 + c) 0 ≡ getD cs (b * 24 + c) 0
+  moved-elsewhere b c lc n =
+      getD-set-other (set cs (v * 24 + o) _) (v * 24 + w) (b * 24 + c) _ 0 (λ e. n (omega arith))
+      ∙ getD-set-other cs (v * 24 + o) (b * 24 + c) _ 0 (λ e. n (omega arith))
+
+  pub moved-beyond : (i : ℕ) → v * 24 + 24 ≤ i → getD (oneMoved cs v o w) i 0 ≡ getD cs i 0
+  moved-beyond i l =
+      getD-set-other (set cs (v * 24 + o) _) (v * 24 + w) i _ 0 (λ e. omega arith)
+      ∙ getD-set-other cs (v * 24 + o) i _ 0 (λ e. omega arith)
+
+  pub moved-here : (c : ℕ) → c < 24 → 0 < getD cs (v * 24 + o) 0
+      → getD (oneMoved cs v o w) (v * 24 + c) 0 + bit (eqb o c) ≡ getD cs (v * 24 + c) 0 + bit (eqb w c)
+  moved-here c lc some = go (ℕ-discrete c w) (ℕ-discrete c o)
+    where
+      go : Dec (c ≡ w) → Dec (c ≡ o) → getD (oneMoved cs v o w) (v * 24 + c) 0 + bit (eqb o c) ≡ getD cs (v * 24 + c) 0 + bit (eqb w c)
+      go (yes e) d =
+          rw e (omega (arith, getD-set-same (set cs (v * 24 + o) (getD cs (v * 24 + o) 0 - 1)) (v * 24 + w) (getD cs (v * 24 + w) 0 + 1) 0 (rw length-set (omega arith)), bit-no o w differ, bit-yes w w refl))
+      go (no n) (yes e) =
+          rw e (omega (
+            arith,
+            getD-set-other (set cs (v * 24 + o) (getD cs (v * 24 + o) 0 - 1)) (v * 24 + w) (v * 24 + o) (getD cs (v * 24 + w) 0 + 1) 0 (λ d. differ (omega arith)),
+            getD-set-same cs (v * 24 + o) (getD cs (v * 24 + o) 0 - 1) 0 (omega arith),
+            bit-yes o o refl,
+            bit-no w o (λ d. differ (sym d)),
+          ))
+      go (no n) (no k) =
+          omega (
+            arith,
+            getD-set-other (set cs (v * 24 + o) (getD cs (v * 24 + o) 0 - 1)) (v * 24 + w) (v * 24 + c) (getD cs (v * 24 + w) 0 + 1) 0 (λ d. n (omega arith)),
+            getD-set-other cs (v * 24 + o) (v * 24 + c) (getD cs (v * 24 + o) 0 - 1) 0 (λ d. k (omega arith)),
+            bit-no o c (λ d. k (sym d)),
+            bit-no w c (λ d. n (sym d)),
+          )
+
+  pub moved-length : length (oneMoved cs v o w) ≡ length cs
+  moved-length = simp length-set

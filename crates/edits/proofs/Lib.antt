@@ -1,0 +1,15 @@
+-- Lemmas over lists and records: the functions' proofs cite them.
+pub mod SortedLists
+pub mod Insertion
+pub mod Lines
+pub mod RowCells
+pub mod Rewriting
+pub mod Counting
+pub mod Shows
+pub mod Notices
+pub mod Stepping
+pub mod Ending
+pub mod Seeding
+pub mod Recounts
+pub mod ClashCounts
+pub mod Propagating

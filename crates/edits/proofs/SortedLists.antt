@@ -1,0 +1,106 @@
+-- Sorted lists: cut, joined, by their cells, and how long they can be.
+use mathlib.Core.Bool.{Bool, true, false, _&&_, _||_, not}
+use mathlib.Core.List.{List, [], _∷_, _++_}
+use mathlib.Core.Logic.{_⊎_, inl, inr}
+use mathlib.Core.Path.{_≡_, refl, sym, subst}
+use Prim.Native.Nat.{ℕ, zero, suc, _≤_, _<_}
+use native.Mathlib.Omega.{arith}
+use lib.Dec.{T, eqb, eqb→eq, not-T, T-not}
+use lib.ListN.{length, getD, take, drop, take-append-drop}
+use Rattle.rule.specs.Lists.{filter, memb, upto, Sorted}
+use Rattle.rule.proofs.Booleans.{and-l, and-r, both, or-l, or-r, or-cases, T-along, test-ext, eq→eqb}
+use Rattle.rule.proofs.Lists.{in-head, in-tail, in-cons, in-none, in-append, in-append-l, in-append-r, in-upto, count-lt, filter-true, length-upto}
+use Rattle.memory.proofs.Fronts.{in-cell, in-cut, in-drop}
+
+-- sorted by one order, and so by another that says the same of its members
+pub sorted-cong : (R S : ℕ → ℕ → Bool) (xs : List ℕ) → ((x y : ℕ) → T (memb x xs) → T (memb y xs) → R x y ≡ S x y) → Sorted R xs → Sorted S xs
+sorted-cong R S [] h s = tt
+sorted-cong R S (x ∷ xs) h s = (
+  λ y m. T-along (h x y (in-head x x xs refl) (in-tail y x xs m)) (s .0 y m),
+  sorted-cong R S xs (λ y z a b. h y z (in-tail y x xs a) (in-tail z x xs b)) (s .1),
+)
+
+module _ (R : ℕ → ℕ → Bool) where
+  pub sorted-cut : (xs ys : List ℕ) → Sorted R (xs ++ ys) → (x y : ℕ) → T (memb x xs) → T (memb y ys) → T (R x y)
+  sorted-cut [] ys s x y mx my = absurd (in-none x mx)
+  sorted-cut (z ∷ zs) ys s x y mx my =
+      elim (in-cons x z zs mx) [
+        | inl e ↦ rw e (s .0 y (in-append-r y zs ys my))
+        | inr u ↦ sorted-cut zs ys (s .1) x y u my
+      ]
+
+  pub sorted-front : (xs ys : List ℕ) → Sorted R (xs ++ ys) → Sorted R xs
+  sorted-front [] ys s = tt
+  sorted-front (z ∷ zs) ys s = (λ y m. s .0 y (in-append-l y zs ys m), sorted-front zs ys (s .1))
+
+  pub sorted-back : (xs ys : List ℕ) → Sorted R (xs ++ ys) → Sorted R ys
+  sorted-back [] ys s = s
+  sorted-back (z ∷ zs) ys s = sorted-back zs ys (s .1)
+
+  pub sorted-put : (xs ys : List ℕ) (v : ℕ) → Sorted R (xs ++ ys) → ((x : ℕ) → T (memb x xs) → T (R x v)) → ((y : ℕ) → T (memb y ys) → T (R v y))
+      → Sorted R (xs ++ (v ∷ ys))
+  sorted-put [] ys v s l r = (r, s)
+  sorted-put (z ∷ zs) ys v s l r = (
+    λ y m. elim (in-append y zs (v ∷ ys) m) [
+      | inl u ↦ s .0 y (in-append-l y zs ys u)
+      | inr u ↦ elim (in-cons y v ys u) [ inl e ↦ rw e (l z (in-head z z zs refl)) | inr w ↦ s .0 y (in-append-r y zs ys w) ]
+    ],
+    sorted-put zs ys v (s .1) (λ x m. l x (in-tail x z zs m)) r,
+  )
+
+  -- an earlier cell comes before a later one
+  pub sorted-cells : (xs : List ℕ) → Sorted R xs → (i j : ℕ) → i < j → j < length xs → T (R (getD xs i 0) (getD xs j 0))
+  sorted-cells [] s i j l h = absurd (omega arith)
+  sorted-cells (x ∷ xs) s i zero l h = absurd (omega arith)
+  sorted-cells (x ∷ xs) s zero (suc j) l h = s .0 (getD xs j 0) (in-cell j xs (omega arith))
+  sorted-cells (x ∷ xs) s (suc i) (suc j) l h = sorted-cells xs (s .1) i j (omega arith) (omega arith)
+
+  module _ (irrefl : (x : ℕ) → T (R x x) → ⊥) where
+    pub sorted-apart : (xs ys : List ℕ) (x : ℕ) → Sorted R (xs ++ ys) → T (memb x xs) → T (memb x ys) → ⊥
+    sorted-apart xs ys x s a b = irrefl x (sorted-cut xs ys s x x a b)
+
+    -- what is left after a front: the members that are not in the front
+    pub rest-memb : (k : ℕ) (xs : List ℕ) → Sorted R xs → (x : ℕ) → memb x (drop k xs) ≡ (memb x xs && not (memb x (take k xs)))
+    rest-memb k xs s x =
+        test-ext (memb x (drop k xs)) (memb x xs && not (memb x (take k xs)))
+        (λ m. both (memb x xs) (not (memb x (take k xs))) (in-drop k xs x m)
+        (not-T (memb x (take k xs)) (λ t. sorted-apart (take k xs) (drop k xs) x (subst (Sorted R) (sym (take-append-drop k xs)) s) t m)))
+        (λ t. elim (in-cut k xs x (and-l (memb x xs) (not (memb x (take k xs))) t)) [
+          | inl u ↦ absurd (T-not (memb x (take k xs)) (and-r (memb x xs) (not (memb x (take k xs))) t) u)
+          | inr u ↦ u
+        ])
+
+    -- no longer than what it is taken from
+    short : (p : ℕ → Bool) (zs xs : List ℕ) → Sorted R xs → ((x : ℕ) → T (memb x xs) → T (memb x zs)) → ((x : ℕ) → T (memb x xs) → T (p x)) → length xs ≤ length (filter p zs)
+    short p zs [] s a b = omega arith
+    short p zs (x ∷ xs) s a b =
+        let q : ℕ → Bool = λ y. p y && not (eqb y x) in
+        let apart : (y : ℕ) → T (memb y xs) → T (not (eqb y x)) =
+        λ y m. not-T (eqb y x) (λ t. irrefl x (rw (eqb→eq y x t) at (s .0 y m))) in
+        omega (
+          arith,
+          short q zs xs (s .1) (λ y m. a y (in-tail y x xs m)) (λ y m. both (p y) (not (eqb y x)) (b y (in-tail y x xs m)) (apart y m)),
+          count-lt q p zs (λ y m t. and-l (p y) (not (eqb y x)) t) x (a x (in-head x x xs refl))
+              (λ t. T-not (eqb x x) (and-r (p x) (not (eqb x x)) t) (eq→eqb x x refl))
+              (b x (in-head x x xs refl)),
+        )
+
+    pub sorted-short : (n : ℕ) (xs : List ℕ) → Sorted R xs → ((x : ℕ) → T (memb x xs) → x < n) → length xs ≤ n
+    sorted-short n xs s h =
+        omega (arith, rw filter-true at (short (λ x. true) (upto n) xs s (λ x m. in-upto n x (h x m)) (λ x m. tt)), length-upto n)
+
+-- members with one put between
+pub memb-put : (xs ys : List ℕ) (v x : ℕ) → memb x (xs ++ (v ∷ ys)) ≡ (memb x (xs ++ ys) || eqb x v)
+memb-put xs ys v x =
+    test-ext (memb x (xs ++ (v ∷ ys))) (memb x (xs ++ ys) || eqb x v)
+    (λ m. elim (in-append x xs (v ∷ ys) m) [
+      | inl u ↦ or-l (memb x (xs ++ ys)) (eqb x v) (in-append-l x xs ys u)
+      | inr u ↦ elim (in-cons x v ys u) [
+        | inl e ↦ or-r (memb x (xs ++ ys)) (eqb x v) (eq→eqb x v e)
+        | inr w ↦ or-l (memb x (xs ++ ys)) (eqb x v) (in-append-r x xs ys w)
+      ]
+    ])
+    (λ m. elim (or-cases (memb x (xs ++ ys)) (eqb x v) m) [
+      | inl u ↦ elim (in-append x xs ys u) [ inl w ↦ in-append-l x xs (v ∷ ys) w | inr w ↦ in-append-r x xs (v ∷ ys) (in-tail x v ys w) ]
+      | inr u ↦ in-append-r x xs (v ∷ ys) (in-head x v ys (eqb→eq x v u))
+    ])

@@ -1,0 +1,83 @@
+-- `move_count`: both cells lie in the part of v.
+use borrow.Author.Needs.{needs}
+use native.Mathlib.Omega.{arith}
+use lib.ListN.{length-set}
+use Rattle.edits.proofs.can_step.move_count.Statement.{statement}
+use Rattle.edits.proofs.can_step.move_count.Tie as tie
+
+cast-base : tie.Need-cast-base
+cast-base c = search needs
+
+mul-base : tie.Need-mul-base
+mul-base c = search needs
+
+cast-from : tie.Need-cast-from
+cast-from c = search needs
+
+add-from : tie.Need-add-from
+add-from c = search needs
+
+cast-to : tie.Need-cast-to
+cast-to c = search needs
+
+add-to : tie.Need-add-to
+add-to c = search needs
+
+mul-fewer : tie.Need-mul-fewer
+mul-fewer c = search needs
+
+slice-read-fewer : tie.Need-slice-read-fewer
+slice-read-fewer c = search needs
+
+sub-fewer : tie.Need-sub-fewer
+sub-fewer c = search needs
+
+mul-more : tie.Need-mul-more
+mul-more c = search needs
+
+slice-read-more : tie.Need-slice-read-more
+slice-read-more c = search needs
+
+add-more : tie.Need-add-more
+add-more c = search needs
+
+mul-counts : tie.Need-mul-counts
+mul-counts c = search needs
+
+slice-write-counts : tie.Need-slice-write-counts
+slice-write-counts c = search needs
+
+mul-counts-2 : tie.Need-mul-counts-2
+mul-counts-2 c = search needs
+
+slice-write-counts-2 : tie.Need-slice-write-counts-2
+slice-write-counts-2 c = simp length-set (omega arith)
+
+same-length : tie.Need-same-length
+same-length c = search needs
+
+returns : tie.Need-returns
+returns c = search needs
+
+pub move-count-spec : {M : Type 1} → statement M
+move-count-spec =
+    tie.close
+    (tie.spec
+    cast-base
+    mul-base
+    cast-from
+    add-from
+    cast-to
+    add-to
+    mul-fewer
+    slice-read-fewer
+    sub-fewer
+    mul-more
+    slice-read-more
+    add-more
+    mul-counts
+    slice-write-counts
+    mul-counts-2
+    slice-write-counts-2
+    same-length
+    returns)

@@ -1,0 +1,50 @@
+-- `recount_one`: the part of b, lent to `count_earlier` and put back.
+use borrow.Author.Needs.{needs}
+use Rattle.edits.proofs.Recounts.{part-back}
+use Rattle.edits.proofs.recount.recount_one.Statement.{statement}
+use Rattle.edits.proofs.recount.recount_one.Tie as tie
+
+cast-at : tie.Need-cast-at
+cast-at c = search needs
+
+mul-start : tie.Need-mul-start
+mul-start c = search needs
+
+add-end : tie.Need-add-end
+add-end c = search needs
+
+mul-count-earlier : tie.Need-mul-count-earlier
+mul-count-earlier c = search needs
+
+sub-count-earlier : tie.Need-sub-count-earlier
+sub-count-earlier c = search needs
+
+part-count-earlier-start : tie.Need-part-count-earlier-start
+part-count-earlier-start c = search needs
+
+part-count-earlier-end : tie.Need-part-count-earlier-end
+part-count-earlier-end c = search needs
+
+count-earlier-requires : tie.Need-count-earlier-requires
+count-earlier-requires c κs = search needs
+
+same-length : tie.Need-same-length
+same-length c = search needs
+
+returns : tie.Need-returns
+returns c = part-back (c .before .before .before .before .before .before .before .before .before .args .counts .now) (c .before .before .count-earlier .last .1 .1 .1 .0) (c .before .before .before .before .before .before .before .before .before .args .b .0) _ (c .before .before .before .before .before .before .before .before .before .pre .1) (c .before .before .count-earlier .ensures)
+
+pub recount-one-spec : {M : Type 1} → statement M
+recount-one-spec =
+    tie.close
+    (tie.spec
+    cast-at
+    mul-start
+    add-end
+    mul-count-earlier
+    sub-count-earlier
+    part-count-earlier-start
+    part-count-earlier-end
+    count-earlier-requires
+    same-length
+    returns)

@@ -1,0 +1,72 @@
+-- `queue_turned`: after i turns the turned ones of the first i neighbours are queued.
+use borrow.Author.Needs.{needs}
+use native.Mathlib.Omega.{arith}
+use Prim.Native.Nat.{_-_, _≤_}
+use mathlib.Core.Path.{_≡_, refl}
+use lib.ListN.{length, getD}
+use Rattle.edits.specs.Seeds.{Search, Turning}
+use Rattle.edits.proofs.seeds.queue_turned.Statement.{statement}
+use Rattle.edits.proofs.seeds.queue_turned.Tie as tie
+
+abbrev Inv-loop : tie.InvT-loop
+Inv-loop neighbours degrees queue₀ end b old at degree queued₀ i₀ queue queued i =
+    (i ≤ degree)
+    × (length queue ≡ length queue₀)
+    × ((s : Search) → Turning s neighbours degrees queue₀ end (b .0) old 0 → Turning s neighbours degrees queue queued (b .0) old i)
+
+abbrev μ-loop : tie.MeasureT-loop
+μ-loop neighbours degrees queue₀ end b old at degree queued₀ i₀ queue queued i = degree - i
+
+cast-at : tie.Need-cast-at Inv-loop μ-loop
+cast-at c = search needs
+
+mul-degree : tie.Need-mul-degree Inv-loop μ-loop
+mul-degree c = let tn = c .before .before .before .before .pre .1 in omega (arith, tn .bank, tn .shown .few)
+
+shared-slice-read-degree : tie.Need-shared-slice-read-degree Inv-loop μ-loop
+shared-slice-read-degree c = let tn = c .before .before .before .before .before .pre .1 in omega (arith, tn .bank, tn .shown .wide-degrees)
+
+cast-degree : tie.Need-cast-degree Inv-loop μ-loop
+cast-degree c = let tn = c .before .before .before .before .before .pre .1 in omega (arith, tn .shown .degrees (c .before .before .before .before .before .args .b .0) (tn .bank), tn .shown .small (c .before .before .before .before .before .args .b .0) (tn .bank))
+
+loop-holds : tie.Need-loop-holds Inv-loop μ-loop
+loop-holds c = (search needs, refl, λ s tn. tn)
+
+queue-turned-one-requires : tie.Need-queue-turned-one-requires Inv-loop μ-loop
+queue-turned-one-requires c κs = ((c .before .before .before .before .before .before .before .before .pre .0, c .before .before .loop .inv .2 (c .before .before .before .before .before .before .before .before .pre .0) (c .before .before .before .before .before .before .before .before .pre .1)), c .before .loop-test .taken)
+
+add-i : tie.Need-add-i Inv-loop μ-loop
+add-i c = let tn = c .before .before .before .before .before .before .before .before .before .before .before .pre .1 in omega (arith, tn .shown .degrees (c .before .before .before .before .before .before .before .before .before .before .before .args .b .0) (tn .bank), tn .shown .small (c .before .before .before .before .before .before .before .before .before .before .before .args .b .0) (tn .bank), c .before .before .before .before .loop-test .taken)
+
+loop-less : tie.Need-loop-less Inv-loop μ-loop
+loop-less c = search needs
+
+loop-again : tie.Need-loop-again Inv-loop μ-loop
+loop-again c = (search needs, search needs, λ s tn. c .before .before .queue-turned-one .ensures s (c .before .before .before .before .before .loop .inv .2 s tn))
+
+same-length : tie.Need-same-length Inv-loop μ-loop
+same-length c = search needs
+
+returns : tie.Need-returns Inv-loop μ-loop
+returns c =
+    λ s tn.
+    let e : c .before .loop .i ≡ getD (c .before .before .before .before .before .before .before .args .degrees .now) (c .before .before .before .before .before .before .before .args .b .0) 0 = omega (arith, c .before .loop .inv .0, c .loop-test .left) in
+    rw e at (c .before .loop .inv .2 s tn)
+
+pub queue-turned-spec : {M : Type 1} → statement M
+queue-turned-spec =
+    tie.close
+    (tie.spec
+    Inv-loop
+    μ-loop
+    cast-at
+    mul-degree
+    shared-slice-read-degree
+    cast-degree
+    loop-holds
+    queue-turned-one-requires
+    add-i
+    loop-less
+    loop-again
+    same-length
+    returns)

@@ -1,0 +1,70 @@
+-- `queue_turned_one`: neighbour i is passed over or queued, by the two tests of its order.
+use borrow.Author.Needs.{needs}
+use native.Mathlib.Omega.{arith}
+use Rattle.edits.proofs.Seeding.{in-row, v-degree, y-degree, not-turned, has-turned, passed, line, queued}
+use Rattle.edits.proofs.seeds.queue_turned_one.Statement.{statement}
+use Rattle.edits.proofs.seeds.queue_turned_one.Tie as tie
+
+cast-at : tie.Need-cast-at
+cast-at c = search needs
+
+mul-earlier : tie.Need-mul-earlier
+mul-earlier c = search needs
+
+add-earlier : tie.Need-add-earlier
+add-earlier c = omega (arith, in-row (c .before .before .before .before .pre .0 .1) (c .before .before .before .before .pre .1), c .before .before .before .before .good .0)
+
+mul-earlier-2 : tie.Need-mul-earlier-2
+mul-earlier-2 c = omega (arith, in-row (c .before .before .before .before .pre .0 .1) (c .before .before .before .before .pre .1), c .before .before .before .before .good .0)
+
+shared-slice-read-earlier : tie.Need-shared-slice-read-earlier
+shared-slice-read-earlier c = in-row (c .before .before .before .before .before .pre .0 .1) (c .before .before .before .before .before .pre .1)
+
+cast-at-v : tie.Need-cast-at-v
+cast-at-v c = search needs
+
+mul-earlier-3 : tie.Need-mul-earlier-3
+mul-earlier-3 c = search needs
+
+shared-slice-read-earlier-2 : tie.Need-shared-slice-read-earlier-2
+shared-slice-read-earlier-2 c = v-degree (c .before .before .before .before .before .before .before .pre .0 .1) (c .before .before .before .before .before .before .before .pre .1)
+
+earlier-requires : tie.Need-earlier-requires
+earlier-requires c κs = search needs
+
+is-earlier-requires : tie.Need-is-earlier-requires
+is-earlier-requires c κs = (v-degree (c .before .before .before .before .before .before .before .before .pre .0 .1) (c .before .before .before .before .before .before .before .before .pre .1), y-degree (c .before .before .before .before .before .before .before .before .pre .0 .1) (c .before .before .before .before .before .before .before .before .pre .1))
+
+returns : tie.Need-returns
+returns c = λ s tn. passed tn (c .before .before .before .before .before .before .before .before .before .before .pre .1) (not-turned tn (c .before .before .before .before .before .before .before .before .before .before .pre .1) (c .before .before .earlier .ensures) (c .before .is-earlier .ensures) (c .if1 .taken))
+
+enqueue-requires : tie.Need-enqueue-requires
+enqueue-requires c κs = (c .before .before .before .before .before .before .before .before .before .before .before .pre .0 .0 .graph, line (c .before .before .before .before .before .before .before .before .before .before .before .pre .0 .1) (c .before .before .before .before .before .before .before .before .before .before .before .pre .1))
+
+same-length : tie.Need-same-length
+same-length c = search needs
+
+returns-2 : tie.Need-returns-2
+returns-2 c =
+    λ s tn.
+    let lt = c .before .before .before .before .before .before .before .before .before .before .before .before .before .before .pre .1 in
+    queued tn lt (has-turned tn lt (c .before .before .before .before .before .before .earlier .ensures) (c .before .before .before .before .before .is-earlier .ensures) (c .before .before .before .before .if1 .left)) (c .before .before .enqueue .ensures (s .graph) (line tn lt))
+
+pub queue-turned-one-spec : {M : Type 1} → statement M
+queue-turned-one-spec =
+    tie.close
+    (tie.spec
+    cast-at
+    mul-earlier
+    add-earlier
+    mul-earlier-2
+    shared-slice-read-earlier
+    cast-at-v
+    mul-earlier-3
+    shared-slice-read-earlier-2
+    earlier-requires
+    is-earlier-requires
+    returns
+    enqueue-requires
+    same-length
+    returns-2)

@@ -1,0 +1,265 @@
+-- What holds after an edit, for all plans and edits.
+use mathlib.Core.Bool.{Bool, true, false, _&&_, _||_, not}
+use mathlib.Core.List.{List, [], _∷_, map}
+use mathlib.Core.Logic.{_⊎_, inl, inr, _≢_}
+use mathlib.Core.Path.{_≡_, refl, sym, ap, _∙_}
+use native.Mathlib.Decide.{ℕ-discrete}
+use native.Mathlib.Omega.{arith}
+use Prim.Native.Nat.{ℕ, zero, suc, _+_, _*_, _≤_, _<_}
+use lib.Dec.{T, eqb, eqb→eq, T-not, not-T}
+use lib.ListN.{length, getD}
+use Rattle.rule.specs.Lists.{upto, filter, memb}
+use Rattle.rule.specs.Graph.{Graph, neighbours, degree, earlier, earlierNeighbours, pair, added, struck}
+use Rattle.rule.specs.Wave.{wave}
+use Rattle.rule.specs.Reach.{Kind, adding, striking, edited, changed, isNamed, isReached, onTrail, trail, moved, around}
+use Rattle.rule.specs.WorkList.{Allowed, OneEdit, seed, isTaken}
+use Rattle.rule.proofs.Booleans.{and-l, and-r, both, or-l, or-r, or-cases, T-along, eq→eqb, passes?, test-ext}
+use Rattle.rule.proofs.Lists.{filter-cong, in-upto, upto-below}
+use Rattle.rule.proofs.Spread.{same-neighbours, taken-spread, taken-seed, unchanged}
+use Rattle.rule.proofs.Waves.{earlierNeighbours-in}
+use Rattle.rule.proofs.OneClash.{degrees-more, degrees-less, degree-added, degree-struck, neighbours-added, neighbours-struck}
+use Rattle.rule.proofs.Turned.{edited-one, onTrail-taken}
+use Rattle.rule.proofs.Theorems.{off-trail, trail-bound}
+use Rattle.memory.specs.declared.Tally.{Tally}
+use Rattle.memory.specs.Counts.{standing}
+use Rattle.memory.specs.Plan.{Slices, longEnough, tallyOf, planIn, graphIn, Clashes, PlanOf}
+use Rattle.memory.specs.View.{Held}
+use Rattle.memory.proofs.Plans.{plan-over, long-again}
+use Rattle.memory.proofs.Agree.{planIn-agree, tally-agree}
+use Rattle.memory.proofs.Standing.{standing-cong}
+use Rattle.memory.proofs.Views.{tally-banks, held-of}
+use Rattle.edits.specs.Edits.{HasRoom, Acceptable}
+use Rattle.planner.specs.Calls.{Memory, editResult, noEdit, refused, accepted, editNumber, editBy, editOf, memoryNumber, checkedBy, edit}
+use Rattle.planner.specs.Held.{Ready}
+use Rattle.planner.proofs.Numbers.{strike-fine, add-fine}
+use Rattle.planner.proofs.Outcomes.{acceptable, edited-banks}
+
+pair-apart : (a b x : ℕ) → a ≢ b → T (pair a b x x) → ⊥
+unfolding pair
+pair-apart a b x d t =
+    elim (or-cases (eqb x a && eqb x b) (eqb x b && eqb x a) t) [
+      | inl u ↦ d (sym (eqb→eq x a (and-l (eqb x a) (eqb x b) u)) ∙ eqb→eq x b (and-r (eqb x a) (eqb x b) u))
+      | inr u ↦ d (sym (eqb→eq x a (and-r (eqb x b) (eqb x a) u)) ∙ eqb→eq x b (and-l (eqb x b) (eqb x a) u))
+    ]
+
+-- the new clashes are a set of clashes too
+module _ (G : Graph) (a b : ℕ) (c : Clashes G) where
+  at-each : (P : ℕ → Type 0) → P a → P b → ((x : ℕ) → x ≢ a → x ≢ b → P x) → (x : ℕ) → P x
+  at-each P pa pb others x = go (ℕ-discrete x a) (ℕ-discrete x b)
+    where
+      go : Dec (x ≡ a) → Dec (x ≡ b) → P x
+      go (yes e) d = rw e pa
+      go (no n) (yes e) = rw e pb
+      go (no n) (no m) = others x n m
+
+  pub clashes-edited : (k : Kind) → Acceptable k G a b → Clashes (edited k G a b)
+  unfolding edited
+  clashes-edited adding ok =
+      let r = degrees-more G a b (ok .bankA) (ok .bankB) (ok .differ) (ok .allowed) (λ t. ok .allowed (T-along (c .symmetric b a (ok .bankB) (ok .bankA)) t)) in
+      record {
+        most = c .most;
+        symmetric = edited-one G (c .symmetric) a b (ok .bankA) (ok .bankB) (ok .differ) adding .symmetric;
+        apart = λ x l t. elim (or-cases (G .clash x x) (pair a b x x) t) [ inl u ↦ c .apart x l u | inr u ↦ pair-apart a b x (ok .differ) u ];
+        few = at-each (λ x. x < G .banks → degree (added G a b) x ≤ 23) (λ l. omega (arith, r .0, ok .room .0)) (λ l. omega (arith, r .1, ok .room .1))
+            (λ x na nb l. omega (arith, degree-added G a b x na nb, c .few x l));
+      }
+  clashes-edited striking ok =
+      let r = degrees-less G a b (ok .bankA) (ok .bankB) (ok .differ) (ok .allowed) (T-along (c .symmetric a b (ok .bankA) (ok .bankB)) (ok .allowed)) in
+      record {
+        most = c .most;
+        symmetric = edited-one G (c .symmetric) a b (ok .bankA) (ok .bankB) (ok .differ) striking .symmetric;
+        apart = λ x l t. c .apart x l (and-l (G .clash x x) (not (pair a b x x)) t);
+        few = at-each (λ x. x < G .banks → degree (struck G a b) x ≤ 23) (λ l. omega (arith, r .0, c .few a l)) (λ l. omega (arith, r .1, c .few b l))
+            (λ x na nb l. omega (arith, degree-struck G a b x na nb, c .few x l));
+      }
+
+  neighbours-kept : (k : Kind) (x : ℕ) → x ≢ a → x ≢ b → neighbours (edited k G a b) x ≡ neighbours G x
+  unfolding edited
+  neighbours-kept adding = neighbours-added G a b
+  neighbours-kept striking = neighbours-struck G a b
+
+-- the plan of clashes, put into slices that are long enough, is held by them
+pub plan-in : (H : Graph) (s : Slices) → Clashes H → longEnough (H .banks) s ≡ true → PlanOf H (planIn H s) (tallyOf H)
+plan-in H s c l = record { clashes = c; long = long-again H s l; cells = plan-over H H s refl; tally = refl }
+
+-- the plan cells of bank x: its row, its degree, its wave and its 24 cells of Counts
+pub record SameCells (was is : Slices) (x : ℕ) : Type 0 where
+  pub row : (i : ℕ) → i < 23 → getD (is .neighbours) (x * 23 + i) 0 ≡ getD (was .neighbours) (x * 23 + i) 0
+  pub degree : getD (is .degrees) x 0 ≡ getD (was .degrees) x 0
+  pub wave : getD (is .waves) x 0 ≡ getD (was .waves) x 0
+  pub counts : (c : ℕ) → c < 24 → getD (is .counts) (x * 24 + c) 0 ≡ getD (was .counts) (x * 24 + c) 0
+
+module _ (k : Kind) (G : Graph) (a b : ℕ) (m : Memory) (ready : Ready G m) (due : editNumber k G a b ≡ 0) where
+  abbrev H : Graph
+  H = edited k G a b
+
+  ok : Acceptable k G a b
+  ok = acceptable G a b k due
+
+  abbrev cl : Clashes G
+  cl = ready .plan .clashes
+
+  new-clashes : Clashes H
+  new-clashes = clashes-edited G a b cl k ok
+
+  -- memory holds the plan of the new clashes
+  pub after-plan : PlanOf H (accepted k G a b m .memory .slices) (accepted k G a b m .memory .tally)
+  unfolding accepted
+  after-plan = plan-in H (m .slices) new-clashes (rw (edited-banks k G a b) (ready .plan .long))
+
+  abbrev was : Held G (m .slices .neighbours) (m .slices .degrees) (m .slices .waves) (m .slices .counts) (m .tally .banks)
+  was = held-of G (m .slices) (m .tally) (ready .plan)
+
+  abbrev s′ : Slices
+  s′ = accepted k G a b m .memory .slices
+
+  is : Held H (s′ .neighbours) (s′ .degrees) (s′ .waves) (s′ .counts) (accepted k G a b m .memory .tally .banks)
+  is = held-of H s′ (accepted k G a b m .memory .tally) after-plan
+
+  -- and its waves are the rule's
+  pub after-waves : (x : ℕ) → x < G .banks → getD (s′ .waves) x 0 ≡ wave H x
+  after-waves x l = is .waves x (rw (edited-banks k G a b) l)
+
+  one : OneEdit G H a b
+  one = edited-one G (cl .symmetric) a b (ok .bankA) (ok .bankB) (ok .differ) k
+
+  module _ (x : ℕ) (l : x < G .banks) (off : T (onTrail k G H a b x) → ⊥) where
+    l′ : x < H .banks
+    l′ = rw (edited-banks k G a b) l
+
+    not-taken : T (isTaken G H a b x) → ⊥
+    not-taken t = off (T-along (sym (onTrail-taken G (cl .symmetric) a b (ok .bankA) (ok .bankB) (ok .differ) k (ok .allowed) x)) t)
+
+    named : T (isNamed a b x) → T (onTrail k G H a b x)
+    unfolding onTrail
+    named t = or-l (isNamed a b x || _) (isReached G H x) (or-l (isNamed a b x) _ t)
+
+    not-a : x ≢ a
+    not-a e = off (named (unfold isNamed in or-l (eqb x a) (eqb x b) (eq→eqb x a e)))
+
+    not-b : x ≢ b
+    not-b e = off (named (unfold isNamed in or-r (eqb x a) (eqb x b) (eq→eqb x b e)))
+
+    kept-neighbours : neighbours H x ≡ neighbours G x
+    kept-neighbours = neighbours-kept G a b cl k x not-a not-b
+
+    kept-wave : wave G x ≡ wave H x
+    kept-wave = off-trail G (cl .symmetric) a b (ok .bankA) (ok .bankB) (ok .differ) k (ok .allowed) x l′ off
+
+    degree-same : degree H x ≡ degree G x
+    unfolding degree
+    degree-same = ap length kept-neighbours
+
+    -- its earlier neighbours are those that it had, and keep their waves, since it would be reached otherwise
+    kept-counts : (c : ℕ) → standing (wave H) c (earlierNeighbours H x) ≡ standing (wave G) c (earlierNeighbours G x)
+    kept-counts c =
+        standing-cong (wave H) (wave G) c (earlierNeighbours H x) (λ v i.
+        let r = earlierNeighbours-in H x v i in
+        sym (unchanged G H a b one v (λ w. not-taken (taken-spread G H a b one v x (r .0) (both (H .clash v x) (earlier H v x) (T-along (one .symmetric x v l′ (r .0)) (and-l (H .clash x v) (earlier H v x) (r .1))) (and-r (H .clash x v) (earlier H v x) (r .1))) w))))
+        ∙ ap (standing (wave G) c) (sym (same-neighbours G H a b one x l′ (λ t. not-taken (taken-seed G H a b one x t))))
+
+    -- no plan cell of a bank off the trail differs
+    pub off-trail-cells : SameCells (m .slices) s′ x
+    off-trail-cells = record {
+      row = λ i h. is .rowed .rows x i l′ h ∙ ap (λ (r : List ℕ). getD r i 65535) kept-neighbours ∙ sym (was .rowed .rows x i l h);
+      degree = is .rowed .degrees x l′ ∙ degree-same ∙ sym (was .rowed .degrees x l);
+      wave = is .waves x l′ ∙ sym kept-wave ∙ sym (was .waves x l);
+      counts = λ c h. is .counted .cell x c l′ h ∙ kept-counts c ∙ sym (was .counted .cell x c l h);
+    }
+
+-- the edit that takes an edit back
+abbrev pub inverse : Kind → Kind
+inverse adding = striking
+inverse striking = adding
+
+pair-clash : (G : Graph) (a b : ℕ) → Clashes G → a < G .banks → b < G .banks → (x y : ℕ) → T (pair a b x y) → G .clash x y ≡ G .clash a b
+unfolding pair
+pair-clash G a b c la lb x y t =
+    elim (or-cases (eqb x a && eqb y b) (eqb x b && eqb y a) t) [
+      | inl u ↦ rw (eqb→eq x a (and-l (eqb x a) (eqb y b) u), eqb→eq y b (and-r (eqb x a) (eqb y b) u))
+      | inr u ↦ rw (eqb→eq x b (and-l (eqb x b) (eqb y a) u), eqb→eq y a (and-r (eqb x b) (eqb y a) u)) (c .symmetric b a lb la)
+    ]
+
+add-strike : (c p : Bool) → (T p → T c → ⊥) → ((c || p) && not p) ≡ c
+add-strike true true h = absurd (h tt tt)
+add-strike true false h = refl
+add-strike false true h = refl
+add-strike false false h = refl
+
+strike-add : (c p : Bool) → (T p → T c) → ((c && not p) || p) ≡ c
+strike-add true true h = refl
+strike-add true false h = refl
+strike-add false true h = absurd (h tt)
+strike-add false false h = refl
+
+module _ (G : Graph) (a b : ℕ) (c : Clashes G) where
+  -- back to the clashes before
+  pub edited-back : (k : Kind) → Acceptable k G a b → (x y : ℕ) → edited (inverse k) (edited k G a b) a b .clash x y ≡ G .clash x y
+  unfolding edited
+  edited-back adding ok x y =
+      add-strike (G .clash x y) (pair a b x y) (λ t u. ok .allowed (T-along (pair-clash G a b c (ok .bankA) (ok .bankB) x y t) u))
+  edited-back striking ok x y =
+      strike-add (G .clash x y) (pair a b x y) (λ t. T-along (sym (pair-clash G a b c (ok .bankA) (ok .bankB) x y t)) (ok .allowed))
+
+  pair-here : T (pair a b a b)
+  unfolding pair
+  pair-here = or-l (eqb a a && eqb b b) _ (both (eqb a a) (eqb b b) (eq→eqb a a refl) (eq→eqb b b refl))
+
+  is-true : (t : Bool) → T t → t ≡ true
+  is-true true u = refl
+  is-true false u = absurd u
+
+  is-false : (t : Bool) → (T t → ⊥) → t ≡ false
+  is-false true u = absurd (u tt)
+  is-false false u = refl
+
+  -- no refusal is due to it
+  pub back-due : (k : Kind) → Acceptable k G a b → editNumber (inverse k) (edited k G a b) a b ≡ 0
+  unfolding edited
+  back-due adding ok =
+      strike-fine (added G a b) a b (ok .bankA) (ok .bankB) (ok .differ) (is-true _ (or-r (G .clash a b) (pair a b a b) pair-here))
+  back-due striking ok =
+      let r = degrees-less G a b (ok .bankA) (ok .bankB) (ok .differ) (ok .allowed) (T-along (c .symmetric a b (ok .bankA) (ok .bankB)) (ok .allowed)) in
+      add-fine (struck G a b) a b (ok .bankA) (ok .bankB) (ok .differ) (is-false _ (λ t. T-not (pair a b a b) (and-r (G .clash a b) (not (pair a b a b)) t) pair-here))
+      (omega (arith, r .0, c .few a (ok .bankA))) (omega (arith, r .1, c .few b (ok .bankB)))
+
+module _ (k : Kind) (G : Graph) (a b : ℕ) (m : Memory) (ready : Ready G m) (due : editNumber k G a b ≡ 0) where
+  abbrev back : Memory
+  back = accepted (inverse k) (edited k G a b) a b (accepted k G a b m .memory) .memory
+
+  back-banks : edited (inverse k) (edited k G a b) a b .banks ≡ G .banks
+  back-banks = edited-banks (inverse k) (edited k G a b) a b ∙ edited-banks k G a b
+
+  -- an accepted edit and then its inverse, which is accepted too, give back the plan cell by cell, and the tally
+  pub inverse-due : editNumber (inverse k) (edited k G a b) a b ≡ 0
+  inverse-due = back-due G a b (ready .plan .clashes) k (acceptable G a b k due)
+
+  pub inverse-cells : back .slices ≡ m .slices
+  unfolding accepted
+  inverse-cells =
+      let K = edited (inverse k) (edited k G a b) a b in
+      plan-over (edited k G a b) K (m .slices) (edited-banks (inverse k) (edited k G a b) a b)
+      ∙ planIn-agree K G back-banks (λ x y lx ly. edited-back G a b (ready .plan .clashes) k (acceptable G a b k due) x y) (m .slices)
+      ∙ ready .plan .cells
+
+  pub inverse-tally : back .tally ≡ m .tally
+  unfolding accepted
+  inverse-tally =
+      let K = edited (inverse k) (edited k G a b) a b in
+      tally-agree K G back-banks (λ x y lx ly. edited-back G a b (ready .plan .clashes) k (acceptable G a b k due) x y) ∙ sym (ready .plan .tally)
+
+edit-same : (y : ℕ) (k : Kind) (G : Graph) (a b : ℕ) (m : Memory) (c : ℕ) → editBy y k G a b m .answer .number ≡ suc c → editBy y k G a b m ≡ refused (suc c) m
+unfolding editBy accepted refused
+edit-same zero k G a b m c e = absurd (omega (arith, e))
+edit-same (suc d) k G a b m c e = ap (λ (z : ℕ). editResult (noEdit z) m) e
+
+call-same : (x : ℕ) (k : Kind) (a b : ℕ) (m : Memory) (c : ℕ) → checkedBy x k a b m .answer .number ≡ suc c → checkedBy x k a b m ≡ refused (suc c) m
+unfolding checkedBy editOf refused
+call-same zero k a b m c e =
+    let G = graphIn (m .tally .banks) (m .slices) in edit-same (editNumber k G a b) k G a b m c e
+call-same (suc d) k a b m c e = ap (λ (z : ℕ). editResult (noEdit z) m) e
+
+-- a refused call leaves all as it was, and its answer is the number with counts 0
+pub refused-same : (k : Kind) (a b : ℕ) (m : Memory) (c : ℕ) → edit k a b m .answer .number ≡ suc c → edit k a b m ≡ refused (suc c) m
+unfolding edit
+refused-same k a b m c e = call-same (memoryNumber m) k a b m c e

@@ -1,0 +1,187 @@
+-- What an edit of memory that holds a plan leaves, refused and accepted; and the calls add and strike over it.
+use mathlib.Core.Bool.{Bool, true, false, cond, _&&_, not}
+use mathlib.Core.List.{List, [], _∷_}
+use mathlib.Core.Logic.{_≢_}
+use mathlib.Core.Path.{_≡_, refl, sym, ap, ap₂, subst, _∙_}
+use native.Mathlib.Omega.{arith}
+use Prim.Native.Nat.{ℕ, zero, suc, _≤_, _<_}
+use lib.Dec.{T, ltb, eqb}
+use lib.ListN.{length}
+use Rattle.rule.specs.Graph.{Graph, degree}
+use Rattle.rule.specs.WorkList.{Allowed}
+use borrow.Author.Tests.{ltb-true, eqb-false, not-true}
+use Rattle.planner.specs.Questions.{Question, firstNo}
+use Rattle.rule.specs.Wave.{waves}
+use Rattle.rule.specs.Lists.{upto}
+use Rattle.rule.specs.Reach.{Kind, adding, striking, edited, changed, onTrail, trail, moved}
+use Rattle.rule.proofs.Lists.{length-upto, filter-short}
+use Rattle.rule.proofs.Reaches.{count-order}
+use Rattle.memory.specs.declared.Tally.{Tally}
+use Rattle.memory.specs.Cells.{over}
+use Rattle.memory.specs.Plan.{Slices, slicesOf, neighbourCells, degreeCells, countCells, planIn, tallyOf, graphIn, PlanOf}
+use Rattle.memory.proofs.Fronts.{over-long}
+use Rattle.memory.proofs.Views.{tally-banks, held-of, plan-of}
+use Rattle.edits.specs.declared.edit.Accepted.{Accepted}
+use Rattle.edits.specs.Lent.{Lent, lentOf}
+use Rattle.edits.specs.Edits.{HasRoom, Acceptable, Editable, Result}
+use Rattle.planner.specs.declared.Answer.{Answer}
+use Rattle.planner.specs.declared.Edited.{Edited}
+use Rattle.planner.specs.Calls.{Memory, memoryOf, EditResult, editResult, noEdit, refused, accepted, clashQuestions, editNumber, editBy, editOf, planNumber, memoryNumber, checkedBy, edit}
+use Rattle.planner.specs.Held.{Ready, graphBy, graphAfter, Edits}
+use Rattle.rule.proofs.Booleans.{T-along}
+use Rattle.planner.proofs.Numbers.{none, both-true, memory-passed, number-ready}
+
+-- the number 0 says that no refusal is due
+module _ (G : Graph) (a b : ℕ) where
+  abbrev N : ℕ
+  N = G .banks
+
+  pub acceptable : (k : Kind) → editNumber k G a b ≡ 0 → Acceptable k G a b
+  unfolding editNumber
+  acceptable k e =
+      let q = none (ltb a N && ltb b N) 3 (record { holds = not (eqb a b); number = 5 } ∷ clashQuestions k G a b) e in
+      let r = none (not (eqb a b)) 4 (clashQuestions k G a b) (q .1) in
+      let u = both-true (ltb a N) (ltb b N) (q .0) in
+      let w = clashes k (r .1) in
+      record { bankA = ltb-true a N (u .0); bankB = ltb-true b N (u .1); differ = eqb-false a b (not-true (eqb a b) (r .0)); allowed = w .0; room = w .1 }
+    where
+      clashes : (k : Kind) → firstNo (clashQuestions k G a b) ≡ 0 → Allowed k G a b × HasRoom k G a b
+      clashes adding e = unfold clashQuestions in free (unfold clashQuestions in e)
+        where
+          free : firstNo (record { holds = not (G .clash a b); number = 6 } ∷ record { holds = ltb (degree G a) 23 && ltb (degree G b) 23; number = 8 } ∷ []) ≡ 0
+              → (T (G .clash a b) → ⊥) × ((degree G a < 23) × (degree G b < 23))
+          free e =
+              let r = none (not (G .clash a b)) 5 (record { holds = ltb (degree G a) 23 && ltb (degree G b) 23; number = 8 } ∷ []) e in
+              let u = none (ltb (degree G a) 23 && ltb (degree G b) 23) 7 [] (r .1) in
+              let w = both-true (ltb (degree G a) 23) (ltb (degree G b) 23) (u .0) in
+              (T-along (not-true (G .clash a b) (r .0)), (ltb-true (degree G a) 23 (w .0), ltb-true (degree G b) 23 (w .1)))
+      clashes striking e = there (unfold clashQuestions in e)
+        where
+          there : firstNo (record { holds = G .clash a b; number = 7 } ∷ []) ≡ 0 → T (G .clash a b) × Unit {0}
+          there e = (T-along (sym (none (G .clash a b) 6 [] e .0)) tt, tt)
+
+-- the same memory with this tally
+abbrev with : Memory → Tally → Memory
+with m t = record { slices = m .slices; tally = t; trail = m .trail; moved = m .moved }
+
+pub edited-banks : (k : Kind) (G : Graph) (a b : ℕ) → edited k G a b .banks ≡ G .banks
+unfolding edited
+edited-banks Kind.adding G a b = refl
+edited-banks Kind.striking G a b = refl
+
+-- refused: the number is not 0, the answer has it and memory is as it was
+module _ (k : Kind) (G : Graph) (a b : ℕ) (m : Memory) where
+  edit-by : (c : ℕ) → c ≡ editNumber k G a b → editBy c k G a b m ≡ editOf k G a b m
+  unfolding editOf
+  edit-by c e = ap (λ (x : ℕ). editBy x k G a b m) e
+
+  after-by : (c : ℕ) → c ≡ editNumber k G a b → graphBy c k G a b ≡ graphAfter k G a b
+  unfolding graphAfter
+  after-by c e = ap (λ (x : ℕ). graphBy x k G a b) e
+
+  pub edit-refused : Ready G m → (c : ℕ) → c ≡ editNumber k G a b → c ≢ 0 → (r : Edited) → r .answer ≡ noEdit c → r .tally ≡ m .tally
+      → Edits k G a b m r (with m (r .tally))
+  edit-refused ready zero e n r p q = absurd (n refl)
+  edit-refused ready (suc c) e n r p q = record {
+    is = ap₂ (λ (x : Answer) (t : Tally). editResult x (with m t)) p q ∙ unfold editBy refused in edit-by (suc c) e;
+    ready = rw (q, ← (after-by (suc c) e)) (unfold graphBy in ready);
+  }
+
+-- trail and moved name no more banks than there are
+trail-few : (k : Kind) (old new : Graph) (a b : ℕ) → length (trail k old new a b) ≤ new .banks
+unfolding trail
+trail-few k old new a b =
+    omega (arith, count-order new (onTrail k old new a b), filter-short (onTrail k old new a b) (upto (new .banks)), length-upto (new .banks))
+
+moved-few : (old new : Graph) → length (moved old new) ≤ new .banks
+unfolding moved
+moved-few old new = omega (arith, count-order new (changed old new), filter-short (changed old new) (upto (new .banks)), length-upto (new .banks))
+
+abbrev pub lent : Memory → Lent
+lent m = lentOf (m .slices .neighbours) (m .slices .degrees) (m .slices .waves) (m .slices .counts) (m .trail) (m .moved)
+
+-- accepted
+module _ (k : Kind) {G : Graph} (a b : ℕ) {m : Memory} (ready : Ready G m) (e : 0 ≡ editNumber k G a b) where
+  abbrev H : Graph
+  H = edited k G a b
+
+  pub editable : Editable k G (lent m) (m .tally) a b
+  editable =
+      let n = tally-banks (m .tally) G (ready .plan .tally) in
+      record {
+        acceptable = acceptable G a b k (sym e);
+        held = held-of G (m .slices) (m .tally) (ready .plan);
+        tally = ready .plan .tally;
+        wide-trail = omega (arith, ready .trailRoom);
+        wide-moved = omega (arith, ready .movedRoom);
+      }
+
+  module _ {ns ds ws cs tr mv : List ℕ} {r : Accepted} (done : Result k G a b (lent m) (lentOf ns ds ws cs tr mv) r) where
+    abbrev answer : Answer
+    answer = record { number = 0; moved = r .moved; trail = r .trail }
+
+    is-accepted : editResult answer (memoryOf ns ds ws cs tr mv (r .tally)) ≡ accepted k G a b m
+    unfolding accepted planIn
+    is-accepted = λ i. record {
+      answer = record { number = 0; moved = done .movedCount i; trail = done .trailCount i };
+      memory = record {
+        slices = record { neighbours = done .rightNeighbours i; degrees = done .rightDegrees i; waves = done .rightWaves i; counts = done .rightCounts i };
+        tally = done .tally i;
+        trail = done .rightTrail i;
+        moved = done .rightMoved i;
+      };
+    }
+
+    ready-after : Ready H (memoryOf ns ds ws cs tr mv (r .tally))
+    ready-after =
+        let same = edited-banks k G a b in
+        record {
+          plan = plan-of H (slicesOf ns ds ws cs) (r .tally) (r .tally .banks) (done .held) (done .tally);
+          trailRoom = omega (arith, over-long (trail k G H a b) tr (m .trail) (omega (arith, trail-few k G H a b, ready .trailRoom)) (done .rightTrail), ready .trailRoom);
+          movedRoom = omega (arith, over-long (moved G H) mv (m .moved) (omega (arith, moved-few G H, ready .movedRoom)) (done .rightMoved), ready .movedRoom);
+        }
+
+    pub edit-accepted : Edits k G a b m (record { answer = answer; tally = r .tally }) (memoryOf ns ds ws cs tr mv (r .tally))
+    edit-accepted = record {
+      is = is-accepted ∙ unfold editBy in edit-by k G a b m 0 e;
+      ready = rw (← (after-by k G a b m 0 e)) (unfold graphBy in ready-after);
+    }
+
+-- the calls add and strike: refused by questions 3 to 5, or an edit of the plan that memory holds
+module _ (k : Kind) (a b : ℕ) (m : Memory) where
+  checked-by : (c : ℕ) → c ≡ memoryNumber m → checkedBy c k a b m ≡ edit k a b m
+  unfolding edit
+  checked-by c e = ap (λ (x : ℕ). checkedBy x k a b m) e
+
+  pub call-refused : (c : ℕ) → c ≡ memoryNumber m → c ≢ 0 → (r : Edited) → r .answer ≡ noEdit c → r .tally ≡ m .tally → editResult (r .answer) (with m (r .tally)) ≡ edit k a b m
+  call-refused zero e n r p q = absurd (n refl)
+  call-refused (suc c) e n r p q = ap₂ (λ (x : Answer) (t : Tally). editResult x (with m t)) p q ∙ unfold checkedBy refused in checked-by (suc c) e
+
+  pub call-held : 0 ≡ memoryNumber m → {r : Edited} {m′ : Memory} → Edits k (graphIn (m .tally .banks) (m .slices)) a b m r m′ → editResult (r .answer) m′ ≡ edit k a b m
+  call-held e d = d .is ∙ unfold checkedBy in checked-by 0 e
+
+accepted-by : (c : ℕ) (k : Kind) (G : Graph) (a b : ℕ) (m : Memory) → editBy c k G a b m .answer .number ≡ 0 → (c ≡ 0) × (editBy c k G a b m ≡ accepted k G a b m)
+unfolding editBy refused
+accepted-by zero k G a b m e = (refl, refl)
+accepted-by (suc c) k G a b m e = absurd (omega (arith, e))
+
+call-by : (c : ℕ) (k : Kind) (a b : ℕ) (m : Memory) → checkedBy c k a b m .answer .number ≡ 0
+    → (c ≡ 0) × (editOf k (graphIn (m .tally .banks) (m .slices)) a b m .answer .number ≡ 0) × (checkedBy c k a b m ≡ editOf k (graphIn (m .tally .banks) (m .slices)) a b m)
+unfolding checkedBy refused
+call-by zero k a b m e = (refl, e, refl)
+call-by (suc c) k a b m e = absurd (omega (arith, e))
+
+-- a call that is accepted is the edit of the plan that memory holds, to which no refusal was due
+pub accepted-edit : (k : Kind) (a b : ℕ) (m : Memory) → edit k a b m .answer .number ≡ 0
+    → Ready (graphIn (m .tally .banks) (m .slices)) m × (editNumber k (graphIn (m .tally .banks) (m .slices)) a b ≡ 0)
+    × (edit k a b m ≡ accepted k (graphIn (m .tally .banks) (m .slices)) a b m)
+unfolding edit
+accepted-edit k a b m e =
+    let G = graphIn (m .tally .banks) (m .slices) in
+    let q = call-by (memoryNumber m) k a b m e in
+    let p = memory-passed m (q .0) in
+    let r = accepted-of G (q .1) in
+    (number-ready m (p .0) (p .1) (p .2), r .0, q .2 ∙ r .1)
+  where
+    accepted-of : (G : Graph) → editOf k G a b m .answer .number ≡ 0 → (editNumber k G a b ≡ 0) × (editOf k G a b m ≡ accepted k G a b m)
+    accepted-of G e = unfold editOf in accepted-by (editNumber k G a b) k G a b m e

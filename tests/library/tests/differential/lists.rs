@@ -1,0 +1,82 @@
+//! Lists: every cell after the pass, whether it was accepted or refused, and the sheet after it.
+
+use crate::pair::{Call, Pair};
+use crate::plans::{any_memory, slices};
+use crate::{quick, rounds};
+use independent::list::{n_row, rows};
+use independent::lists;
+use independent::random::Random;
+
+#[test]
+fn edges() {
+    for (seed, case) in (81..).zip(lists::edges()) {
+        if quick() && case.list.len() > 1000 {
+            continue;
+        }
+        read(&mut Random::new(seed), &case.list);
+    }
+}
+
+#[test]
+fn malformed_lists() {
+    let mut random = Random::new(82);
+    let every = if quick() { 40 } else { 1 };
+    for list in lists::malformed_lists().iter().step_by(every) {
+        read(&mut random, list);
+    }
+    for list in lists::near_lists().iter().step_by(every) {
+        read(&mut random, list);
+    }
+}
+
+#[test]
+fn random_lists() {
+    let mut random = Random::new(83);
+    for _ in 0..rounds(400) {
+        let list = lists::random_list(&mut random);
+        read(&mut random, &list);
+    }
+}
+
+/// A list of 60,000 bytes that adds and strikes the same clashes again and again, the same list
+/// with its last row cut short, and the list with one byte more.
+#[test]
+fn long_lists() {
+    let mut random = Random::new(84);
+    let mut list = b"N 9".to_vec();
+    let mut there = [[false; 9]; 9];
+    while list.len() + 6 <= 60_000 {
+        let (a, b) = (random.below(9), random.below(9));
+        if a != b {
+            let (low, high) = (a.min(b), a.max(b));
+            let sign = if there[low][high] { '-' } else { '+' };
+            there[low][high] ^= true;
+            list.extend(format!("\n{sign} {a} {b}").bytes());
+        }
+    }
+    list.resize(60_000, b'\n');
+    if quick() {
+        list.drain(3..57_003);
+    }
+    read(&mut random, &list);
+    list.pop();
+    list.pop();
+    read(&mut random, &list);
+    list.resize(60_001, b'\n');
+    read(&mut random, &list);
+}
+
+/// Reads the list into memory of any content, as a rule with room for its banks; then writes the
+/// sheet.
+fn read(random: &mut Random, list: &[u8]) {
+    let first = rows(list).first().and_then(|row| n_row(row));
+    let n = first.unwrap_or(4).min(1024);
+    let mut memory = any_memory(random, n);
+    if random.one_in(12) && n > 0 {
+        let slice = random.below(6);
+        slices(&mut memory)[slice].truncate(n - 1);
+    }
+    let mut pair = Pair::new(memory, random.draw());
+    pair.call(&Call::ReadList(list.to_vec()));
+    pair.call(&Call::WriteSheet(5000));
+}

@@ -1,0 +1,37 @@
+//! The static library against the model: after each call, every cell that was lent.
+//!
+//! - `guarded`: slices between guard cells.
+//! - `pair`: the library's memory and the model's, and a call made on both.
+//! - `plans`: random plans of all sizes and degrees.
+//! - `edits`: sequences of edits, accepted and refused.
+//! - `damage`, `damaged`: memory that holds no plan or is too short, and the calls on it.
+//! - `lists`, `sheets`: reading lists and writing sheets.
+//! - `short`: tally and result slices that are too short.
+//! - `marked`: the paper's marked examples, through the wrapper that owns its memory.
+//!
+//! With WAVE_PLAN_QUICK set, each test makes fewer calls, for a run under a memory checker.
+
+mod damage;
+mod damaged;
+mod edits;
+mod guarded;
+mod lists;
+mod marked;
+mod pair;
+mod plans;
+mod sheets;
+mod short;
+
+/// Whether the tests make fewer calls.
+fn quick() -> bool {
+    std::env::var_os("WAVE_PLAN_QUICK").is_some()
+}
+
+/// How many rounds a test makes.
+fn rounds(all: usize) -> usize {
+    if quick() {
+        (all / 40).max(2)
+    } else {
+        all
+    }
+}

@@ -1,0 +1,91 @@
+//! The paper's marked examples and its example sheet, through the wrapper that owns its memory.
+
+use library_tests::{Bank, Edit, Plan, Refused, Wave};
+
+fn banks(numbers: &[u16]) -> Vec<Bank> {
+    numbers.iter().copied().map(Bank).collect()
+}
+
+fn opened(n: u16, clashes: &[(u16, u16)]) -> Plan {
+    let mut plan = Plan::open(n).expect("opened");
+    for &(a, b) in clashes {
+        plan.add(Bank(a), Bank(b)).expect("added");
+    }
+    plan
+}
+
+fn waves(plan: &mut Plan, n: u16) -> Vec<u16> {
+    let wave = |b| plan.wave_of(Bank(b)).expect("a bank").0;
+    (0..n).map(wave).collect()
+}
+
+fn reach(edit: Result<Edit, Refused>, trail: &[u16], moved: &[u16]) {
+    let edit = edit.expect("accepted");
+    assert_eq!(edit.trail, banks(trail));
+    assert_eq!(edit.moved, banks(moved));
+}
+
+#[test]
+fn m1() {
+    assert_eq!(opened(0, &[]).sheet(), Ok("WAVES 0\n".to_string()));
+}
+
+#[test]
+fn m2_to_m4() {
+    let mut plan = opened(3, &[]);
+    reach(plan.add(Bank(1), Bank(2)), &[1, 2], &[2]);
+    assert_eq!(waves(&mut plan, 3), [0, 0, 1]);
+    reach(plan.add(Bank(0), Bank(1)), &[1, 0], &[0]);
+    assert_eq!(waves(&mut plan, 3), [1, 0, 1]);
+    reach(plan.add(Bank(0), Bank(2)), &[0, 1, 2], &[0, 1, 2]);
+    assert_eq!(waves(&mut plan, 3), [0, 1, 2]);
+}
+
+#[test]
+fn m5_to_m7() {
+    let mut plan = opened(4, &[(0, 1), (1, 2), (2, 3)]);
+    assert_eq!(waves(&mut plan, 4), [1, 0, 1, 0]);
+    reach(plan.add(Bank(0), Bank(3)), &[0, 1, 2, 3], &[0, 1, 2, 3]);
+    assert_eq!(waves(&mut plan, 4), [0, 1, 0, 1]);
+    reach(plan.strike(Bank(0), Bank(3)), &[1, 2, 0, 3], &[1, 2, 0, 3]);
+    assert_eq!(waves(&mut plan, 4), [1, 0, 1, 0]);
+}
+
+#[test]
+fn m8_to_m9() {
+    let clashes = [(0, 4), (0, 2), (2, 3), (1, 3), (1, 5), (2, 5)];
+    let mut plan = opened(6, &clashes);
+    assert_eq!(waves(&mut plan, 6), [1, 0, 0, 1, 0, 1]);
+    assert_eq!(plan.clashes_of(Bank(2)), Ok(banks(&[0, 3, 5])));
+    reach(
+        plan.strike(Bank(2), Bank(5)),
+        &[0, 2, 3, 4, 5],
+        &[0, 2, 3, 4],
+    );
+    assert_eq!(waves(&mut plan, 6), [0, 0, 1, 2, 1, 1]);
+    assert_eq!(plan.clashes_of(Bank(2)), Ok(banks(&[0, 3])));
+}
+
+#[test]
+fn the_example_list() {
+    let list = b"N 4\n+ 0 1\n+ 1 2\n+ 2 3\n+ 0 3";
+    let mut plan = Plan::read_list(list).expect("accepted");
+    assert_eq!(plan.sheet(), Ok("WAVES 2\nA 0 2\nB 1 3\n".to_string()));
+    assert_eq!(plan.wave_of(Bank(3)), Ok(Wave(1)));
+}
+
+#[test]
+fn refusals() {
+    let refused = |number, row| Refused { number, row };
+    assert_eq!(Plan::open(1025).err(), Some(refused(1, 0)));
+    let mut plan = opened(2, &[(0, 1)]);
+    assert_eq!(plan.add(Bank(0), Bank(2)), Err(refused(4, 0)));
+    assert_eq!(plan.add(Bank(1), Bank(1)), Err(refused(5, 0)));
+    assert_eq!(plan.add(Bank(1), Bank(0)), Err(refused(6, 0)));
+    assert_eq!(plan.wave_of(Bank(2)), Err(refused(4, 0)));
+    assert_eq!(plan.clashes_of(Bank(2)), Err(refused(4, 0)));
+    assert!(plan.strike(Bank(1), Bank(0)).is_ok());
+    assert_eq!(plan.strike(Bank(1), Bank(0)), Err(refused(7, 0)));
+    let list = b"N 2\n+ 0 1\n+ 05 1";
+    assert_eq!(Plan::read_list(list).err(), Some(refused(11, 3)));
+}

@@ -1,0 +1,119 @@
+//! Random plans of all sizes, of few clashes to full degrees.
+
+use independent::graph::{Bank, Graph};
+use independent::memory::Memory;
+use independent::plan::{MAX_DEGREE, WAVES};
+use independent::random::Random;
+use std::collections::BTreeSet;
+
+/// A random bank count up to the given one; small ones and the edges are the most frequent.
+pub fn bank_count(random: &mut Random, most: usize) -> usize {
+    let n = match random.below(20) {
+        0 => random.between(0, 1),
+        1..=6 => random.between(2, 8),
+        7..=13 => random.between(9, 30),
+        14 | 15 => *random.pick(&[24, 25, 1023, 1024]),
+        16..=18 => random.between(31, 120),
+        _ => random.between(121, 1024),
+    };
+    n.min(most)
+}
+
+/// A graph on n banks of one of the kinds below.
+pub fn graph(random: &mut Random, n: usize) -> Graph {
+    if n < 2 {
+        return Graph::empty(n);
+    }
+    let full = (n - 1).min(MAX_DEGREE);
+    match random.below(8) {
+        0 => Graph::empty(n),
+        1 => ring(n, random.between(1, 11)),
+        2 => blocks(n, random.between(2, 24)),
+        3 => blocks(n, 24),
+        4 => drawn(random, n, n, n * full),
+        5 => {
+            let tries = random.below(2 * n);
+            drawn(random, n, n, tries)
+        }
+        _ => {
+            let (hot, tries) = (random.between(2, 30), random.below(12 * n));
+            drawn(random, n, hot, tries)
+        }
+    }
+}
+
+/// From so many tries to add a clash. Banks below `hot` are drawn more often, so that high degrees
+/// and waves come up.
+fn drawn(random: &mut Random, n: usize, hot: usize, tries: usize) -> Graph {
+    let mut clashes = BTreeSet::new();
+    let mut degrees = vec![0; n];
+    for _ in 0..tries {
+        let range = if random.one_in(3) { n } else { hot.min(n) };
+        let (a, b) = (random.below(range), random.below(range));
+        let room = degrees[a] < MAX_DEGREE && degrees[b] < MAX_DEGREE;
+        if a != b && room && clashes.insert((a.min(b), a.max(b))) {
+            degrees[a] += 1;
+            degrees[b] += 1;
+        }
+    }
+    Graph::of(n, clashes)
+}
+
+/// Each bank clashes with the banks up to so many places further on in a ring: equal degrees.
+fn ring(n: usize, width: usize) -> Graph {
+    let width = width.min((n - 1) / 2);
+    let clash = move |b: Bank| (1..=width).map(move |step| (b, (b + step) % n));
+    Graph::of(n, (0..n).flat_map(clash))
+}
+
+/// All clashes within each block of so many banks. Blocks of 24 have full degrees and all waves.
+pub fn blocks(n: usize, size: usize) -> Graph {
+    let clash = move |b: Bank| (b - b % size..b).map(move |q| (q, b));
+    Graph::of(n, (0..n).flat_map(clash))
+}
+
+/// Memory for n banks of any content, each slice longer than needed by some cells.
+pub fn any_memory(random: &mut Random, n: usize) -> Memory {
+    let mut memory = Memory::filled(0, random.draw() as u16);
+    let lengths = [MAX_DEGREE * n, n, n, WAVES * n, n, n];
+    for (slice, needed) in slices(&mut memory).into_iter().zip(lengths) {
+        let spare = if random.one_in(3) {
+            0
+        } else {
+            random.below(40)
+        };
+        *slice = (0..needed + spare).map(|_| random.draw() as u16).collect();
+    }
+    memory
+}
+
+/// Such memory that holds the plan of a graph.
+pub fn memory_of(random: &mut Random, graph: &Graph) -> Memory {
+    let mut memory = any_memory(random, graph.banks());
+    memory.store_plan(graph);
+    memory
+}
+
+/// The six slices.
+pub fn slices(memory: &mut Memory) -> [&mut Vec<u16>; 6] {
+    [
+        &mut memory.neighbours,
+        &mut memory.degrees,
+        &mut memory.waves,
+        &mut memory.counts,
+        &mut memory.trail,
+        &mut memory.moved,
+    ]
+}
+
+/// The neighbours of b in memory that holds a plan.
+pub fn row(memory: &Memory, b: Bank) -> &[u16] {
+    let degree = usize::from(memory.degrees[b]);
+    &memory.neighbours[MAX_DEGREE * b..][..degree]
+}
+
+/// The sheet's length in memory that holds a plan.
+pub fn sheet_length(memory: &Memory) -> usize {
+    let mut output = [0; 5000];
+    memory.write_sheet(&mut output).length
+}

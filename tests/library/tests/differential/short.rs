@@ -1,0 +1,72 @@
+//! Tally slices of fewer than three cells and result slices of fewer than the call needs: 2 before
+//! any other number, and nothing changes.
+
+use crate::guarded::{assert_same, Guarded, Slices};
+use crate::pair::{make, tally_cells, Call};
+use crate::plans::memory_of;
+use independent::graph::Graph;
+use independent::memory::Memory;
+use independent::random::Random;
+
+#[test]
+fn short_tally_or_result() {
+    let mut random = Random::new(95);
+    let whole = memory_of(&mut random, &Graph::of(4, [(0, 1), (1, 2)]));
+    let mut too_many_banks = whole.clone();
+    too_many_banks.tally.banks = 2000;
+    let mut no_plan = whole.clone();
+    no_plan.waves[0] += 1;
+    let mut no_room = whole.clone();
+    no_room.degrees.clear();
+    let calls = [
+        (Call::Open(4), 0),
+        (Call::Open(2000), 0),
+        (Call::Add(0, 2), 2),
+        (Call::Add(9, 9), 2),
+        (Call::Strike(0, 1), 2),
+        (Call::Strike(0, 3), 2),
+        (Call::WaveOf(1), 1),
+        (Call::WaveOf(9), 1),
+        (Call::ClashesOf(1), 2),
+        (Call::ClashesOf(9), 2),
+        (Call::ReadList(b"N 3\n+ 0 1".to_vec()), 1),
+        (Call::ReadList(b"N 3\n+ 0".to_vec()), 1),
+        (Call::ReadList(b"".to_vec()), 1),
+        (Call::ReadList(vec![b' '; 60_001]), 1),
+        (Call::WriteSheet(100), 1),
+        (Call::WriteSheet(0), 1),
+    ];
+    for memory in [&whole, &too_many_banks, &no_plan, &no_room] {
+        for (call, results) in &calls {
+            for tally in 0..=4 {
+                for result in 0..=3 {
+                    if tally < 3 || result < *results {
+                        refused(memory, call, tally, result);
+                    }
+                }
+            }
+        }
+    }
+}
+
+/// The call with tally and result slices of these lengths gets 2, and nothing changes.
+fn refused(memory: &Memory, call: &Call, tally: usize, result: usize) {
+    let mut cells = tally_cells(memory).to_vec();
+    cells.resize(tally, 7);
+    let mut slices = Slices::new(memory, &cells, &vec![7777; result]);
+    let before = slices.clone();
+    let length = match call {
+        Call::WriteSheet(length) => *length,
+        _ => 0,
+    };
+    let mut output = Guarded::new(&vec![b'#'; length], b'!');
+    let about = || format!("{call:.40?}, tally of {tally} cells, result of {result}");
+    let number = make(call, &mut slices, output.lend());
+    assert_eq!(number, 2, "{}", about());
+    for ((name, slice), (_, old)) in slices.named().into_iter().zip(before.named()) {
+        assert_same(slice.content(), old.content(), &|| about() + name);
+        assert!(slice.guards_stand(), "{}: {name}", about());
+    }
+    let untouched = output.content().iter().all(|&byte| byte == b'#');
+    assert!(untouched && output.guards_stand(), "{}: output", about());
+}
