@@ -16,14 +16,16 @@ const BOTTOM: f64 = 370.0;
 struct Series {
     name: &'static str,
     colour: &'static str,
+    /// How far below its point a label stands.
+    label: f64,
     spreads: Vec<Spread>,
 }
 
 pub fn svg(plans: &[Measured]) -> String {
     let series = [
-        series(plans, "core edit", "#1b7f5c", |plan| &plan.core),
-        series(plans, "checked edit", "#b3541e", |plan| &plan.checked),
-        series(plans, "question 5", "#3a5fa8", |plan| &plan.question),
+        series(plans, "core edit", "#1b7f5c", -8.0, |plan| &plan.core),
+        series(plans, "checked edit", "#b3541e", -8.0, |plan| &plan.checked),
+        series(plans, "question 5", "#3a5fa8", 18.0, |plan| &plan.question),
     ];
     let scale = Scale::around(&series, plans.len());
     let mut svg = format!(
@@ -44,12 +46,14 @@ fn series(
     plans: &[Measured],
     name: &'static str,
     colour: &'static str,
+    label: f64,
     times: fn(&Measured) -> &Vec<f64>,
 ) -> Series {
     let spread = |plan| Spread::ratio(times(plan), &plan.counting_sort);
     Series {
         name,
         colour,
+        label,
         spreads: plans.iter().map(spread).collect(),
     }
 }
@@ -125,7 +129,7 @@ fn curve(svg: &mut String, series: &Series, scale: &Scale) {
         }
         dot(svg, (x, y), colour);
         let label = figure(spread.median);
-        text(svg, (x + 9.0, y - 6.0), "start", &label);
+        text(svg, (x + 9.0, y + series.label), "start", &label);
     }
 }
 

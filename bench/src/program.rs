@@ -17,7 +17,7 @@ use std::{env, thread};
 pub const RUNS: usize = 15;
 
 /// How often the model is run.
-pub const MODEL_RUNS: usize = 3;
+pub const MODEL_RUNS: usize = 5;
 
 /// Waves from scratch after every row.
 const EVERY_ROW: &str = "every-row";

@@ -1,6 +1,7 @@
 // The planner: a wave plan in caller-lent memory.
 mod checks;
 mod editing;
+mod lent;
 mod opening;
 mod reading;
 
@@ -9,6 +10,9 @@ pub use editing::add_core;
 pub use editing::add_held;
 pub use editing::strike_core;
 pub use editing::strike_held;
+pub use lent::add;
+pub use lent::open;
+pub use lent::strike;
 pub use opening::open_core;
 pub use reading::clashes_held;
 pub use reading::clashes_of;

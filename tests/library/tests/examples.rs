@@ -1,5 +1,6 @@
 //! The examples for C and for Rust: both are compiled, linked with the static library and run, and
-//! print what tests/c/expected.txt holds.
+//! print what tests/c/expected.txt holds. Library and header are those of the repository, or those
+//! in the folders WAVE_PLAN_LIB_DIR and WAVE_PLAN_INCLUDE_DIR.
 
 use std::env;
 use std::fs;

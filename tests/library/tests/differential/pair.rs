@@ -4,9 +4,10 @@ use crate::guarded::{assert_same, Guarded, Slices};
 use independent::memory::Memory;
 use independent::random::Random;
 use independent::refusals::ACCEPTED;
+use std::fmt;
 
 /// A call with its arguments; a sheet's is the length of its output.
-#[derive(Clone, Debug)]
+#[derive(Clone)]
 pub enum Call {
     Open(u16),
     Add(u16, u16),
@@ -15,6 +16,24 @@ pub enum Call {
     ClashesOf(u16),
     ReadList(Vec<u8>),
     WriteSheet(usize),
+}
+
+/// The call for a message; a list is cut short.
+impl fmt::Display for Call {
+    fn fmt(&self, f: &mut fmt::Formatter) -> fmt::Result {
+        match self {
+            Call::Open(n) => write!(f, "open {n}"),
+            Call::Add(a, b) => write!(f, "add {a} {b}"),
+            Call::Strike(a, b) => write!(f, "strike {a} {b}"),
+            Call::WaveOf(b) => write!(f, "wave of {b}"),
+            Call::ClashesOf(b) => write!(f, "clashes of {b}"),
+            Call::ReadList(list) => {
+                let front = &list[..list.len().min(80)];
+                write!(f, "list of {} bytes, {}", list.len(), front.escape_ascii())
+            }
+            Call::WriteSheet(length) => write!(f, "sheet into {length} bytes"),
+        }
+    }
 }
 
 /// The answer to a call: the number, and the cells of the result slice.
@@ -65,7 +84,7 @@ impl Pair {
         let wanted = self.model_answer(call, &mut model_output);
         let about = |what: &str| {
             let n = self.model.tally.banks;
-            format!("{call:.80?} at {n} banks: {what}")
+            format!("{call}, at {n} banks: {what}")
         };
         assert_eq!(number, wanted.number, "{}", about("number"));
         assert_same(output.content(), &model_output, &|| about("output"));

@@ -60,11 +60,13 @@ fn refused(memory: &Memory, call: &Call, tally: usize, result: usize) {
         _ => 0,
     };
     let mut output = Guarded::new(&vec![b'#'; length], b'!');
-    let about = || format!("{call:.40?}, tally of {tally} cells, result of {result}");
+    let about = || format!("{call}, tally of {tally} cells, result of {result}");
     let number = make(call, &mut slices, output.lend());
     assert_eq!(number, 2, "{}", about());
     for ((name, slice), (_, old)) in slices.named().into_iter().zip(before.named()) {
-        assert_same(slice.content(), old.content(), &|| about() + name);
+        assert_same(slice.content(), old.content(), &|| {
+            format!("{}: {name}", about())
+        });
         assert!(slice.guards_stand(), "{}: {name}", about());
     }
     let untouched = output.content().iter().all(|&byte| byte == b'#');

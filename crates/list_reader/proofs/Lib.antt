@@ -1,0 +1,8 @@
+-- Theorems: what to cite. The others: its proofs, and laws for the functions' proofs.
+pub mod Lengths
+pub mod Made
+pub mod Struck
+pub mod Passing
+pub mod Opening
+pub mod Kept
+pub mod Theorems

@@ -1,0 +1,181 @@
+-- A row's edit, and the pass over the rows, as the functions make them.
+use mathlib.Core.List.{List, [], _∷_}
+use mathlib.Core.Logic.{⊎-elim}
+use mathlib.Core.Path.{_≡_, refl, sym, ap, _∙_}
+use Prim.Native.Nat.{ℕ, zero, suc, _+_, _-_, _≤_, _<_}
+use native.Mathlib.Omega.{arith}
+use types.Run.{OneOf}
+use denote.Enum.Declared.{tagOf}
+use lib.ListN.{length, take, drop, drop-of-length-le}
+use borrow.Author.Tests.{lt-ltb, le-ltb}
+use Rattle.rule.specs.declared.Bank.{Bank}
+use Rattle.rule.specs.Graph.{Graph, neighbours}
+use Rattle.rule.specs.Reach.{adding, striking}
+use Rattle.planner.specs.declared.Edited.{Edited}
+use Rattle.planner.specs.Questions.{firstNo}
+use Rattle.planner.specs.Calls.{Memory}
+use Rattle.planner.specs.Held.{Ready, Edits}
+use Rattle.list_rows.specs.declared.row.Change.{Change}
+use Rattle.list_rows.specs.declared.row.Change.the-variants.{Add, Strike, StrikeAll}
+use Rattle.list_rows.specs.declared.row.Row.{Row}
+use Rattle.list_rows.specs.declared.row.Row.the-variants.{Banks, Edit, Unreadable}
+use Rattle.list_rows.specs.Text.{rows}
+use Rattle.list_rows.specs.Rows.{rowOf}
+use Rattle.list_rows.specs.Inner.{before, Finds}
+use Rattle.list_rows.proofs.Theorems.{rows-at}
+use Rattle.list_rows.proofs.row.Row.{the-type}
+use Rattle.list_reader.specs.declared.pass.Step.{Step}
+use Rattle.list_reader.specs.Pass.{State, ListResult, listResult, reading, strikeEach, change, changeNumber, rowNumber, step, passBy, pass}
+use Rattle.list_reader.specs.Steps.{at, tried, Stands, Changes, Applies, RowDone, rowEnd, rowAt, EditsRow, ending}
+use Rattle.list_reader.proofs.Made.{ready-banks, edit-made}
+
+module _ (G : Graph) (m : Memory) (h : Ready G m) where
+  pub change-add : (a b : Bank) (r : Edited) (m′ : Memory) → Edits adding G (a .0) (b .0) m r m′ → Changes (Add a b) G m (r .answer .number) m′
+  unfolding changeNumber change
+  change-add a b r m′ e = let d = edit-made adding G (a .0) (b .0) m r m′ e in record { is = d .0; stands = d .1 }
+
+  pub change-strike : (a b : Bank) (r : Edited) (m′ : Memory) → Edits striking G (a .0) (b .0) m r m′ → Changes (Strike a b) G m (r .answer .number) m′
+  unfolding changeNumber change
+  change-strike a b r m′ e = let d = edit-made striking G (a .0) (b .0) m r m′ e in record { is = d .0; stands = d .1 }
+
+  -- all clashes of a bank that is not there, and of one that is
+  pub change-none : (b : Bank) → m .tally .banks ≤ b .0 → Changes (StrikeAll b) G m 4 m
+  unfolding changeNumber change firstNo tried
+  change-none b l =
+      let far = le-ltb (b .0) (G .banks) (omega (arith, ready-banks G m h)) in
+      record { is = rw far; stands = rw far (record { memory = refl; ready = h }) }
+
+  pub change-all : (b : Bank) (n : ℕ) (m′ : Memory) → b .0 < m .tally .banks → n ≡ 0 → Stands (strikeEach (b .0) (neighbours G (b .0)) (at G m)) m′
+      → Changes (StrikeAll b) G m n m′
+  unfolding changeNumber change firstNo tried
+  change-all b n m′ l z s =
+      let near = lt-ltb (b .0) (G .banks) (omega (arith, ready-banks G m h)) in
+      record { is = rw near z; stands = rw near s }
+
+  row-edit : (c : Change) (n : ℕ) (m′ : Memory) → Changes c G m n m′ → RowDone (Edit c) G m n m′
+  unfolding rowNumber step
+  row-edit c n m′ d = record { is = d .is; stands = d .stands }
+
+  -- a row that is no edit
+  row-other : (r : Row) → OneOf (0 ∷ 2 ∷ []) (tagOf the-type r) → RowDone r G m 11 m
+  unfolding rowNumber step tried
+  row-other (Banks n) k = record { is = refl; stands = record { memory = refl; ready = h } }
+  row-other (Edit c) k = absurd (⊎-elim (λ e. omega arith) (λ e. omega arith) k)
+  row-other Unreadable k = record { is = refl; stands = record { memory = refl; ready = h } }
+
+-- the answer, by the number of the last row
+pub ending-zero : (n i : ℕ) → n ≡ 0 → reading 0 0 ≡ ending n i
+unfolding ending
+ending-zero n i z = rw z
+
+pub ending-some : (n i : ℕ) → (n ≡ 0 → ⊥) → reading n i ≡ ending n i
+unfolding ending
+ending-some zero i z = absurd (z refl)
+ending-some (suc c) i z = refl
+
+-- the row from `start` to `end`
+module _ (list : List ℕ) (start end : ℕ) (f : Finds list start 10 end) where
+  row-next : end + 1 ≡ rowEnd list start + 1
+  unfolding rowEnd
+  row-next = ap (λ (n : ℕ). n + 1) (f .is)
+
+  row-bytes : take (end - start) (drop start list) ≡ rowAt list start
+  unfolding rowAt rowEnd
+  row-bytes = ap (λ (n : ℕ). take (n - start) (drop start list)) (f .is)
+
+  module _ (i : ℕ) (m : Memory) (r : Step) (row : r .row ≡ i) (next : r .next ≡ end + 1) where
+    -- it does not read as an edit
+    pub edits-none : (x : Row) → x ≡ rowOf (take (end - start) (drop start list)) → OneOf (0 ∷ 2 ∷ []) (tagOf the-type x) → r .number ≡ 11 → EditsRow list start i m r m
+    edits-none x e k z = record {
+      row = row;
+      next = next ∙ row-next;
+      on = omega (arith, f .low);
+      within = omega (arith, f .high);
+      of = λ G h. rw (z, ← (e ∙ ap rowOf row-bytes)) (row-other G m h x k);
+    }
+
+    -- it reads as an edit
+    pub edits-one : (c : Change) → Edit c ≡ rowOf (take (end - start) (drop start list)) → (a : Edited) (m′ : Memory) → Applies c m a m′ → r .number ≡ a .answer .number
+        → EditsRow list start i m r m′
+    edits-one c e a m′ d z = record {
+      row = row;
+      next = next ∙ row-next;
+      on = omega (arith, f .low);
+      within = omega (arith, f .high);
+      of = λ G h. rw (z, ← (e ∙ ap rowOf row-bytes)) (row-edit G m h c (a .answer .number) m′ (d .of G h));
+    }
+
+-- what is ahead after row i, whose number is n
+unfoldable pub going : ℕ → ℕ → List (List ℕ) → State → ListResult
+going zero i rs s = pass (suc i) rs s
+going (suc c) i rs s = listResult (reading (suc c) i) (s .memory)
+
+-- row i has number n
+by-row : (n i : ℕ) (rs : List (List ℕ)) (s t : State) → passBy n i s (pass (suc i) rs t) ≡ going n i rs (tried n t s)
+unfolding passBy going tried
+by-row zero i rs s t = refl
+by-row (suc c) i rs s t = refl
+
+row-step : (i : ℕ) (r : List ℕ) (rs : List (List ℕ)) (s : State)
+    → pass i (r ∷ rs) s ≡ going (rowNumber (rowOf r) (s .graph)) i rs (tried (rowNumber (rowOf r) (s .graph)) (step (rowOf r) s) s)
+unfolding pass
+row-step i r rs s = by-row (rowNumber (rowOf r) (s .graph)) i rs s (step (rowOf r) s)
+
+going-on : (n i : ℕ) (rs : List (List ℕ)) (s : State) → n ≡ 0 → going n i rs s ≡ pass (suc i) rs s
+unfolding going
+going-on n i rs s z = rw z
+
+-- there is no further row, or row i is refused
+going-end : (n i : ℕ) (list : List ℕ) (next : ℕ) (s : State) → (n ≡ 0 → length list ≤ next)
+    → going n i (rows (drop next list)) s ≡ listResult (ending n i) (s .memory)
+unfolding going ending rows pass
+going-end zero i list next s e =
+    let l : length list ≤ next = e refl in
+    rw (drop-of-length-le list l)
+going-end (suc c) i list next s e = refl
+
+-- the row that starts at `start`, and the rows after it
+cut : (list : List ℕ) (start next : ℕ) → start < length list → next ≡ rowEnd list start + 1 → next ≤ length list + 1
+    → rows (drop start list) ≡ rowAt list start ∷ rows (drop next list)
+unfolding rowAt rowEnd
+cut list start next l e u =
+    let end : ℕ = start + before 10 (drop start list) in
+    rw e (rows-at list start end l (record { is = refl; low = omega arith; high = omega arith }))
+
+-- where a pass stands after a row
+pub record Ahead (list : List ℕ) (first : ℕ) (G : Graph) (m : Memory) (r : Step) (m′ : Memory) : Type 0 where
+  pub graph : Graph
+  pub ready : Ready graph m′
+  pub ahead : pass 2 (rows (drop first list)) (at G m) ≡ going (r .number) (r .row) (rows (drop (r .next) list)) (at graph m′)
+
+module _ (list : List ℕ) (first : ℕ) (G : Graph) (m : Memory) where
+  pub ahead-start : Ready G m → (r : Step) → r .number ≡ 0 → r .row ≡ 1 → r .next ≡ first → Ahead list first G m r m
+  unfolding going
+  ahead-start h r z i n = record { graph = G; ready = h; ahead = rw (z, i, n) }
+
+  pub ahead-turn : (r : Step) (m′ : Memory) (w : Ahead list first G m r m′) → r .number ≡ 0 → r .next < length list
+      → (r′ : Step) (m″ : Memory) → EditsRow list (r .next) (r .row + 1) m′ r′ m″ → Ahead list first G m r′ m″
+  ahead-turn r m′ w z l r′ m″ d =
+      let H : Graph = w .graph in
+      let s : State = at H m′ in
+      let b : List ℕ = rowAt list (r .next) in
+      let t : State = tried (rowNumber (rowOf b) H) (step (rowOf b) s) s in
+      let done = d .of H (w .ready) in
+      let rest : List (List ℕ) = rows (drop (r′ .next) list) in
+      let up : r′ .row ≡ suc (r .row) = omega (arith, d .row) in
+      record {
+        graph = t .graph;
+        ready = done .stands .ready;
+        ahead =
+            w .ahead
+            ∙ going-on (r .number) (r .row) (rows (drop (r .next) list)) s z
+            ∙ ap (λ (x : List (List ℕ)). pass (suc (r .row)) x s) (cut list (r .next) (r′ .next) l (d .next) (d .within))
+            ∙ row-step (suc (r .row)) b rest s
+            ∙ ap (λ (x : ℕ). going x (suc (r .row)) rest t) (sym (done .is))
+            ∙ ap (λ (x : ℕ). going (r′ .number) x rest t) (sym up)
+            ∙ ap (λ (x : Memory). going (r′ .number) (r′ .row) rest (at (t .graph) x)) (sym (done .stands .memory));
+      }
+
+  pub ahead-end : (r : Step) (m′ : Memory) → Ahead list first G m r m′ → (r .number ≡ 0 → length list ≤ r .next)
+      → listResult (ending (r .number) (r .row)) m′ ≡ pass 2 (rows (drop first list)) (at G m)
+  ahead-end r m′ w e = sym (w .ahead ∙ going-end (r .number) (r .row) list (r .next) (at (w .graph) m′) e)

@@ -1,0 +1,103 @@
+-- Striking all clashes of a bank, the lowest neighbour first.
+use mathlib.Core.Bool.{Bool, true, false, _&&_, not}
+use mathlib.Core.List.{List, [], _∷_}
+use mathlib.Core.Path.{_≡_, refl, sym, ap, _∙_}
+use Prim.Native.Nat.{ℕ, _-_, _≤_, _<_}
+use native.Mathlib.Omega.{arith}
+use lib.Dec.{T}
+use lib.ListN.{length, getD}
+use borrow.Author.Tests.{lt-ltb, ne-eqb}
+use Rattle.rule.specs.Graph.{Graph, neighbours, struck}
+use Rattle.rule.specs.Reach.{striking, edited}
+use Rattle.rule.proofs.Strike.{first-below, first-clash, first-other, struck-first}
+use Rattle.memory.specs.Plan.{Clashes}
+use Rattle.planner.specs.declared.Edited.{Edited}
+use Rattle.planner.specs.Questions.{firstNo}
+use Rattle.planner.specs.Calls.{Memory, clashQuestions, editNumber}
+use Rattle.planner.specs.Held.{Ready, Edits}
+use Rattle.list_reader.specs.Pass.{State, make, strikeEach}
+use Rattle.list_reader.specs.Steps.{at, Stands}
+use Rattle.list_reader.proofs.Made.{ready-banks, edit-accepted}
+
+never : (b : Bool) → (T b → ⊥) → b ≡ false
+never true n = absurd (n tt)
+never false n = refl
+
+-- the lowest neighbour v of b: its clash can be struck, and the others are left
+module _ (G : Graph) (good : Clashes G) (b : ℕ) (below : b < G .banks) (v : ℕ) (vs : List ℕ) (e : neighbours G b ≡ v ∷ vs) where
+  alone : G .clash b b ≡ false
+  alone = never (G .clash b b) (good .apart b below)
+
+  pub strike-number : editNumber striking G b v ≡ 0
+  unfolding editNumber clashQuestions firstNo
+  strike-number =
+      rw (
+        lt-ltb b (G .banks) below,
+        lt-ltb v (G .banks) (first-below G b v vs e alone),
+        ne-eqb b v (first-other G b v vs e alone),
+        first-clash G b v vs e alone,
+      )
+
+  pub strike-rest : neighbours (edited striking G b v) b ≡ vs
+  unfolding edited
+  strike-rest = struck-first G b v vs e alone
+
+same-banks : (G : Graph) (a b : ℕ) → edited striking G a b .banks ≡ G .banks
+unfolding edited
+same-banks G a b = refl
+
+-- a list that is not empty
+split : (l : List ℕ) → 0 < length l → (vs : List ℕ) × (l ≡ getD l 0 0 ∷ vs)
+split [] h = absurd (omega arith)
+split (v ∷ vs) h = (vs, refl)
+
+-- where striking all clashes of b, in memory m of the plan of G, stands: `left` are left
+pub record Left (G : Graph) (b : ℕ) (m : Memory) (left : ℕ) (r : Edited) (m′ : Memory) : Type 0 where
+  pub number : r .answer .number ≡ 0
+  pub graph : Graph
+  pub ready : Ready graph m′
+  pub below : b < m′ .tally .banks
+  pub count : length (neighbours graph b) ≡ left
+  pub ahead : strikeEach b (neighbours G b) (at G m) ≡ strikeEach b (neighbours graph b) (at graph m′)
+
+module _ (G : Graph) (b : ℕ) (m : Memory) where
+  pub left-start : (left : ℕ) (r : Edited) → r .answer .number ≡ 0 → Ready G m → b < m .tally .banks → left ≡ length (neighbours G b) → Left G b m left r m
+  left-start left r z h l n = record { number = z; graph = G; ready = h; below = l; count = sym n; ahead = refl }
+
+  -- the row of b is not empty
+  pub left-some : (left : ℕ) (r : Edited) (m′ : Memory) (w : Left G b m left r m′) → 0 < left → (row : List ℕ) → row ≡ neighbours (w .graph) b → 0 < length row
+  left-some left r m′ w pos row q = omega (arith, ap length q, w .count)
+
+  -- its first bank is struck
+  pub left-turn : (left : ℕ) (r : Edited) (m′ : Memory) (w : Left G b m left r m′) → 0 < left → (row : List ℕ) → row ≡ neighbours (w .graph) b
+      → (r′ : Edited) (m″ : Memory) → Edits striking (w .graph) b (getD row 0 0) m′ r′ m″ → Left G b m (left - 1) r′ m″
+  unfolding make strikeEach
+  left-turn left r m′ w pos row q r′ m″ d =
+      let H : Graph = w .graph in
+      let v : ℕ = getD row 0 0 in
+      let part = split row (left-some left r m′ w pos row q) in
+      let first : neighbours H b ≡ v ∷ part .0 = sym q ∙ part .1 in
+      let below : b < H .banks = omega (arith, ready-banks H m′ (w .ready)) in
+      let good : Clashes H = w .ready .plan .clashes in
+      let rest : neighbours (edited striking H b v) b ≡ part .0 = strike-rest H good b below v (part .0) first in
+      let made = edit-accepted striking H b v m′ r′ m″ (strike-number H good b below v (part .0) first) d in
+      record {
+        number = made .0;
+        graph = edited striking H b v;
+        ready = made .1 .ready;
+        below = omega (arith, ready-banks (edited striking H b v) m″ (made .1 .ready), same-banks H b v);
+        count = omega (arith, ap length rest, ap length first, w .count);
+        ahead =
+            w .ahead
+            ∙ ap (λ (l : List ℕ). strikeEach b l (at H m′)) first
+            ∙ ap (λ (x : Memory). strikeEach b (part .0) (at (edited striking H b v) x)) (sym (made .1 .memory))
+            ∙ ap (λ (l : List ℕ). strikeEach b l (at (edited striking H b v) m″)) (sym rest);
+      }
+
+  pub left-end : (left : ℕ) (r : Edited) (m′ : Memory) → Left G b m left r m′ → left ≤ 0 → Stands (strikeEach b (neighbours G b) (at G m)) m′
+  unfolding strikeEach
+  left-end left r m′ w l = rw (w .ahead) (none (neighbours (w .graph) b) (omega (arith, w .count)))
+    where
+      none : (l : List ℕ) → length l ≡ 0 → Stands (strikeEach b l (at (w .graph) m′)) m′
+      none [] q = record { memory = refl; ready = w .ready }
+      none (x ∷ xs) q = absurd (omega arith)

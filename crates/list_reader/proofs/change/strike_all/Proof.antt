@@ -1,0 +1,112 @@
+-- `strike_all` meets its contract. The invariant: memory holds a plan in which `left` clashes of b are left, and striking these leads to the same state.
+use mathlib.Core.Path.{refl, ap}
+use lib.ListN.{length}
+use borrow.Author.Count.{falls-down}
+use Rattle.rule.specs.Graph.{Graph}
+use Rattle.planner.specs.Calls.{memoryOf}
+use Rattle.planner.specs.Held.{Ready}
+use Rattle.list_reader.proofs.Lengths.{SameLengths, same, then}
+use Rattle.list_reader.proofs.Struck.{Left, left-start, left-some, left-turn, left-end}
+use Rattle.list_reader.proofs.Passing.{change-none, change-all}
+use Rattle.list_reader.proofs.change.strike_all.Statement.{statement}
+use Rattle.list_reader.proofs.change.strike_all.Tie as tie
+
+abbrev Inv-loop : tie.InvT-loop
+Inv-loop neighbours₀ degrees₀ waves₀ counts₀ trail₀ moved₀ b left₀ last₀ neighbours degrees waves counts trail moved left last =
+    let m₀ = memoryOf neighbours₀ degrees₀ waves₀ counts₀ trail₀ moved₀ (last₀ .tally) in
+    let m = memoryOf neighbours degrees waves counts trail moved (last .tally) in
+    ((G : Graph) → Ready G m₀ → Left G (b .0) m₀ left last m) × SameLengths m₀ m
+
+abbrev μ-loop : tie.MeasureT-loop
+μ-loop neighbours₀ degrees₀ waves₀ counts₀ trail₀ moved₀ b left₀ last₀ neighbours degrees waves counts trail moved left last = left
+
+returns : tie.Need-returns Inv-loop μ-loop
+returns c = record { of = λ G h. change-none G _ h _ (c .if1 .taken) }
+
+clashes-held-requires : tie.Need-clashes-held-requires Inv-loop μ-loop
+clashes-held-requires c κs =
+    let p = c .before .before .before .before .before .before .before .before .before .before .before .before .before .pre in
+    ((p .held .0, p .held .1 .plan), c .before .before .before .before .if1 .left)
+
+loop-holds : tie.Need-loop-holds Inv-loop μ-loop
+loop-holds c = (λ G h. left-start G _ _ _ _ refl h (c .before .before .before .before .before .if1 .left) (ap length (c .clashes-held .ensures G (h .plan))), same _)
+
+clashes-held-requires-2 : tie.Need-clashes-held-requires-2 Inv-loop μ-loop
+clashes-held-requires-2 c κs =
+    let p = c .before .before .before .before .before .before .before .before .before .before .before .before .before .before .before .before .before .before .before .before .before .pre in
+    let w = c .before .before .before .before .before .before .loop .inv .0 (p .held .0) (p .held .1) in
+    ((w .graph, w .ready .plan), w .below)
+
+shared-slice-read-t36 : tie.Need-shared-slice-read-t36 Inv-loop μ-loop
+shared-slice-read-t36 c =
+    let p = c .before .before .before .before .before .before .before .before .before .before .before .before .before .before .before .before .before .before .before .before .before .before .before .pre in
+    let w = c .before .before .before .before .before .before .before .before .loop .inv .0 (p .held .0) (p .held .1) in
+    left-some _ _ _ _ _ _ w (c .before .before .before .before .before .before .before .loop-test .taken) _ (c .before .clashes-held2 .ensures (w .graph) (w .ready .plan))
+
+strike-held-requires : tie.Need-strike-held-requires Inv-loop μ-loop
+strike-held-requires c κs =
+    let p = c .before .before .before .before .before .before .before .before .before .before .before .before .before .before .before .before .before .before .before .before .before .before .before .before .before .before .before .before .before .pre in
+    let w = c .before .before .before .before .before .before .before .before .before .before .before .before .before .before .loop .inv .0 (p .held .0) (p .held .1) in
+    (w .graph, w .ready)
+
+sub-left : tie.Need-sub-left Inv-loop μ-loop
+sub-left c = c .before .before .before .before .before .before .before .before .before .before .before .before .before .before .before .before .before .before .before .before .before .before .before .before .before .before .loop-test .taken
+
+loop-less : tie.Need-loop-less Inv-loop μ-loop
+loop-less c = falls-down _ (c .before .before .before .before .before .before .before .before .before .before .before .before .before .before .before .before .before .before .before .before .before .before .before .before .before .before .loop-test .taken)
+
+loop-again : tie.Need-loop-again Inv-loop μ-loop
+loop-again c =
+    let i = c .before .before .before .before .before .before .before .before .before .before .before .before .before .before .before .before .before .before .before .before .before .before .before .before .before .before .before .loop .inv in
+    let f = c .before .before .before .before .before .before .before .before .before .before .before .before .strike-held in
+    let k = f .kept in (
+      λ G h. let w = i .0 G h in left-turn G _ _ _ _ _ w (c .before .before .before .before .before .before .before .before .before .before .before .before .before .before .before .before .before .before .before .before .before .before .before .before .before .before .loop-test .taken) _ (c .before .before .before .before .before .before .before .before .before .before .before .before .before .before .before .before .before .before .before .before .clashes-held2 .ensures (w .graph) (w .ready .plan)) _ _ (f .ensures (w .graph) (w .ready)),
+      then _ _ _ (i .1) (record { neighbours = k .0; degrees = k .1 .0; waves = k .1 .1 .0; counts = k .1 .1 .1 .0; trail = k .1 .1 .1 .1 .0; moved = k .1 .1 .1 .1 .1 .0 }),
+    )
+
+same-length : tie.Need-same-length Inv-loop μ-loop
+same-length c = c .before .loop .inv .1 .neighbours
+
+same-length-2 : tie.Need-same-length-2 Inv-loop μ-loop
+same-length-2 c = c .before .loop .inv .1 .degrees
+
+same-length-3 : tie.Need-same-length-3 Inv-loop μ-loop
+same-length-3 c = c .before .loop .inv .1 .waves
+
+same-length-4 : tie.Need-same-length-4 Inv-loop μ-loop
+same-length-4 c = c .before .loop .inv .1 .counts
+
+same-length-5 : tie.Need-same-length-5 Inv-loop μ-loop
+same-length-5 c = c .before .loop .inv .1 .trail
+
+same-length-6 : tie.Need-same-length-6 Inv-loop μ-loop
+same-length-6 c = c .before .loop .inv .1 .moved
+
+returns-2 : tie.Need-returns-2 Inv-loop μ-loop
+returns-2 c =
+    record {
+      of = λ G h. let w = c .before .loop .inv .0 G h in change-all G _ h _ _ _ (c .before .before .before .before .before .before .before .if1 .left) (w .number) (left-end G _ _ _ _ _ w (c .loop-test .left));
+    }
+
+pub strike-all-spec : {M : Type 1} → statement M
+strike-all-spec =
+    tie.close
+    (tie.spec
+    Inv-loop
+    μ-loop
+    returns
+    clashes-held-requires
+    loop-holds
+    clashes-held-requires-2
+    shared-slice-read-t36
+    strike-held-requires
+    sub-left
+    loop-less
+    loop-again
+    same-length
+    same-length-2
+    same-length-3
+    same-length-4
+    same-length-5
+    same-length-6
+    returns-2)

@@ -1,0 +1,76 @@
+-- `edit_row` meets its contract: the row that it finds is read, and its edit is made.
+use mathlib.Core.Path.{refl, sym, _∙_}
+use Rattle.list_reader.proofs.Passing.{edits-none, edits-one}
+use borrow.Author.Needs.{needs}
+use native.Mathlib.Omega.{arith}
+use Rattle.list_reader.proofs.pass.edit_row.Statement.{statement}
+use Rattle.list_reader.proofs.pass.edit_row.Tie as tie
+
+find-requires : tie.Need-find-requires
+find-requires c κs = omega (arith, c .before .before .before .before .before .before .before .pre .inside)
+
+add-next : tie.Need-add-next
+add-next c = omega (arith, c .find .ensures .high)
+
+sub-read-row : tie.Need-sub-read-row
+sub-read-row c = omega (arith, c .find .ensures .low)
+
+part-read-row-start : tie.Need-part-read-row-start
+part-read-row-start c = omega arith
+
+part-read-row-end : tie.Need-part-read-row-end
+part-read-row-end c = omega arith
+
+read-row-requires : tie.Need-read-row-requires
+read-row-requires c κs = search needs
+
+enum-known-change : tie.Need-enum-known-change
+enum-known-change c = search needs
+
+returns : tie.Need-returns
+returns c = edits-none _ _ _ (c .before .before .before .find .ensures) _ _ _ refl refl _ (c .before .read-row .ensures) (c .match .keys2) refl
+
+apply-requires : tie.Need-apply-requires
+apply-requires c κs = record { held = c .before .before .before .before .before .before .before .before .before .before .before .before .before .before .before .before .before .before .before .pre .held }
+
+same-length : tie.Need-same-length
+same-length c = c .before .before .before .before .before .before .before .before .before .before .before .before .before .before .apply .kept .0
+
+same-length-2 : tie.Need-same-length-2
+same-length-2 c = c .before .before .before .before .before .before .before .before .before .before .before .before .before .before .apply .kept .1 .0
+
+same-length-3 : tie.Need-same-length-3
+same-length-3 c = c .before .before .before .before .before .before .before .before .before .before .before .before .before .before .apply .kept .1 .1 .0
+
+same-length-4 : tie.Need-same-length-4
+same-length-4 c = c .before .before .before .before .before .before .before .before .before .before .before .before .before .before .apply .kept .1 .1 .1 .0
+
+same-length-5 : tie.Need-same-length-5
+same-length-5 c = c .before .before .before .before .before .before .before .before .before .before .before .before .before .before .apply .kept .1 .1 .1 .1 .0
+
+same-length-6 : tie.Need-same-length-6
+same-length-6 c = c .before .before .before .before .before .before .before .before .before .before .before .before .before .before .apply .kept .1 .1 .1 .1 .1 .0
+
+returns-2 : tie.Need-returns-2
+returns-2 c = edits-one _ _ _ (c .before .before .before .before .before .before .before .before .before .before .before .before .before .before .before .before .before .before .before .before .before .before .before .before .before .before .find .ensures) _ _ _ refl refl _ (sym (c .before .before .before .before .before .before .before .before .before .before .before .before .before .before .before .before .before .before .before .before .before .before .change .given .1) ∙ c .before .before .before .before .before .before .before .before .before .before .before .before .before .before .before .before .before .before .before .before .before .before .before .before .read-row .ensures) _ _ (c .before .before .before .before .before .before .before .before .before .before .before .before .before .before .apply .ensures) refl
+
+pub edit-row-spec : {M : Type 1} → statement M
+edit-row-spec =
+    tie.close
+    (tie.spec
+    find-requires
+    add-next
+    sub-read-row
+    part-read-row-start
+    part-read-row-end
+    read-row-requires
+    enum-known-change
+    returns
+    apply-requires
+    same-length
+    same-length-2
+    same-length-3
+    same-length-4
+    same-length-5
+    same-length-6
+    returns-2)

@@ -1,0 +1,26 @@
+// The call that reads a list as a caller makes it: the tally is lent, and left as the call leaves it.
+use crate::pass::Reading;
+use crate::pass::read_list_core;
+use memory::Tally;
+ghost use mathlib.Core.Path.{_≡_};
+ghost use Rattle.planner.specs.Calls.{memoryOf};
+ghost use Rattle.list_reader.specs.Pass.{listResult, readList};
+
+// Reads a list: opens the plan, then makes the rows' edits. Answers 0, or the number of the first no and its row.
+pub fn read_list(
+    list: &[u8],
+    neighbours: &mut [u16],
+    degrees: &mut [u16],
+    waves: &mut [u16],
+    counts: &mut [u16],
+    trail: &mut [u16],
+    moved: &mut [u16],
+    tally: &mut Tally,
+) -> Reading
+    ensures { λ r. ⌜ listResult r (memoryOf (now (neighbours .exit)) (now (degrees .exit)) (now (waves .exit)) (now (counts .exit)) (now (trail .exit)) (now (moved .exit)) (now (tally .exit))) ≡ readList (now (list .entry)) (memoryOf (now (neighbours .entry)) (now (degrees .entry)) (now (waves .entry)) (now (counts .entry)) (now (trail .entry)) (now (moved .entry)) (now (tally .entry))) ⌝ }
+{
+    let t = *tally;
+    let r = read_list_core(list, neighbours, degrees, waves, counts, trail, moved, t);
+    *tally = r.tally;
+    r.answer
+}

@@ -1,0 +1,253 @@
+// The pass over a list.
+use crate::change::apply;
+use list_rows::Row;
+use list_rows::find;
+use list_rows::read_row;
+use memory::Tally;
+use planner::open_core;
+use rule::MOST_BANKS;
+use rule::wide;
+ghost use mathlib.Core.Path.{_≡_};
+ghost use Rattle.planner.specs.Calls.{memoryOf};
+ghost use Rattle.list_reader.specs.Pass.{listResult, readList};
+ghost use Rattle.list_reader.specs.Steps.{AsksBegin, AsksRow, AsksRows, Begins, ReadsEdits, EditsRow, ending, roomNumber};
+
+// The most bytes of a list.
+const MOST_BYTES: usize = 60000;
+
+// The number of the first row.
+const FIRST_ROW: u16 = 1;
+
+// The answer of a list: the number, and the row that got it.
+pub struct Reading {
+    pub number: u16,
+    pub row: u16,
+}
+
+// What reading a list leaves beside its slices.
+pub struct Listed {
+    pub answer: Reading,
+    pub tally: Tally,
+}
+
+// What a row leaves beside the slices: its number, which row it is, and where the next one starts.
+pub struct Step {
+    pub number: u16,
+    pub row: u16,
+    pub next: usize,
+    pub tally: Tally,
+}
+
+// Reads a list: opens the plan, then makes the rows' edits. This is the core, with the tally by value: programs and other
+// crates call it.
+pub fn read_list_core(
+    list: &[u8],
+    neighbours: &mut [u16],
+    degrees: &mut [u16],
+    waves: &mut [u16],
+    counts: &mut [u16],
+    trail: &mut [u16],
+    moved: &mut [u16],
+    tally: Tally,
+) -> Listed
+    ensures { λ r. ⌜ listResult (r .answer) (memoryOf (now (neighbours .exit)) (now (degrees .exit)) (now (waves .exit)) (now (counts .exit)) (now (trail .exit)) (now (moved .exit)) (r .tally)) ≡ readList (now (list .entry)) (memoryOf (now (neighbours .entry)) (now (degrees .entry)) (now (waves .entry)) (now (counts .entry)) (now (trail .entry)) (now (moved .entry)) tally) ⌝ }
+{
+    if MOST_BYTES < list.len() {
+        return Listed {
+            answer: Reading { number: 9, row: 0 },
+            tally: tally,
+        };
+    }
+    let end = find(list, 0, b'\n');
+    let Row::Banks(banks) = read_row(&list[0..end]) else {
+        return Listed {
+            answer: Reading {
+                number: 10,
+                row: FIRST_ROW,
+            },
+            tally: tally,
+        };
+    };
+    let next = end + 1;
+    begin(
+        list,
+        next,
+        banks,
+        neighbours,
+        degrees,
+        waves,
+        counts,
+        trail,
+        moved,
+        tally,
+    )
+}
+
+// Opens the plan of the first row, and makes the edits of the later ones, which start at `next`.
+fn begin(
+    list: &[u8],
+    next: usize,
+    banks: u16,
+    neighbours: &mut [u16],
+    degrees: &mut [u16],
+    waves: &mut [u16],
+    counts: &mut [u16],
+    trail: &mut [u16],
+    moved: &mut [u16],
+    tally: Tally,
+) -> Listed
+    requires { ⌜ AsksBegin (now list) next ⌝ }
+    ensures { λ r. ⌜ Begins (now (list .entry)) next banks (memoryOf (now (neighbours .entry)) (now (degrees .entry)) (now (waves .entry)) (now (counts .entry)) (now (trail .entry)) (now (moved .entry)) tally) r (memoryOf (now (neighbours .exit)) (now (degrees .exit)) (now (waves .exit)) (now (counts .exit)) (now (trail .exit)) (now (moved .exit)) (r .tally)) ⌝ }
+{
+    let number = room_number(banks, trail.len(), moved.len());
+    if number != 0 {
+        return Listed {
+            answer: Reading {
+                number: number,
+                row: FIRST_ROW,
+            },
+            tally: tally,
+        };
+    }
+    let opened = open_core(neighbours, degrees, waves, counts, banks, tally);
+    let after = opened.tally;
+    if opened.number != 0 {
+        return Listed {
+            answer: Reading {
+                number: opened.number,
+                row: FIRST_ROW,
+            },
+            tally: after,
+        };
+    }
+    read_edits(
+        list,
+        next,
+        neighbours,
+        degrees,
+        waves,
+        counts,
+        trail,
+        moved,
+        after,
+    )
+}
+
+// Makes the edits of the rows from the second on, which starts at `first`.
+fn read_edits(
+    list: &[u8],
+    first: usize,
+    neighbours: &mut [u16],
+    degrees: &mut [u16],
+    waves: &mut [u16],
+    counts: &mut [u16],
+    trail: &mut [u16],
+    moved: &mut [u16],
+    tally: Tally,
+) -> Listed
+    requires { ⌜ AsksRows (now list) first (memoryOf (now neighbours) (now degrees) (now waves) (now counts) (now trail) (now moved) tally) ⌝ }
+    ensures { λ r. ⌜ ReadsEdits (now (list .entry)) first (memoryOf (now (neighbours .entry)) (now (degrees .entry)) (now (waves .entry)) (now (counts .entry)) (now (trail .entry)) (now (moved .entry)) tally) r (memoryOf (now (neighbours .exit)) (now (degrees .exit)) (now (waves .exit)) (now (counts .exit)) (now (trail .exit)) (now (moved .exit)) (r .tally)) ⌝ }
+{
+    let mut last = Step {
+        number: 0,
+        row: FIRST_ROW,
+        next: first,
+        tally: tally,
+    };
+    while last.number == 0 && last.next < list.len() {
+        last = edit_row(
+            list,
+            last.next,
+            last.row + 1,
+            neighbours,
+            degrees,
+            waves,
+            counts,
+            trail,
+            moved,
+            last.tally,
+        );
+    }
+    let after = last.tally;
+    let answer = ended(last.number, last.row);
+    Listed {
+        answer: answer,
+        tally: after,
+    }
+}
+
+// Reads the row that starts at `start`, which is row `row`, and makes its edit.
+fn edit_row(
+    list: &[u8],
+    start: usize,
+    row: u16,
+    neighbours: &mut [u16],
+    degrees: &mut [u16],
+    waves: &mut [u16],
+    counts: &mut [u16],
+    trail: &mut [u16],
+    moved: &mut [u16],
+    tally: Tally,
+) -> Step
+    requires { ⌜ AsksRow (now list) start (memoryOf (now neighbours) (now degrees) (now waves) (now counts) (now trail) (now moved) tally) ⌝ }
+    ensures { λ r. ⌜ EditsRow (now (list .entry)) start row (memoryOf (now (neighbours .entry)) (now (degrees .entry)) (now (waves .entry)) (now (counts .entry)) (now (trail .entry)) (now (moved .entry)) tally) r (memoryOf (now (neighbours .exit)) (now (degrees .exit)) (now (waves .exit)) (now (counts .exit)) (now (trail .exit)) (now (moved .exit)) (r .tally)) ⌝ }
+{
+    let end = find(list, start, b'\n');
+    let next = end + 1;
+    let Row::Edit(change) = read_row(&list[start..end]) else {
+        return Step {
+            number: 11,
+            row: row,
+            next: next,
+            tally: tally,
+        };
+    };
+    let done = apply(
+        neighbours,
+        degrees,
+        waves,
+        counts,
+        trail,
+        moved,
+        tally,
+        change,
+    );
+    let answer = done.answer;
+    let after = done.tally;
+    Step {
+        number: answer.number,
+        row: row,
+        next: next,
+        tally: after,
+    }
+}
+
+// The answer of a pass whose last row has this number.
+fn ended(number: u16, row: u16) -> Reading
+    ensures { λ r. ⌜ r ≡ ending number row ⌝ }
+{
+    if number == 0 {
+        return Reading { number: 0, row: 0 };
+    }
+    Reading {
+        number: number,
+        row: row,
+    }
+}
+
+// Questions 3 and 4, the latter for the trail and moved slices only: their number, or 0.
+fn room_number(banks: u16, trail: usize, moved: usize) -> u16
+    ensures { λ r. ⌜ r ≡ roomNumber banks trail moved ⌝ }
+{
+    let n = wide(banks);
+    if MOST_BANKS < n {
+        return 1;
+    }
+    if trail < n {
+        return 2;
+    }
+    if moved < n {
+        return 2;
+    }
+    0
+}

@@ -1,0 +1,97 @@
+-- What the parts of a row read as, test by test.
+use mathlib.Core.Bool.{Bool, true, false, cond, _&&_}
+use mathlib.Core.List.{List, [], _∷_}
+use mathlib.Core.Path.{_≡_, refl, ap}
+use Prim.Native.Nat.{ℕ, _+_, _-_, _≤_, _<_}
+use lib.Dec.{eqb}
+use lib.ListN.{length, getD, take, drop}
+use borrow.Author.Tests.{eq-eqb, ne-eqb}
+use Rattle.list_rows.specs.declared.number.Number.{Number}
+use Rattle.list_rows.specs.declared.number.Number.the-variants.{Value, Nothing}
+use Rattle.list_rows.specs.declared.row.Change.the-variants.{Add, Strike, StrikeAll}
+use Rattle.list_rows.specs.declared.row.Row.the-variants.{Banks, Edit, Unreadable}
+use Rattle.list_rows.specs.Text.{onto, parts, number}
+use Rattle.list_rows.specs.Rows.{isByte, bank, twoParts, threeParts, fromParts, rowOf}
+use Rattle.list_rows.specs.Inner.{Finds}
+use Rattle.list_rows.proofs.Pieces.{parts-at, parts-end}
+
+module _ (head : List ℕ) (n : Number) where
+  pub two-none : n ≡ Nothing → Unreadable ≡ twoParts head n
+  unfolding twoParts
+  two-none e = rw e
+
+  module _ (x : ℕ) (e : n ≡ Value x) where
+    pub two-wide : (length head ≡ 1 → ⊥) → Unreadable ≡ twoParts head n
+    unfolding twoParts isByte
+    two-wide l = rw (e, ne-eqb (length head) 1 l)
+
+    pub two-banks : length head ≡ 1 → getD head 0 0 ≡ 78 → Banks x ≡ twoParts head n
+    unfolding twoParts isByte
+    two-banks l z = rw (e, l, z)
+
+    pub two-all : length head ≡ 1 → getD head 0 0 ≡ 68 → Edit (StrikeAll (bank x)) ≡ twoParts head n
+    unfolding twoParts isByte
+    two-all l z = rw (e, l, z)
+
+    pub two-other : length head ≡ 1 → (getD head 0 0 ≡ 78 → ⊥) → (getD head 0 0 ≡ 68 → ⊥) → Unreadable ≡ twoParts head n
+    unfolding twoParts isByte
+    two-other l y z = rw (e, l, ne-eqb (getD head 0 0) 78 y, ne-eqb (getD head 0 0) 68 z)
+
+  module _ (m : Number) where
+    pub three-none : n ≡ Nothing → Unreadable ≡ threeParts head n m
+    unfolding threeParts
+    three-none e = rw e
+
+    module _ (a : ℕ) (e : n ≡ Value a) where
+      pub three-half : m ≡ Nothing → Unreadable ≡ threeParts head n m
+      unfolding threeParts
+      three-half f = rw (e, f)
+
+      module _ (b : ℕ) (f : m ≡ Value b) where
+        pub three-wide : (length head ≡ 1 → ⊥) → Unreadable ≡ threeParts head n m
+        unfolding threeParts isByte
+        three-wide l = rw (e, f, ne-eqb (length head) 1 l)
+
+        pub three-add : length head ≡ 1 → getD head 0 0 ≡ 43 → Edit (Add (bank a) (bank b)) ≡ threeParts head n m
+        unfolding threeParts isByte
+        three-add l z = rw (e, f, l, z)
+
+        pub three-strike : length head ≡ 1 → getD head 0 0 ≡ 45 → Edit (Strike (bank a) (bank b)) ≡ threeParts head n m
+        unfolding threeParts isByte
+        three-strike l z = rw (e, f, l, z)
+
+        pub three-other : length head ≡ 1 → (getD head 0 0 ≡ 43 → ⊥) → (getD head 0 0 ≡ 45 → ⊥) → Unreadable ≡ threeParts head n m
+        unfolding threeParts isByte
+        three-other l y z = rw (e, f, l, ne-eqb (getD head 0 0) 43 y, ne-eqb (getD head 0 0) 45 z)
+
+-- a row has some part
+some-part : (s : List ℕ) → (p : (List ℕ) × List (List ℕ)) × (parts s ≡ p .0 ∷ p .1)
+unfolding parts onto
+some-part [] = (([], []), refl)
+some-part (c ∷ cs) = go (eqb c 32) (some-part cs)
+  where
+    go : (b : Bool) → (p : (List ℕ) × List (List ℕ)) × (parts cs ≡ p .0 ∷ p .1)
+        → (p : (List ℕ) × List (List ℕ)) × (cond b ([] ∷ parts cs) (onto c (parts cs)) ≡ p .0 ∷ p .1)
+    go true r = (([], parts cs), refl)
+    go false r = ((c ∷ r .0 .0, r .0 .1), ap (onto c) (r .1))
+
+-- a row of one part, of two, of three, of more: a, b and d are the places of its first spaces, or its length
+module _ (s : List ℕ) (a : ℕ) (p : Finds s 0 32 a) where
+  pub row-one : length s ≤ a → Unreadable ≡ rowOf s
+  unfolding rowOf fromParts
+  row-one h = rw (parts-end s 0 a p h)
+
+  module _ (h : a < length s) (b : ℕ) (q : Finds s (a + 1) 32 b) where
+    pub row-two : length s ≤ b → twoParts (take (a - 0) s) (number (take (b - (a + 1)) (drop (a + 1) s))) ≡ rowOf s
+    unfolding rowOf fromParts
+    row-two k = rw (parts-at s 0 a p h, parts-end s (a + 1) b q k)
+
+    module _ (k : b < length s) (d : ℕ) (r : Finds s (b + 1) 32 d) where
+      pub row-three : length s ≤ d
+          → threeParts (take (a - 0) s) (number (take (b - (a + 1)) (drop (a + 1) s))) (number (take (d - (b + 1)) (drop (b + 1) s))) ≡ rowOf s
+      unfolding rowOf fromParts
+      row-three l = rw (parts-at s 0 a p h, parts-at s (a + 1) b q k, parts-end s (b + 1) d r l)
+
+      pub row-more : d < length s → Unreadable ≡ rowOf s
+      unfolding rowOf fromParts
+      row-more l = rw (parts-at s 0 a p h, parts-at s (a + 1) b q k, parts-at s (b + 1) d r l, some-part (drop (d + 1) s) .1)

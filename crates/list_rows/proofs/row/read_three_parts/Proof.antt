@@ -1,0 +1,64 @@
+-- `read_three_parts` meets its contract, test by test.
+use mathlib.Core.Path.{sym, _∙_}
+use Rattle.list_rows.proofs.Forms.{three-none, three-half, three-wide, three-add, three-strike, three-other}
+use borrow.Author.Needs.{needs}
+use native.Mathlib.Omega.{arith}
+use Rattle.list_rows.proofs.row.read_three_parts.Statement.{statement}
+use Rattle.list_rows.proofs.row.read_three_parts.Tie as tie
+
+read-number-requires : tie.Need-read-number-requires
+read-number-requires c κs = search needs
+
+enum-known-a : tie.Need-enum-known-a
+enum-known-a c = search needs
+
+enum-told : tie.Need-enum-told
+enum-told c = search needs
+
+returns : tie.Need-returns
+returns c = three-none _ _ _ (sym (c .before .before .read-number .ensures) ∙ c .enum-told .given .1)
+
+read-number-requires-2 : tie.Need-read-number-requires-2
+read-number-requires-2 c κs = search needs
+
+enum-known-b : tie.Need-enum-known-b
+enum-known-b c = search needs
+
+enum-told-2 : tie.Need-enum-told-2
+enum-told-2 c = search needs
+
+returns-2 : tie.Need-returns-2
+returns-2 c = three-half _ _ _ _ (sym (c .before .before .before .before .before .before .read-number .ensures) ∙ c .before .before .before .before .a .given .1) (sym (c .before .before .read-number2 .ensures) ∙ c .enum-told2 .given .1)
+
+returns-3 : tie.Need-returns-3
+returns-3 c = three-wide _ _ _ _ (sym (c .before .before .before .before .before .before .before .before .read-number .ensures) ∙ c .before .before .before .before .before .before .a .given .1) _ (sym (c .before .before .before .before .read-number2 .ensures) ∙ c .before .before .b .given .1) (c .if1 .taken)
+
+shared-slice-read-kind : tie.Need-shared-slice-read-kind
+shared-slice-read-kind c = omega arith
+
+returns-4 : tie.Need-returns-4
+returns-4 c = three-add _ _ _ _ (sym (c .before .before .before .before .before .before .before .before .before .before .read-number .ensures) ∙ c .before .before .before .before .before .before .before .before .a .given .1) _ (sym (c .before .before .before .before .before .before .read-number2 .ensures) ∙ c .before .before .before .before .b .given .1) (c .before .before .if1 .left) (c .if2 .taken)
+
+returns-5 : tie.Need-returns-5
+returns-5 c = three-strike _ _ _ _ (sym (c .before .before .before .before .before .before .before .before .before .before .before .read-number .ensures) ∙ c .before .before .before .before .before .before .before .before .before .a .given .1) _ (sym (c .before .before .before .before .before .before .before .read-number2 .ensures) ∙ c .before .before .before .before .before .b .given .1) (c .before .before .before .if1 .left) (c .if3 .taken)
+
+returns-6 : tie.Need-returns-6
+returns-6 c = three-other _ _ _ _ (sym (c .before .before .before .before .before .before .before .before .before .before .before .read-number .ensures) ∙ c .before .before .before .before .before .before .before .before .before .a .given .1) _ (sym (c .before .before .before .before .before .before .before .read-number2 .ensures) ∙ c .before .before .before .before .before .b .given .1) (c .before .before .before .if1 .left) (c .before .if2 .left) (c .if3 .left)
+
+pub read-three-parts-spec : {M : Type 1} → statement M
+read-three-parts-spec =
+    tie.close
+    (tie.spec
+    read-number-requires
+    enum-known-a
+    enum-told
+    returns
+    read-number-requires-2
+    enum-known-b
+    enum-told-2
+    returns-2
+    returns-3
+    shared-slice-read-kind
+    returns-4
+    returns-5
+    returns-6)

@@ -1,0 +1,48 @@
+-- `read_two_parts` meets its contract, test by test.
+use mathlib.Core.Path.{sym, _∙_}
+use Rattle.list_rows.proofs.Forms.{two-none, two-wide, two-banks, two-all, two-other}
+use borrow.Author.Needs.{needs}
+use native.Mathlib.Omega.{arith}
+use Rattle.list_rows.proofs.row.read_two_parts.Statement.{statement}
+use Rattle.list_rows.proofs.row.read_two_parts.Tie as tie
+
+read-number-requires : tie.Need-read-number-requires
+read-number-requires c κs = search needs
+
+enum-known-value : tie.Need-enum-known-value
+enum-known-value c = search needs
+
+enum-told : tie.Need-enum-told
+enum-told c = search needs
+
+returns : tie.Need-returns
+returns c = two-none _ _ (sym (c .before .before .read-number .ensures) ∙ c .enum-told .given .1)
+
+returns-2 : tie.Need-returns-2
+returns-2 c = two-wide _ _ _ (sym (c .before .before .before .before .read-number .ensures) ∙ c .before .before .value .given .1) (c .if1 .taken)
+
+shared-slice-read-kind : tie.Need-shared-slice-read-kind
+shared-slice-read-kind c = omega arith
+
+returns-3 : tie.Need-returns-3
+returns-3 c = two-banks _ _ _ (sym (c .before .before .before .before .before .before .read-number .ensures) ∙ c .before .before .before .before .value .given .1) (c .before .before .if1 .left) (c .if2 .taken)
+
+returns-4 : tie.Need-returns-4
+returns-4 c = two-all _ _ _ (sym (c .before .before .before .before .before .before .before .read-number .ensures) ∙ c .before .before .before .before .before .value .given .1) (c .before .before .before .if1 .left) (c .if3 .taken)
+
+returns-5 : tie.Need-returns-5
+returns-5 c = two-other _ _ _ (sym (c .before .before .before .before .before .before .before .read-number .ensures) ∙ c .before .before .before .before .before .value .given .1) (c .before .before .before .if1 .left) (c .before .if2 .left) (c .if3 .left)
+
+pub read-two-parts-spec : {M : Type 1} → statement M
+read-two-parts-spec =
+    tie.close
+    (tie.spec
+    read-number-requires
+    enum-known-value
+    enum-told
+    returns
+    returns-2
+    shared-slice-read-kind
+    returns-3
+    returns-4
+    returns-5)

@@ -1,0 +1,5 @@
+-- What a reader must believe of a list's rows: Text, Rows. Inner serves the functions; Examples are computed.
+pub mod Text
+pub mod Rows
+pub mod Inner
+pub mod Examples

@@ -1,0 +1,62 @@
+-- The refusal's text, and the answer to a list by what its reading left.
+use mathlib.Core.List.{List, [], _∷_, _++_}
+use mathlib.Core.Path.{_≡_, refl, sym, ap, ap₂, _∙_}
+use Prim.Native.Nat.{ℕ, zero, suc, _+_, _≤_}
+use native.Mathlib.Omega.{arith}
+use lib.ListN.{length, length-append}
+use Rattle.memory.specs.Cells.{over}
+use Rattle.list_reader.specs.Pass.{ListResult, readList}
+use Rattle.sheet_writer.specs.Sheet.{decimal}
+use Rattle.sheet_writer.specs.Put.{Puts}
+use Rattle.sheet_writer.specs.Calls.{SheetResult, writeSheet}
+use Rattle.sheet_writer.proofs.Putting.{puts-three, put-over}
+use Rattle.sheet_writer.proofs.Theorems.{written-within}
+use Rattle.sheet.specs.Answers.{blank, refusalText, answerResult, ofSheet, answerBy, answerOf}
+
+pub length-refusal : (c r : ℕ) → length (refusalText c r) ≡ 8 + (length (decimal c) + (5 + (length (decimal r) + 1)))
+unfolding refusalText
+length-refusal c r =
+    let row : List ℕ = decimal r ++ (10 ∷ []) in
+    omega (arith, length-append (decimal c) ((32 ∷ 82 ∷ 79 ∷ 87 ∷ 32 ∷ []) ++ row), length-append (decimal r) (10 ∷ []))
+
+-- its five parts, one after the other
+pub puts-refusal : (c r : ℕ) (out : List ℕ) → length (refusalText c r) ≤ length out
+    → (r₁ r₂ r₃ r₄ r₅ : ℕ) (out₁ out₂ out₃ out₄ out₅ : List ℕ) → length out₁ ≡ length out → length out₂ ≡ length out₁ → length out₃ ≡ length out₂
+    → Puts (82 ∷ 69 ∷ 70 ∷ 85 ∷ 83 ∷ 69 ∷ 68 ∷ 32 ∷ []) 0 out r₁ out₁ → Puts (decimal c) r₁ out₁ r₂ out₂
+    → Puts (32 ∷ 82 ∷ 79 ∷ 87 ∷ 32 ∷ []) r₂ out₂ r₃ out₃ → Puts (decimal r) r₃ out₃ r₄ out₄ → Puts (10 ∷ []) r₄ out₄ r₅ out₅
+    → Puts (refusalText c r) 0 out r₅ out₅
+unfolding refusalText
+puts-refusal c r out room r₁ r₂ r₃ r₄ r₅ out₁ out₂ out₃ out₄ out₅ e₁ e₂ e₃ p₁ p₂ p₃ p₄ p₅ =
+    let long = length-refusal c r in
+    let n₁ : r₁ ≡ 0 + 8 = p₁ .next in
+    let n₂ : r₂ ≡ r₁ + length (decimal c) = p₂ .next in
+    let row : List ℕ = (32 ∷ 82 ∷ 79 ∷ 87 ∷ 32 ∷ []) ++ (decimal r ++ (10 ∷ [])) in
+    puts-three (82 ∷ 69 ∷ 70 ∷ 85 ∷ 83 ∷ 69 ∷ 68 ∷ 32 ∷ []) (decimal c) row 0 out (omega (arith, length-append (decimal r) (10 ∷ []))) r₁ r₂ r₅ out₁ out₂ out₅ e₁ p₁ p₂
+    (puts-three (32 ∷ 82 ∷ 79 ∷ 87 ∷ 32 ∷ []) (decimal r) (10 ∷ []) r₂ out₂ (omega arith) r₃ r₄ r₅ out₃ out₄ out₅ e₃ p₃ p₄ p₅)
+
+refused : (n : ℕ) (l : ListResult) (out : List ℕ) → (n ≡ 0 → ⊥)
+    → answerResult (length (refusalText n (l .answer .row))) (over (refusalText n (l .answer .row)) out) ≡ answerBy n l out
+unfolding answerBy
+refused zero l out z = absurd (z refl)
+refused (suc c) l out z = refl
+
+module _ (list out : List ℕ) (l : ListResult) (read : l ≡ readList list blank) where
+  by-reading : answerBy (l .answer .number) l out ≡ answerOf list out
+  unfolding answerOf
+  by-reading = ap (λ (l : ListResult). answerBy (l .answer .number) l out) read
+
+  -- a refused list
+  pub answer-refused : (l .answer .number ≡ 0 → ⊥) → (r : ℕ) (out′ : List ℕ) → Puts (refusalText (l .answer .number) (l .answer .row)) 0 out r out′
+      → answerResult r out′ ≡ answerOf list out
+  answer-refused z r out′ p =
+      let text : List ℕ = refusalText (l .answer .number) (l .answer .row) in
+      let e : r ≡ length text = omega (arith, p .next) in
+      ap₂ (λ (n : ℕ) (o : List ℕ). answerResult n o) e (p .left ∙ put-over text out) ∙ refused (l .answer .number) l out z ∙ by-reading
+
+  -- an accepted one
+  pub answer-sheet : l .answer .number ≡ 0 → (w : SheetResult) → w ≡ writeSheet (l .memory .slices) (l .memory .tally) out → ofSheet w ≡ answerOf list out
+  unfolding answerBy
+  answer-sheet z w e = ap ofSheet e ∙ ap (λ (n : ℕ). answerBy n l out) (sym z) ∙ by-reading
+
+  pub sheet-within : (w : SheetResult) → w ≡ writeSheet (l .memory .slices) (l .memory .tally) out → w .answer .length ≤ length (w .out)
+  sheet-within w e = rw e (written-within (l .memory .slices) (l .memory .tally) out)

@@ -1,0 +1,3 @@
+-- Theorems: what to cite. Answering: what the functions' proofs cite.
+pub mod Answering
+pub mod Theorems

@@ -1,0 +1,37 @@
+-- What the program writes for a list (01, "The sheet").
+use mathlib.Core.List.{List, [], _∷_, _++_}
+use Prim.Native.Nat.{ℕ, zero, suc}
+use lib.ListN.{length, replicate}
+use Rattle.memory.specs.Cells.{over}
+use Rattle.planner.specs.Calls.{Memory, memoryOf}
+use Rattle.list_reader.specs.Pass.{ListResult, readList}
+use Rattle.sheet_writer.specs.Sheet.{decimal}
+use Rattle.sheet_writer.specs.Calls.{SheetResult, writeSheet}
+
+-- the memory that the program lends: cells for 1,024 banks, all 0
+abbrev pub blank : Memory
+blank = memoryOf (replicate 23552 0) (replicate 1024 0) (replicate 1024 0) (replicate 24576 0) (replicate 1024 0) (replicate 1024 0) (record { banks = 0; clashes = 0; waves = 0 })
+
+-- `REFUSED c ROW r`
+unfoldable pub refusalText : ℕ → ℕ → List ℕ
+refusalText c r = (82 ∷ 69 ∷ 70 ∷ 85 ∷ 83 ∷ 69 ∷ 68 ∷ 32 ∷ []) ++ (decimal c ++ ((32 ∷ 82 ∷ 79 ∷ 87 ∷ 32 ∷ []) ++ (decimal r ++ (10 ∷ []))))
+
+-- what is written, and its length
+pub record AnswerResult : Type 0 where
+  pub length : ℕ
+  pub out : List ℕ
+
+abbrev pub answerResult : ℕ → List ℕ → AnswerResult
+answerResult length out = record { length = length; out = out }
+
+abbrev pub ofSheet : SheetResult → AnswerResult
+ofSheet w = answerResult (w .answer .length) (w .out)
+
+-- by the list's number: the sheet of the plan that it left, or the refusal
+unfoldable pub answerBy : ℕ → ListResult → List ℕ → AnswerResult
+answerBy zero l out = ofSheet (writeSheet (l .memory .slices) (l .memory .tally) out)
+answerBy (suc c) l out = answerResult (length (refusalText (suc c) (l .answer .row))) (over (refusalText (suc c) (l .answer .row)) out)
+
+-- the answer to a list
+unfoldable pub answerOf : List ℕ → List ℕ → AnswerResult
+answerOf list out = answerBy (readList list blank .answer .number) (readList list blank) out

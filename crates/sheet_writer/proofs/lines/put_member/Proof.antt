@@ -1,0 +1,39 @@
+use borrow.Author.Needs.{needs}
+use native.Mathlib.Omega.{arith}
+use mathlib.Core.List.{[], _∷_}
+use mathlib.Core.Path.{ap}
+use lib.ListN.{length}
+use Rattle.sheet_writer.specs.Sheet.{decimal}
+use Rattle.sheet_writer.proofs.Texts.{member-same, member-other}
+use Rattle.sheet_writer.proofs.Putting.{puts-none, puts-then}
+use Rattle.sheet_writer.proofs.lines.put_member.Statement.{statement}
+use Rattle.sheet_writer.proofs.lines.put_member.Tie as tie
+
+returns : tie.Need-returns
+returns c =
+    let a = c .before .before .before .before .args in
+    rw (member-other (a .w .0) (a .c .0) (a .b .0) (search needs)) (puts-none _ _)
+
+put-byte-requires : tie.Need-put-byte-requires
+put-byte-requires c κs =
+    let a = c .before .before .before .before .before .args in
+    omega (arith, ap length (member-same (a .w .0) (a .c .0) (a .b .0) (omega (arith, c .before .if1 .left))), c .before .before .before .before .before .pre)
+
+put-number-requires : tie.Need-put-number-requires
+put-number-requires c κs =
+    let a = c .before .before .before .before .before .before .before .before .before .args in
+    let p = c .before .before .before .put-byte in
+    omega (arith, ap length (member-same (a .w .0) (a .c .0) (a .b .0) (omega (arith, c .before .before .before .before .before .if1 .left))), c .before .before .before .before .before .before .before .before .before .pre, p .ensures .next, p .kept .0)
+
+same-length : tie.Need-same-length
+same-length c = search needs
+
+returns-2 : tie.Need-returns-2
+returns-2 c =
+    let a = c .before .before .before .before .before .before .before .before .before .before .before .before .args in
+    let e = member-same (a .w .0) (a .c .0) (a .b .0) (omega (arith, c .before .before .before .before .before .before .before .before .if1 .left)) in
+    rw e (puts-then (32 ∷ []) (decimal (a .b .0)) (a .at) (a .out .now) (omega (arith, ap length e, c .before .before .before .before .before .before .before .before .before .before .before .before .pre)) _ _ _ _ (c .before .before .before .before .before .before .put-byte .ensures) (c .before .before .put-number .ensures))
+
+pub put-member-spec : {M : Type 1} → statement M
+put-member-spec =
+    tie.close (tie.spec returns put-byte-requires put-number-requires same-length returns-2)

@@ -1,0 +1,88 @@
+// Writing the sheet of a plan.
+use crate::lines::put_head;
+use crate::lines::put_lines;
+use memory::Tally;
+use planner::check_plan;
+use rule::wide;
+ghost use mathlib.Core.Path.{_≡_};
+ghost use mathlib.Core.List.{map};
+ghost use Prim.Native.Nat.{_+_, _*_, _≤_};
+ghost use lib.ListN.{length};
+ghost use Rattle.rule.specs.Lists.{upto};
+ghost use Rattle.memory.specs.Plan.{slicesOf};
+ghost use Rattle.sheet_writer.specs.Sheet.{joined, bankText, headText};
+ghost use Rattle.sheet_writer.specs.Calls.{sheetResult, writeSheet};
+
+// The bytes of the longest sheet, that of 1,024 banks in 24 waves: 9 of `WAVES 24`, 2 for each line, and 4,010 of the banks.
+pub const LONGEST_SHEET: usize = 4067;
+
+// The answer of write_sheet: 01's number, and the bytes of the sheet.
+pub struct Written {
+    pub number: u16,
+    pub length: usize,
+}
+
+// The bytes of the banks on their lines, each with its space.
+fn banks_length(banks: u16) -> usize
+    requires { ⌜ banks ≤ 1024 ⌝ }
+    ensures { λ r. ⌜ (r ≡ length (joined (map bankText (upto banks)))) × (r ≤ 4010) ⌝ }
+{
+    let n = wide(banks);
+    if n <= 10 {
+        return 2 * n;
+    }
+    if n <= 100 {
+        return 3 * n - 10;
+    }
+    if n <= 1000 {
+        return 4 * n - 110;
+    }
+    5 * n - 1110
+}
+
+// The bytes of the sheet of n banks in k waves: each bank stands on it once, on whichever line.
+fn sheet_length(n: u16, k: u16) -> usize
+    requires { ⌜ (n ≤ 1024) × (k ≤ 24) ⌝ }
+    ensures { λ r. ⌜ r ≡ length (headText k) + (2 * k + length (joined (map bankText (upto n)))) ⌝ }
+{
+    let lines = 2 * wide(k) + banks_length(n);
+    if k < 10 {
+        return 8 + lines;
+    }
+    9 + lines
+}
+
+// Writes the sheet of the plan to the front of out.
+pub fn write_sheet(
+    neighbours: &[u16],
+    degrees: &[u16],
+    waves: &[u16],
+    counts: &[u16],
+    tally: Tally,
+    out: &mut [u8],
+) -> Written
+    ensures { λ r. ⌜ sheetResult r (now (out .exit)) ≡ writeSheet (slicesOf (now (neighbours .entry)) (now (degrees .entry)) (now (waves .entry)) (now (counts .entry))) tally (now (out .entry)) ⌝ }
+{
+    let number = check_plan(neighbours, degrees, waves, counts, tally);
+    if number != 0 {
+        return Written {
+            number: number,
+            length: 0,
+        };
+    }
+    let n = tally.banks;
+    let k = tally.waves;
+    let length = sheet_length(n, k);
+    if out.len() < length {
+        return Written {
+            number: 12,
+            length: 0,
+        };
+    }
+    let next = put_head(out, k);
+    put_lines(out, next, waves, n, k);
+    Written {
+        number: 0,
+        length: length,
+    }
+}

@@ -1,0 +1,91 @@
+-- What the calls that read answer: where the clashes of a bank stand, and how long a sheet is.
+use mathlib.Core.List.{List}
+use mathlib.Core.Path.{_≡_, refl, sym, ap, ap₂, _∙_}
+use Prim.Native.Nat.{ℕ, zero, suc, _+_, _*_, _-_, _≤_, _<_}
+use native.Mathlib.Omega.{arith}
+use lib.ListN.{length, getD, take, drop}
+use borrow.Author.Tests.{leb-true, ltb-true}
+use Rattle.rule.specs.Graph.{Graph, neighbours}
+use Rattle.rule.proofs.Booleans.{T-along}
+use Rattle.rule.proofs.Neighbours.{degree-length}
+use Rattle.memory.specs.declared.Tally.{Tally}
+use Rattle.memory.specs.Plan.{Slices, graphIn, PlanOf}
+use Rattle.memory.proofs.Theorems.{holds-plan}
+use Rattle.planner.specs.Calls.{bankNumber, clashesOf}
+use Rattle.planner.proofs.Numbers as Numbers
+use Rattle.planner.proofs.Rows as Rows
+use Rattle.sheet_writer.specs.declared.sheet.Written.{Written}
+use Rattle.sheet_writer.specs.Sheet.{sheet}
+use Rattle.sheet_writer.specs.Calls.{SheetResult, sheetResult, sheetNumber, sheetBy, writeSheet}
+use Rattle.sheet_writer.proofs.Theorems.{sheet-fits}
+use Rattle.wave_plan.specs.Calls.{startBy}
+
+module _ (b : ℕ) (s : Slices) (t : Tally) where
+  abbrev G : Graph
+  G = graphIn (t .banks) s
+
+  pub refused-start : (bankNumber b s t ≡ 0 → ⊥) → startBy (bankNumber b s t) b ≡ 0
+  refused-start = go (bankNumber b s t)
+    where
+      go : (c : ℕ) → (c ≡ 0 → ⊥) → startBy c b ≡ 0
+      go zero h = absurd (h refl)
+      go (suc c) h = unfold startBy in refl
+
+  module _ (none : bankNumber b s t ≡ 0) where
+    pub found-start : startBy (bankNumber b s t) b ≡ 23 * b
+    unfolding startBy
+    found-start = rw none
+
+    few : t .banks ≤ 1024
+    unfolding bankNumber
+    few = leb-true (t .banks) 1024 (Numbers.none _ 0 _ none .0)
+
+    below : b < t .banks
+    unfolding bankNumber
+    below = ltb-true b (t .banks) (Numbers.none _ 3 _ (Numbers.none _ 2 _ (Numbers.none _ 1 _ (Numbers.none _ 0 _ none .1) .1) .1) .0)
+
+    pub bank-small : b < 1024
+    bank-small = omega (arith, few, below)
+
+    plan : PlanOf G s t
+    unfolding bankNumber
+    plan = holds-plan s t few (T-along (sym (Numbers.none _ 2 _ (Numbers.none _ 1 _ (Numbers.none _ 0 _ none .1) .1) .0)) tt)
+
+    found : clashesOf b s t ≡ neighbours G b
+    found = sym (Rows.clashes-found b s t (sym none))
+
+    -- the clashes are as many as the degree cell says
+    counted : length (clashesOf b s t) ≡ getD (s .degrees) b 0
+    counted = ap length found ∙ sym (degree-length G b) ∙ sym (Rows.plan-degree plan below)
+
+    pub few-clashes : length (clashesOf b s t) ≤ 23
+    few-clashes = omega (arith, counted, Rows.few-cells plan below)
+
+    -- the filled part of the row
+    pub row-part : take (length (clashesOf b s t)) (drop (23 * b) (s .neighbours)) ≡ clashesOf b s t
+    row-part =
+        let d : ℕ = getD (s .degrees) b 0 in
+        let l : length (clashesOf b s t) ≡ b * 23 + d - b * 23 = omega (arith, counted) in
+        let k : 23 * b ≡ b * 23 = omega arith in
+        ap₂ (λ (x y : ℕ). take x (drop y (s .neighbours))) l k ∙ Rows.row-part plan below b d refl refl ∙ sym found
+
+module _ (s : Slices) (t : Tally) (out : List ℕ) where
+  text-short : sheetNumber s t out ≡ 0 → length (sheet (graphIn (t .banks) s)) ≤ 4067
+  unfolding sheetNumber
+  text-short none =
+      let few : t .banks ≤ 1024 = leb-true (t .banks) 1024 (Numbers.none _ 0 _ none .0) in
+      let held = Numbers.none _ 2 _ (Numbers.none _ 1 _ (Numbers.none _ 0 _ none .1) .1) .0 in
+      sheet-fits (graphIn (t .banks) s) (holds-plan s t few (T-along (sym held) tt) .clashes)
+
+  by-number : (c : ℕ) → sheetNumber s t out ≡ c → sheetBy c (sheet (graphIn (t .banks) s)) out .answer .length ≤ 4067
+  unfolding sheetBy
+  by-number zero e = text-short e
+  by-number (suc c) e = omega arith
+
+  -- a sheet that is written has at most 4,067 bytes
+  pub written-short : writeSheet s t out .answer .length ≤ 4067
+  unfolding writeSheet
+  written-short = by-number (sheetNumber s t out) refl
+
+  pub sheet-short : (answer : Written) (out′ : List ℕ) → sheetResult answer out′ ≡ writeSheet s t out → answer .length ≤ 4067
+  sheet-short answer out′ e = omega (arith, ap (λ (x : SheetResult). x .answer .length) e, written-short)

@@ -1,0 +1,7 @@
+-- Theorems: what to cite. The others, for the functions' proofs: Fronts, cells at the front of a slice; Room, short slices; Answers, what the
+-- calls that read answer; Done, what each function leaves.
+pub mod Fronts
+pub mod Room
+pub mod Answers
+pub mod Done
+pub mod Theorems

@@ -1,0 +1,39 @@
+-- What follows from the contracts of this crate, each restated in full.
+-- 1. a refused edit changes no slice but the front two cells of the result, which are 0; a refused opening changes nothing
+-- 2. the part that wave_plan_clashes_of names is the filled part of the bank's row
+-- 3. the length of a sheet fits the result cell
+use mathlib.Core.List.{List, [], _∷_}
+use mathlib.Core.Path.{_≡_, ap}
+use Prim.Native.Nat.{ℕ, _*_, _≤_}
+use lib.ListN.{length, take, drop}
+use Rattle.memory.specs.declared.Tally.{Tally}
+use Rattle.memory.specs.Cells.{over}
+use Rattle.memory.specs.Plan.{Slices}
+use Rattle.planner.specs.Calls.{openResult, refused, bankNumber, clashesOf}
+use Rattle.sheet_writer.specs.Calls.{writeSheet}
+use Rattle.wave_plan.specs.Lent.{tallyIn, Lent, memoryIn, leaving}
+use Rattle.wave_plan.specs.Calls.{openLeft, openDone, left, editDone}
+use Rattle.wave_plan.proofs.Fronts.{tally-again}
+use Rattle.wave_plan.proofs.Answers as Answers
+
+module _ (l : Lent) (long : 3 ≤ length (l .tally)) where
+  pub refused-edit : (c : ℕ)
+      → editDone (refused c (memoryIn l)) l
+      ≡ left c (record { slices = l .slices; trail = l .trail; moved = l .moved; tally = l .tally; result = over (0 ∷ 0 ∷ []) (l .result) })
+  unfolding editDone refused memoryIn leaving
+  refused-edit c =
+      ap
+      (λ (t : List ℕ). left c (record { slices = l .slices; trail = l .trail; moved = l .moved; tally = t; result = over (0 ∷ 0 ∷ []) (l .result) }))
+      (tally-again (l .tally) long)
+
+pub refused-open : (s : Slices) (tally : List ℕ) → 3 ≤ length tally → (c : ℕ)
+    → openDone (openResult c s (tallyIn tally)) tally ≡ openLeft c s tally
+unfolding openDone
+refused-open s tally long c = ap (openLeft c s) (tally-again tally long)
+
+pub row-part : (b : ℕ) (s : Slices) (t : Tally) → bankNumber b s t ≡ 0
+    → take (length (clashesOf b s t)) (drop (23 * b) (s .neighbours)) ≡ clashesOf b s t
+row-part = Answers.row-part
+
+pub sheet-short : (s : Slices) (t : Tally) (out : List ℕ) → writeSheet s t out .answer .length ≤ 4067
+sheet-short = Answers.written-short

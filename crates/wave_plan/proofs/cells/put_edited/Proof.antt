@@ -1,0 +1,30 @@
+-- `wave_plan::cells::put_edited` meets its contract.
+use borrow.Author.Needs.{needs}
+use mathlib.Core.Path.{refl}
+use Rattle.wave_plan.proofs.cells.put_edited.Statement.{statement}
+use Rattle.wave_plan.proofs.cells.put_edited.Tie as tie
+
+put-tally-requires : tie.Need-put-tally-requires
+put-tally-requires c κs = search needs
+
+put-two-requires : tie.Need-put-two-requires
+put-two-requires c κs = search needs
+
+same-length : tie.Need-same-length
+same-length c = search needs
+
+same-length-2 : tie.Need-same-length-2
+same-length-2 c = search needs
+
+returns : tie.Need-returns
+returns c = record { number = refl; counts = c .before .before .put-two .ensures; after = c .before .before .before .before .before .before .before .put-tally .ensures }
+
+pub put-edited-spec : {M : Type 1} → statement M
+put-edited-spec =
+    tie.close
+    (tie.spec
+    put-tally-requires
+    put-two-requires
+    same-length
+    same-length-2
+    returns)

@@ -1,0 +1,28 @@
+-- `wave_plan::cells::tally_in` meets its contract.
+use borrow.Author.Needs.{needs}
+use mathlib.Core.Path.{refl}
+use Rattle.wave_plan.specs.Lent.{tallyIn}
+use Rattle.wave_plan.proofs.cells.tally_in.Statement.{statement}
+use Rattle.wave_plan.proofs.cells.tally_in.Tie as tie
+
+shared-slice-read-t3 : tie.Need-shared-slice-read-t3
+shared-slice-read-t3 c = search needs
+
+shared-slice-read-t5 : tie.Need-shared-slice-read-t5
+shared-slice-read-t5 c = search needs
+
+shared-slice-read-t7 : tie.Need-shared-slice-read-t7
+shared-slice-read-t7 c = search needs
+
+returns : tie.Need-returns
+unfolding tallyIn
+returns c = refl
+
+pub tally-in-spec : {M : Type 1} → statement M
+tally-in-spec =
+    tie.close
+    (tie.spec
+    shared-slice-read-t3
+    shared-slice-read-t5
+    shared-slice-read-t7
+    returns)

@@ -1,0 +1,50 @@
+-- `wave_plan::wave_plan_open` meets its contract.
+use borrow.Author.Needs.{needs}
+use Rattle.wave_plan.proofs.Done.{open-short, open-done}
+use Rattle.wave_plan.proofs.wave_plan_open.Statement.{statement}
+use Rattle.wave_plan.proofs.wave_plan_open.Tie as tie
+
+returns : tie.Need-returns
+returns c = open-short _ _ _ (c .if1 .taken)
+
+tally-in-requires : tie.Need-tally-in-requires
+tally-in-requires c κs = search needs
+
+open-core-requires : tie.Need-open-core-requires
+open-core-requires c κs = search needs
+
+put-tally-requires : tie.Need-put-tally-requires
+put-tally-requires c κs = search needs
+
+same-length : tie.Need-same-length
+same-length c = search needs
+
+same-length-2 : tie.Need-same-length-2
+same-length-2 c = search needs
+
+same-length-3 : tie.Need-same-length-3
+same-length-3 c = search needs
+
+same-length-4 : tie.Need-same-length-4
+same-length-4 c = search needs
+
+same-length-5 : tie.Need-same-length-5
+same-length-5 c = search needs
+
+returns-2 : tie.Need-returns-2
+returns-2 c = open-done _ _ _ _ _ _ _ _ (c .before .before .before .before .before .before .before .before .before .before .before .before .before .before .before .before .before .before .before .before .if1 .left) (c .before .before .before .before .before .before .before .before .before .before .before .before .before .before .before .before .before .before .tally-in .ensures) (c .before .before .before .before .before .before .before .before .before .before .before .before .before .open-core .ensures) (c .before .before .put-tally .ensures)
+
+pub wave-plan-open-spec : {M : Type 1} → statement M
+wave-plan-open-spec =
+    tie.close
+    (tie.spec
+    returns
+    tally-in-requires
+    open-core-requires
+    put-tally-requires
+    same-length
+    same-length-2
+    same-length-3
+    same-length-4
+    same-length-5
+    returns-2)

@@ -1,0 +1,54 @@
+-- `wave_plan::wave_plan_write_sheet` meets its contract.
+use borrow.Author.Needs.{needs}
+use native.Mathlib.Omega.{arith}
+use Rattle.wave_plan.proofs.Answers.{sheet-short}
+use Rattle.wave_plan.proofs.Done.{sheet-short-tally, sheet-short-result, sheet-done}
+use Rattle.wave_plan.proofs.wave_plan_write_sheet.Statement.{statement}
+use Rattle.wave_plan.proofs.wave_plan_write_sheet.Tie as tie
+
+returns : tie.Need-returns
+returns c = sheet-short-tally _ _ _ _ (c .if1 .taken)
+
+returns-2 : tie.Need-returns-2
+returns-2 c = sheet-short-result _ _ _ _ (c .before .if1 .left) (c .if2 .taken)
+
+tally-in-requires : tie.Need-tally-in-requires
+tally-in-requires c κs = search needs
+
+write-sheet-requires : tie.Need-write-sheet-requires
+write-sheet-requires c κs = search needs
+
+cast-put-one : tie.Need-cast-put-one
+cast-put-one c = omega (arith, sheet-short _ _ _ _ _ (c .before .before .before .before .write-sheet .ensures))
+
+put-one-requires : tie.Need-put-one-requires
+put-one-requires c κs = search needs
+
+same-length : tie.Need-same-length
+same-length c = search needs
+
+same-length-2 : tie.Need-same-length-2
+same-length-2 c = search needs
+
+returns-3 : tie.Need-returns-3
+returns-3 c =
+    sheet-done _ _ _ _ _ _ _ _
+    (c .before .before .before .before .before .before .before .before .before .before .before .if1 .left)
+    (c .before .before .before .before .before .before .before .before .before .before .if2 .left)
+    (c .before .before .before .before .before .before .before .before .before .tally-in .ensures)
+    (c .before .before .before .before .before .before .before .write-sheet .ensures)
+    (c .before .before .put-one .ensures)
+
+pub wave-plan-write-sheet-spec : {M : Type 1} → statement M
+wave-plan-write-sheet-spec =
+    tie.close
+    (tie.spec
+    returns
+    returns-2
+    tally-in-requires
+    write-sheet-requires
+    cast-put-one
+    put-one-requires
+    same-length
+    same-length-2
+    returns-3)

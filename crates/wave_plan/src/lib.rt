@@ -1,0 +1,248 @@
+// The C library: each call of the planner, the list reader and the sheet writer on numbers and slices. It decides nothing itself but that
+// a tally slice of fewer than three cells, or a result slice that is too short, gets 2 with nothing changed.
+mod cells;
+
+use cells::put_edited;
+use cells::put_listed;
+use cells::put_one;
+use cells::put_tally;
+use cells::put_two;
+use cells::tally_in;
+use list_reader::read_list_core;
+use planner::add_core;
+use planner::clashes_of;
+use planner::open_core;
+use planner::strike_core;
+use planner::wave_of;
+use rule::Bank;
+use rule::ROW_CELLS;
+use rule::wide;
+use sheet_writer::write_sheet;
+ghost use mathlib.Core.Path.{_≡_};
+ghost use Prim.Native.Nat.{_≤_};
+ghost use lib.ListN.{length};
+ghost use Rattle.rule.specs.Reach.{Kind.adding, Kind.striking};
+ghost use Rattle.memory.specs.Plan.{slicesOf};
+ghost use Rattle.planner.specs.Calls.{clashesOf};
+ghost use Rattle.wave_plan.specs.Lent.{tallyIn, lentOf};
+ghost use Rattle.wave_plan.specs.Calls.{openLeft, openCall, left, editCall, listCall, told, waveCall, clashesCall, partNamed, sheetLeft, sheetCall};
+
+// The cells of a tally slice: banks, clashes, waves.
+const TALLY_CELLS: usize = 3;
+
+// The cells of the result slice of each call.
+const EDIT_RESULTS: usize = 2;
+
+const WAVE_RESULTS: usize = 1;
+
+const CLASHES_RESULTS: usize = 2;
+
+const LIST_RESULTS: usize = 1;
+
+const SHEET_RESULTS: usize = 1;
+
+// Opens a plan of `banks` banks with no clash.
+#[no_mangle]
+pub extern "C" fn wave_plan_open(
+    neighbours: &mut [u16],
+    degrees: &mut [u16],
+    waves: &mut [u16],
+    counts: &mut [u16],
+    tally: &mut [u16],
+    banks: u16,
+) -> u16
+    ensures { λ r. ⌜ openLeft r (slicesOf (now (neighbours .exit)) (now (degrees .exit)) (now (waves .exit)) (now (counts .exit))) (now (tally .exit)) ≡ openCall banks (slicesOf (now (neighbours .entry)) (now (degrees .entry)) (now (waves .entry)) (now (counts .entry))) (now (tally .entry)) ⌝ }
+{
+    if tally.len() < TALLY_CELLS {
+        return 2;
+    }
+    let t = tally_in(tally);
+    let r = open_core(neighbours, degrees, waves, counts, banks, t);
+    let after = r.tally;
+    put_tally(tally, after);
+    r.number
+}
+
+// Adds the clash of a and b. The results are the moved count and the trail count.
+#[no_mangle]
+pub extern "C" fn wave_plan_add(
+    neighbours: &mut [u16],
+    degrees: &mut [u16],
+    waves: &mut [u16],
+    counts: &mut [u16],
+    trail: &mut [u16],
+    moved: &mut [u16],
+    tally: &mut [u16],
+    result: &mut [u16],
+    a: u16,
+    b: u16,
+) -> u16
+    ensures { λ r. ⌜ left r (lentOf (now (neighbours .exit)) (now (degrees .exit)) (now (waves .exit)) (now (counts .exit)) (now (trail .exit)) (now (moved .exit)) (now (tally .exit)) (now (result .exit))) ≡ editCall adding a b (lentOf (now (neighbours .entry)) (now (degrees .entry)) (now (waves .entry)) (now (counts .entry)) (now (trail .entry)) (now (moved .entry)) (now (tally .entry)) (now (result .entry))) ⌝ }
+{
+    if tally.len() < TALLY_CELLS {
+        return 2;
+    }
+    if result.len() < EDIT_RESULTS {
+        return 2;
+    }
+    let t = tally_in(tally);
+    let r = add_core(
+        neighbours,
+        degrees,
+        waves,
+        counts,
+        trail,
+        moved,
+        t,
+        Bank(a),
+        Bank(b),
+    );
+    put_edited(tally, result, r)
+}
+
+// Strikes the clash of a and b. The results are the moved count and the trail count.
+#[no_mangle]
+pub extern "C" fn wave_plan_strike(
+    neighbours: &mut [u16],
+    degrees: &mut [u16],
+    waves: &mut [u16],
+    counts: &mut [u16],
+    trail: &mut [u16],
+    moved: &mut [u16],
+    tally: &mut [u16],
+    result: &mut [u16],
+    a: u16,
+    b: u16,
+) -> u16
+    ensures { λ r. ⌜ left r (lentOf (now (neighbours .exit)) (now (degrees .exit)) (now (waves .exit)) (now (counts .exit)) (now (trail .exit)) (now (moved .exit)) (now (tally .exit)) (now (result .exit))) ≡ editCall striking a b (lentOf (now (neighbours .entry)) (now (degrees .entry)) (now (waves .entry)) (now (counts .entry)) (now (trail .entry)) (now (moved .entry)) (now (tally .entry)) (now (result .entry))) ⌝ }
+{
+    if tally.len() < TALLY_CELLS {
+        return 2;
+    }
+    if result.len() < EDIT_RESULTS {
+        return 2;
+    }
+    let t = tally_in(tally);
+    let r = strike_core(
+        neighbours,
+        degrees,
+        waves,
+        counts,
+        trail,
+        moved,
+        t,
+        Bank(a),
+        Bank(b),
+    );
+    put_edited(tally, result, r)
+}
+
+// The wave of bank b: the result.
+#[no_mangle]
+pub extern "C" fn wave_plan_wave_of(
+    neighbours: &[u16],
+    degrees: &[u16],
+    waves: &[u16],
+    counts: &[u16],
+    tally: &[u16],
+    result: &mut [u16],
+    b: u16,
+) -> u16
+    ensures { λ r. ⌜ told r (now (result .exit)) ≡ waveCall b (slicesOf (now (neighbours .entry)) (now (degrees .entry)) (now (waves .entry)) (now (counts .entry))) (now (tally .entry)) (now (result .entry)) ⌝ }
+{
+    if tally.len() < TALLY_CELLS {
+        return 2;
+    }
+    if result.len() < WAVE_RESULTS {
+        return 2;
+    }
+    let t = tally_in(tally);
+    let r = wave_of(neighbours, degrees, waves, counts, t, Bank(b));
+    let wave = r.wave;
+    put_one(result, wave.0);
+    r.number
+}
+
+// The clashes of bank b: the results are the cell of `neighbours` where they start, and how many they are. The number is that of
+// wave_plan_wave_of.
+#[no_mangle]
+pub extern "C" fn wave_plan_clashes_of(
+    neighbours: &[u16],
+    degrees: &[u16],
+    waves: &[u16],
+    counts: &[u16],
+    tally: &[u16],
+    result: &mut [u16],
+    b: u16,
+) -> u16
+    ensures answer { λ r. ⌜ told r (now (result .exit)) ≡ clashesCall b (slicesOf (now (neighbours .entry)) (now (degrees .entry)) (now (waves .entry)) (now (counts .entry))) (now (tally .entry)) (now (result .entry)) ⌝ }
+    ensures part { λ r. ⌜ (3 ≤ length (now (tally .entry)) → 2 ≤ length (now (result .entry)) → partNamed (now (result .exit)) (now (neighbours .entry)) ≡ clashesOf b (slicesOf (now (neighbours .entry)) (now (degrees .entry)) (now (waves .entry)) (now (counts .entry))) (tallyIn (now (tally .entry)))) ⌝ }
+{
+    if tally.len() < TALLY_CELLS {
+        return 2;
+    }
+    if result.len() < CLASHES_RESULTS {
+        return 2;
+    }
+    let t = tally_in(tally);
+    let r = wave_of(neighbours, degrees, waves, counts, t, Bank(b));
+    if r.number != 0 {
+        put_two(result, 0, 0);
+        return r.number;
+    }
+    let part = clashes_of(neighbours, degrees, waves, counts, t, Bank(b));
+    let start = ROW_CELLS * wide(b);
+    put_two(result, start as u16, part.len() as u16);
+    0
+}
+
+// Reads a list. The result is the row.
+#[no_mangle]
+pub extern "C" fn wave_plan_read_list(
+    list: &[u8],
+    neighbours: &mut [u16],
+    degrees: &mut [u16],
+    waves: &mut [u16],
+    counts: &mut [u16],
+    trail: &mut [u16],
+    moved: &mut [u16],
+    tally: &mut [u16],
+    result: &mut [u16],
+) -> u16
+    ensures { λ r. ⌜ left r (lentOf (now (neighbours .exit)) (now (degrees .exit)) (now (waves .exit)) (now (counts .exit)) (now (trail .exit)) (now (moved .exit)) (now (tally .exit)) (now (result .exit))) ≡ listCall (now (list .entry)) (lentOf (now (neighbours .entry)) (now (degrees .entry)) (now (waves .entry)) (now (counts .entry)) (now (trail .entry)) (now (moved .entry)) (now (tally .entry)) (now (result .entry))) ⌝ }
+{
+    if tally.len() < TALLY_CELLS {
+        return 2;
+    }
+    if result.len() < LIST_RESULTS {
+        return 2;
+    }
+    let t = tally_in(tally);
+    let r = read_list_core(list, neighbours, degrees, waves, counts, trail, moved, t);
+    put_listed(tally, result, r)
+}
+
+// Writes the sheet to the front of `out`. The result is its length.
+#[no_mangle]
+pub extern "C" fn wave_plan_write_sheet(
+    neighbours: &[u16],
+    degrees: &[u16],
+    waves: &[u16],
+    counts: &[u16],
+    tally: &[u16],
+    out: &mut [u8],
+    result: &mut [u16],
+) -> u16
+    ensures { λ r. ⌜ sheetLeft r (now (out .exit)) (now (result .exit)) ≡ sheetCall (slicesOf (now (neighbours .entry)) (now (degrees .entry)) (now (waves .entry)) (now (counts .entry))) (now (tally .entry)) (now (out .entry)) (now (result .entry)) ⌝ }
+{
+    if tally.len() < TALLY_CELLS {
+        return 2;
+    }
+    if result.len() < SHEET_RESULTS {
+        return 2;
+    }
+    let t = tally_in(tally);
+    let r = write_sheet(neighbours, degrees, waves, counts, t, out);
+    put_one(result, r.length as u16);
+    r.number
+}

@@ -1,0 +1,112 @@
+/* Wave plans of a locker depot, in memory that the caller lends.
+ *
+ * Each function is proved to answer and leave what the planner's definitions give for what it is lent, whatever that is. It
+ * returns 0 if the call was accepted, else one of the numbers WAVE_PLAN_... below.
+ *
+ * A slice is two arguments: a pointer to its first cell and its number of cells. The pointer must be valid for so many cells, not
+ * null and aligned, also where the number is 0. Slices of one call must not overlap, but for those that are const. Slices may be
+ * longer than asked: cells beyond the stated number are never changed.
+ *
+ * tally    three cells: banks, clashes, waves. The caller keeps them with the plan and changes them only through these calls.
+ * result   the further answers of a call, from the front; 0 where the call is refused.
+ * A tally slice of fewer than three cells, or a result slice shorter than the call's, gets 2 first of all, and nothing is changed.
+ * Apart from its result cells a refused call changes nothing (see wave_plan_read_list for the rows before the one refused).
+ */
+#ifndef WAVE_PLAN_H
+#define WAVE_PLAN_H
+
+#include <stddef.h>
+#include <stdint.h>
+
+#ifdef __cplusplus
+extern "C" {
+#endif
+
+/* Plan memory of n banks, numbered 0 to n - 1. All cells are 16-bit and unsigned.
+ *   neighbours   23 * n cells. The row of bank b starts at cell 23 * b: the banks that clash with it, ascending, then 65535 in the
+ *                cells left over.
+ *   degrees      n cells. How many banks clash with b.
+ *   waves        n cells. The wave of b.
+ *   counts       24 * n cells. Cell 24 * b + c: how many neighbours of b that are earlier than b stand in wave c.
+ *   trail        n cells. After an accepted edit its front holds the banks that were taken up, in the new order.
+ *   moved        n cells. After an accepted edit its front holds the banks whose wave changed, in the new order.
+ */
+#define WAVE_PLAN_MOST_BANKS 1024
+#define WAVE_PLAN_ROW_CELLS 23
+#define WAVE_PLAN_COUNT_CELLS 24
+#define WAVE_PLAN_UNUSED 65535
+#define WAVE_PLAN_TALLY_CELLS 3
+
+/* The cells of the result slice of each call. */
+#define WAVE_PLAN_EDIT_RESULTS 2
+#define WAVE_PLAN_WAVE_RESULTS 1
+#define WAVE_PLAN_CLASHES_RESULTS 2
+#define WAVE_PLAN_LIST_RESULTS 1
+#define WAVE_PLAN_SHEET_RESULTS 1
+
+/* The most bytes of a list, and of a sheet. */
+#define WAVE_PLAN_MOST_LIST_BYTES 60000
+#define WAVE_PLAN_MOST_SHEET_BYTES 4067
+
+/* What a call returns: 0, or the number of the first question that is answered no. */
+#define WAVE_PLAN_ACCEPTED 0
+#define WAVE_PLAN_TOO_MANY_BANKS 1  /* Is the bank count at most 1024? */
+#define WAVE_PLAN_SHORT_SLICE 2     /* Is each slice that the call uses long enough for it? */
+#define WAVE_PLAN_NO_PLAN 3         /* Does the memory hold a plan? */
+#define WAVE_PLAN_NO_SUCH_BANK 4    /* Is each named bank below the bank count? */
+#define WAVE_PLAN_SAME_BANK 5       /* Are the two banks different? */
+#define WAVE_PLAN_CLASH_THERE 6     /* (add) Are they free of a clash so far? */
+#define WAVE_PLAN_NO_CLASH 7        /* (strike) Do they clash? */
+#define WAVE_PLAN_ROW_FULL 8        /* (add) Have both fewer than 23 clashes? */
+#define WAVE_PLAN_LONG_LIST 9       /* (list) Is the list at most 60000 bytes? */
+#define WAVE_PLAN_NO_FIRST_ROW 10   /* (list) Is row 1 an N row of the stated form? */
+#define WAVE_PLAN_UNREADABLE_ROW 11 /* (list, each further row in turn) Is it one of the three forms? */
+#define WAVE_PLAN_SHORT_OUTPUT 12   /* (sheet) Is the output at least as long as the sheet? */
+
+/* Opens a plan of `banks` banks with no clash, all waves 0. */
+uint16_t wave_plan_open(uint16_t *neighbours, size_t neighbours_cells, uint16_t *degrees, size_t degrees_cells,
+                        uint16_t *waves, size_t waves_cells, uint16_t *counts, size_t counts_cells,
+                        uint16_t *tally, size_t tally_cells, uint16_t banks);
+
+/* Adds the clash of banks a and b. result[0]: how many banks moved; result[1]: how many were taken up. */
+uint16_t wave_plan_add(uint16_t *neighbours, size_t neighbours_cells, uint16_t *degrees, size_t degrees_cells,
+                       uint16_t *waves, size_t waves_cells, uint16_t *counts, size_t counts_cells,
+                       uint16_t *trail, size_t trail_cells, uint16_t *moved, size_t moved_cells,
+                       uint16_t *tally, size_t tally_cells, uint16_t *result, size_t result_cells, uint16_t a, uint16_t b);
+
+/* Strikes the clash of banks a and b. result as for wave_plan_add. */
+uint16_t wave_plan_strike(uint16_t *neighbours, size_t neighbours_cells, uint16_t *degrees, size_t degrees_cells,
+                          uint16_t *waves, size_t waves_cells, uint16_t *counts, size_t counts_cells,
+                          uint16_t *trail, size_t trail_cells, uint16_t *moved, size_t moved_cells,
+                          uint16_t *tally, size_t tally_cells, uint16_t *result, size_t result_cells, uint16_t a, uint16_t b);
+
+/* The wave of bank b. result[0]: the wave. */
+uint16_t wave_plan_wave_of(const uint16_t *neighbours, size_t neighbours_cells, const uint16_t *degrees, size_t degrees_cells,
+                           const uint16_t *waves, size_t waves_cells, const uint16_t *counts, size_t counts_cells,
+                           const uint16_t *tally, size_t tally_cells, uint16_t *result, size_t result_cells, uint16_t b);
+
+/* The banks that clash with bank b: a part of `neighbours`. result[0]: the cell where it starts; result[1]: its number of cells. */
+uint16_t wave_plan_clashes_of(const uint16_t *neighbours, size_t neighbours_cells, const uint16_t *degrees, size_t degrees_cells,
+                              const uint16_t *waves, size_t waves_cells, const uint16_t *counts, size_t counts_cells,
+                              const uint16_t *tally, size_t tally_cells, uint16_t *result, size_t result_cells, uint16_t b);
+
+/* Reads a list: opens the plan of its first row, then makes the edits of the others. result[0]: the row that was refused, counted
+ * from 1; 0 if the list was accepted or is too long. Where a later row is refused, the plan, tally, trail and moved are those of the
+ * rows before it. */
+uint16_t wave_plan_read_list(const uint8_t *list, size_t list_bytes, uint16_t *neighbours, size_t neighbours_cells,
+                             uint16_t *degrees, size_t degrees_cells, uint16_t *waves, size_t waves_cells,
+                             uint16_t *counts, size_t counts_cells, uint16_t *trail, size_t trail_cells,
+                             uint16_t *moved, size_t moved_cells, uint16_t *tally, size_t tally_cells,
+                             uint16_t *result, size_t result_cells);
+
+/* Writes the sheet of the plan to the front of `out`. result[0]: its number of bytes. */
+uint16_t wave_plan_write_sheet(const uint16_t *neighbours, size_t neighbours_cells, const uint16_t *degrees, size_t degrees_cells,
+                               const uint16_t *waves, size_t waves_cells, const uint16_t *counts, size_t counts_cells,
+                               const uint16_t *tally, size_t tally_cells, uint8_t *out, size_t out_bytes,
+                               uint16_t *result, size_t result_cells);
+
+#ifdef __cplusplus
+}
+#endif
+
+#endif
