@@ -1,5 +1,6 @@
 // Edits without question 5 for the benchmarks, as the list reader makes one at each row. Who calls them vouches that memory holds a plan.
 use memory::Tally;
+use planner::Edited;
 use planner::add_held;
 use planner::strike_held;
 use rule::Bank;
@@ -7,6 +8,20 @@ ghost use Prim.Native.Nat.{_≤_};
 ghost use lib.ListN.{length, getD};
 ghost use Rattle.planner.specs.Calls.{memoryOf};
 ghost use Rattle.planner.specs.Held.{Held};
+
+// Puts the tally and the counts into their cells, and answers the number.
+fn put(tally: &mut [u16], result: &mut [u16], edited: Edited) -> u16
+    requires { ⌜ (3 ≤ length (now tally)) × (2 ≤ length (now result)) ⌝ }
+{
+    let after = edited.tally;
+    tally[0] = after.banks;
+    tally[1] = after.clashes;
+    tally[2] = after.waves;
+    let answer = edited.answer;
+    result[0] = answer.moved;
+    result[1] = answer.trail;
+    answer.number
+}
 
 #[no_mangle]
 pub extern "C" fn bench_add(
@@ -40,14 +55,7 @@ pub extern "C" fn bench_add(
         Bank(a),
         Bank(b),
     );
-    let after = r.tally;
-    tally[0] = after.banks;
-    tally[1] = after.clashes;
-    tally[2] = after.waves;
-    let answer = r.answer;
-    result[0] = answer.moved;
-    result[1] = answer.trail;
-    answer.number
+    put(tally, result, r)
 }
 
 #[no_mangle]
@@ -82,12 +90,5 @@ pub extern "C" fn bench_strike(
         Bank(a),
         Bank(b),
     );
-    let after = r.tally;
-    tally[0] = after.banks;
-    tally[1] = after.clashes;
-    tally[2] = after.waves;
-    let answer = r.answer;
-    result[0] = answer.moved;
-    result[1] = answer.trail;
-    answer.number
+    put(tally, result, r)
 }
