@@ -2,10 +2,10 @@
 use mathlib.Core.List.{List, [], _∷_, _++_, foldr}
 use mathlib.Core.Logic.{_≢_}
 use mathlib.Core.Path.{_≡_, refl, sym, ap, _∙_}
-use Prim.Native.Nat.{ℕ, zero, suc, _+_, _*_, _/_, _≤_, _<_}
+use Prim.Native.Nat.{ℕ, zero, suc, _+_, _*_, _≤_, _<_}
 use native.Mathlib.Decide.{ℕ-discrete}
 use native.Mathlib.Omega.{arith}
-use lib.Dec.{T, eqb}
+use lib.Dec.{eqb}
 use Rattle.rule.specs.Lists.{upto}
 use Rattle.rule.specs.Graph.{Graph, degree, added, struck}
 use Rattle.rule.specs.Reach.{Kind, adding, striking, edited}

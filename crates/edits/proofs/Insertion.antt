@@ -1,7 +1,7 @@
 -- One cell put into the cells of a sorted list.
-use mathlib.Core.Bool.{Bool, true, false, _||_}
+use mathlib.Core.Bool.{Bool, _||_}
 use mathlib.Core.List.{List, [], _∷_, _++_}
-use mathlib.Core.Logic.{_⊎_, inl, inr}
+use mathlib.Core.Logic.{inl, inr}
 use mathlib.Core.Path.{_≡_, refl, sym, ap, subst, _∙_}
 use Prim.Native.Nat.{ℕ, suc, _+_, _-_, _≤_, _<_}
 use native.Mathlib.Decide.{ℕ-discrete, decLt}
@@ -10,7 +10,6 @@ use lib.Dec.{T, eqb}
 use lib.ListN.{length, getD, set, take, drop, length-take, length-drop, length-append, take-append-drop, drop-of-length-le, List·getD-append}
 use lib.Seq.{getD-set-same, getD-set-other, getD-take, getD-drop, take-take, getD-at, getD-append-add, ext-getD}
 use Rattle.rule.specs.Lists.{memb, Sorted, Strict}
-use Rattle.rule.proofs.Booleans.{T-along}
 use Rattle.rule.proofs.Lists.{in-head, in-cons, in-none, in-append}
 use Rattle.memory.proofs.Fronts.{take-next, drop-next}
 use Rattle.edits.specs.Queue.{Inserted}

@@ -1,4 +1,4 @@
--- Lemmas over lists and records: the functions' proofs cite them.
+-- Theorems: what to cite. The others: lemmas over lists and records, which the functions' proofs cite.
 pub mod SortedLists
 pub mod Insertion
 pub mod Lines
@@ -13,3 +13,4 @@ pub mod Seeding
 pub mod Recounts
 pub mod ClashCounts
 pub mod Propagating
+pub mod Theorems

@@ -1,7 +1,7 @@
 -- The queue: where a bank goes, and what it is after that.
 use mathlib.Core.Bool.{Bool, true, false, _||_}
 use mathlib.Core.List.{List, _∷_, _++_}
-use mathlib.Core.Logic.{_⊎_, inl, inr}
+use mathlib.Core.Logic.{inl, inr}
 use mathlib.Core.Path.{_≡_, refl, sym, ap, _∙_}
 use Prim.Native.Nat.{ℕ, _+_, _-_, _≤_, _<_}
 use native.Mathlib.Omega.{arith}
@@ -20,7 +20,7 @@ use Rattle.edits.proofs.Insertion.{inserted-list, put-sorted, put-membe
 use Rattle.edits.proofs.SortedLists.{sorted-short}
 
 -- the order by the degree cells
-pub by-cells : (G : Graph) (ds : List ℕ) → ((b : ℕ) → b < G .banks → getD ds b 0 ≡ degree G b)
+by-cells : (G : Graph) (ds : List ℕ) → ((b : ℕ) → b < G .banks → getD ds b 0 ≡ degree G b)
     → (p q : ℕ) → p < G .banks → q < G .banks → byCells ds p q ≡ earlier G p q
 unfolding byCells earlierBy earlier
 by-cells G ds degrees p q hp hq = let dp = degrees p hp in let dq = degrees q hq in cc

@@ -1,12 +1,11 @@
 -- From rows and degrees that are written to the plan of the new clashes.
-use mathlib.Core.Bool.{Bool, true, false, cond, _||_}
+use mathlib.Core.Bool.{Bool, false, cond, _||_}
 use mathlib.Core.List.{List, []}
-use mathlib.Core.Logic.{_⊎_, inl, inr}
+use mathlib.Core.Logic.{inl, inr}
 use mathlib.Core.Path.{_≡_, refl, sym, ap, ap₂, _∙_}
 use Prim.Native.Nat.{ℕ, _+_, _*_, _/_, _%_, _≤_, _<_}
 use native.Mathlib.Nat.{div-add-mod'}
 use native.Mathlib.Omega.{arith}
-use lib.Dec.{T}
 use lib.ListN.{length, getD, take, drop}
 use Rattle.rule.specs.Lists.{memb, filter}
 use Rattle.rule.specs.Graph.{Graph, neighbours, degree, earlierNeighbours}
@@ -28,7 +27,6 @@ use Rattle.memory.proofs.Fronts.{beyond-refl}
 use Rattle.memory.proofs.Standing.{standing-cong}
 use Rattle.memory.proofs.Theorems.{shown, wave-count-is}
 use Rattle.edits.specs.declared.can_step.Progress.{Progress}
-use Rattle.edits.specs.declared.edit.Accepted.{Accepted}
 use Rattle.edits.specs.declared.rows.Degrees.{Degrees}
 use Rattle.edits.specs.Lent.{Lent, lentOf}
 use Rattle.edits.specs.Edits.{Editable, Outcome}
@@ -69,14 +67,14 @@ filter-none : (p : ℕ → Bool) → [] ≡ filter p []
 unfolding filter
 filter-none p = refl
 
-module _ {e : Edit} {m : Lent} {before : Degrees} {t : Tally} (ch : Changed e m before t) where
+module _ {e : Edit} {m : Lent} {before : Degrees} {n clashes : ℕ} (ch : Changed e m before n clashes) where
   abbrev G : Graph
   G = new e
 
   edit : OneEdit (e .old) G (e .a) (e .b)
   edit = edited-one (e .old) (ch .held .rowed .symmetric) (e .a) (e .b) (ch .acceptable .bankA) (ch .acceptable .bankB) (ch .acceptable .differ) (e .kind)
 
-  banks : t .banks ≡ G .banks
+  banks : n ≡ G .banks
   banks = ch .held .banks ∙ edit .sameBanks
 
   shows : Shown G (m .neighbours) (m .degrees)
@@ -101,7 +99,7 @@ module _ {e : Edit} {m : Lent} {before : Degrees} {t : Tally} (ch : Changed e m 
       omega (arith, wave-small (e .old) x k (ch .held .rowed .small x k))
 
   module _ {q : List ℕ} {end : ℕ} (sd : Seeded e q end) where
-    pub recount-start : Recounting (new e) (m .neighbours) (m .degrees) (m .waves) (m .counts) (m .counts) q (t .banks) end 0
+    pub recount-start : Recounting (new e) (m .neighbours) (m .degrees) (m .waves) (m .counts) (m .counts) q n end 0
     recount-start = record {
       banks = banks;
       shown = shows;
@@ -114,7 +112,7 @@ module _ {e : Edit} {m : Lent} {before : Degrees} {t : Tally} (ch : Changed e m 
       beyond = beyond-refl (new e .banks * 24) (m .counts);
     }
 
-    module _ {cs : List ℕ} (rc : Recounting (new e) (m .neighbours) (m .degrees) (m .waves) (m .counts) cs q (t .banks) end end) where
+    module _ {cs : List ℕ} (rc : Recounting (new e) (m .neighbours) (m .degrees) (m .waves) (m .counts) cs q n end end) where
       -- a bank that is no seed has the earlier neighbours that it had
       cell-is : (x c : ℕ) → x < G .banks → c < 24 → getD cs (x * 24 + c) 0 ≡ standing (λ v. getD (m .waves) v 0) c (earlierNeighbours G x)
       cell-is x c lx lc =
@@ -152,10 +150,10 @@ module _ {e : Edit} {m : Lent} {before : Degrees} {t : Tally} (ch : Changed e m 
 
   -- nothing waits
   module _ {ws cs tr mv : List ℕ} {p : Progress} (st : Settled e (lentOf (m .neighbours) (m .degrees) ws cs tr mv) p) where
-    pub count-in : t .banks ≤ length ws
+    pub count-in : n ≤ length ws
     count-in = omega (arith, st .wide-waves, banks)
 
-    pub waves-small : (x : ℕ) → x < t .banks → getD ws x 0 < 24
+    pub waves-small : (x : ℕ) → x < n → getD ws x 0 < 24
     waves-small x h =
         let l : x < G .banks = omega (arith, banks) in
         omega (arith, st .stored x l, wave-small G x l (ch .rewritten .rowed .small x l))
@@ -163,8 +161,8 @@ module _ {e : Edit} {m : Lent} {before : Degrees} {t : Tally} (ch : Changed e m 
     pub few-taken : p .taken ≤ 1024
     few-taken = omega (arith, st .few, ch .rewritten .rowed .few)
 
-    pub outcome : (k : ℕ) → k ≡ mostOf ws (t .banks)
-        → Outcome (e .kind) (e .old) (new e) (e .a) (e .b) (e .was) (lentOf (m .neighbours) (m .degrees) ws cs tr mv) (record { moved = p .moved; trail = p .taken; tally = record { banks = t .banks; clashes = t .clashes; waves = k } })
+    pub outcome : (k : ℕ) → k ≡ mostOf ws n
+        → Outcome (e .kind) (e .old) (new e) (e .a) (e .b) (e .was) (lentOf (m .neighbours) (m .degrees) ws cs tr mv) (record { moved = p .moved; trail = p .taken; tally = record { banks = n; clashes = clashes; waves = k } })
     unfolding tallyOf
     outcome k most =
         let bridge : trail (e .kind) (e .old) G (e .a) (e .b) ≡ taken (e .old) G (e .a) (e .b) =
@@ -180,7 +178,7 @@ module _ {e : Edit} {m : Lent} {before : Degrees} {t : Tally} (ch : Changed e m 
           rightMoved = st .rightMoved;
           trailCount = rw bridge (st .trailCount);
           movedCount = st .movedCount;
-          tally = λ i. record { banks = banks i; clashes = ch .clashes i; waves = number i };
+          tally = λ i. record { banks = banks i; clashes = ch .number i; waves = number i };
           held = record { banks = banks; rowed = ch .rewritten .rowed; wide-waves = count-in; waves = st .stored; counted = st .counted };
         }
 
@@ -190,8 +188,8 @@ originOf k G m = record { kind = k; graph = G; lent = m }
 
 pub changed-from : {k : Kind} {G : Graph} {m : Lent} {t : Tally} {a b : ℕ} {ns ds : List ℕ} {before : Degrees} {clashes : ℕ}
     → Editable k G m t a b → Rewritten k G a b (m .neighbours) (m .degrees) ns ds before → clashes ≡ clashCount (edited k G a b)
-    → Changed (editAt (originOf k G m) a b) (lentOf ns ds (m .waves) (m .counts) (m .trail) (m .moved)) before (record { banks = t .banks; clashes = clashes; waves = t .waves })
-changed-from ed rewritten clashes = record {
+    → Changed (editAt (originOf k G m) a b) (lentOf ns ds (m .waves) (m .counts) (m .trail) (m .moved)) before (t .banks) clashes
+changed-from ed rewritten number = record {
   acceptable = ed .acceptable;
   held = ed .held;
   rewritten = rewritten;
@@ -201,5 +199,5 @@ changed-from ed rewritten clashes = record {
   sameMoved = refl;
   wide-trail = ed .wide-trail;
   wide-moved = ed .wide-moved;
-  clashes = clashes;
+  number = number;
 }

@@ -1,15 +1,15 @@
 -- The rows and degrees of the new clashes: those of a and b are written anew, all others stay.
-use mathlib.Core.Bool.{Bool, _&&_, _||_, not, or-comm}
-use mathlib.Core.List.{List, _∷_}
-use mathlib.Core.Logic.{_⊎_, inl, inr, _≢_}
+use mathlib.Core.Bool.{not, or-comm}
+use mathlib.Core.List.{List}
+use mathlib.Core.Logic.{inl, inr, _≢_}
 use mathlib.Core.Path.{_≡_, refl, sym, ap, subst, _∙_}
 use Prim.Native.Nat.{ℕ, _+_, _*_, _-_, _≤_, _<_}
 use native.Mathlib.Decide.{ℕ-discrete, decLt}
 use native.Mathlib.Omega.{arith}
 use lib.Dec.{T, eqb, ltb, eqb→eq}
-use lib.ListN.{length, getD, set, take, drop, length-take, length-drop, length-set}
+use lib.ListN.{length, getD, drop, length-take, length-drop, length-set}
 use lib.Seq.{getD-take, getD-drop, ext-getD, getD-set-same, getD-set-other}
-use Rattle.rule.specs.Lists.{filter, memb, insertBy, Sorted}
+use Rattle.rule.specs.Lists.{memb, insertBy}
 use Rattle.rule.specs.Graph.{Graph, neighbours, degree, pair, added, struck}
 use Rattle.rule.specs.Reach.{Kind, adding, striking, edited}
 use Rattle.rule.specs.WorkList.{OneEdit, Allowed}
@@ -17,14 +17,11 @@ use Rattle.rule.proofs.Booleans.{and-l, or-cases, T-along}
 use Rattle.rule.proofs.Order.{ltb-strict}
 use Rattle.rule.proofs.Sorting.{sorted-unique, sorted-insertBy, memb-insertBy, sorted-filter, memb-filter}
 use Rattle.rule.proofs.Neighbours.{degree-length, neighbours-in, in-neighbours, neighbours-sorted}
-use Rattle.rule.proofs.OneClash.{pair-a, pair-b, pair-none, neighbours-more, neighbours-less, neighbours-added, neighbours-struck, degrees-more, degrees-less, degree-added, degree-struck}
+use Rattle.rule.proofs.OneClash.{pair-a, pair-b, pair-none, neighbours-more, neighbours-less, neighbours-added, neighbours-struck, degrees-more, degrees-less}
 use Rattle.rule.proofs.Theorems.{edited-one}
-use Rattle.memory.specs.Cells.{Beyond}
 use Rattle.memory.specs.View.{Rowed}
-use Rattle.memory.proofs.Fronts.{cell-of}
-use Rattle.edits.specs.declared.rows.Degrees.{Degrees}
-use Rattle.edits.specs.Edits.{Acceptable}
-use Rattle.edits.specs.Rows.{Row, Room, Has, without, rowAt, Elsewhere, Rewritten}
+use Rattle.edits.specs.Edits.{HasRoom, Acceptable}
+use Rattle.edits.specs.Rows.{Row, without, rowAt, Ready, rowAfter, degreeAfter, Altering, Altered, Rewritten}
 
 -- the other one of two different numbers
 pub lt-of : (y x : ℕ) → (y < x → ⊥) → y ≢ x → x < y
@@ -34,15 +31,6 @@ lt-of y x h d = go (ℕ-discrete y x) (decLt x y)
     go (yes e) k = absurd (d e)
     go (no e) (yes k) = k
     go (no e) (no k) = absurd (d (omega arith))
-
--- what becomes of a row that gains or loses v, and of its degree
-abbrev pub rowAfter : Kind → ℕ → List ℕ → List ℕ
-rowAfter adding v N = insertBy ltb v N
-rowAfter striking v N = without v N
-
-abbrev pub degreeAfter : Kind → ℕ → ℕ
-degreeAfter adding d = d + 1
-degreeAfter striking d = d - 1
 
 -- a bank that the clash of a and b gives y, or takes from it
 module _ (G : Graph) (a b y z : ℕ) (lz : z < G .banks) (gives : (x : ℕ) → pair a b y x ≡ eqb x z) where
@@ -59,13 +47,13 @@ module _ (G : Graph) (a b y z : ℕ) (lz : z < G .banks) (gives : (x : ℕ) → 
       (λ x. neighbours-less G a b y z gives x ∙ sym (memb-filter (λ v. not (eqb v z)) (neighbours G y) x))
 
 -- neighbours and degrees of the new clashes, by those of the old
-pub record Neighbouring (k : Kind) (G : Graph) (a b : ℕ) : Type 0 where
-  pub rowA : neighbours (edited k G a b) a ≡ rowAfter k b (neighbours G a)
-  pub rowB : neighbours (edited k G a b) b ≡ rowAfter k a (neighbours G b)
-  pub others : (y : ℕ) → y ≢ a → y ≢ b → neighbours (edited k G a b) y ≡ neighbours G y
-  pub degreeA : degree (edited k G a b) a ≡ degreeAfter k (degree G a)
-  pub degreeB : degree (edited k G a b) b ≡ degreeAfter k (degree G b)
-  pub apart : (x : ℕ) → x < G .banks → T (edited k G a b .clash x x) → ⊥
+record Neighbouring (k : Kind) (G : Graph) (a b : ℕ) : Type 0 where
+  rowA : neighbours (edited k G a b) a ≡ rowAfter k b (neighbours G a)
+  rowB : neighbours (edited k G a b) b ≡ rowAfter k a (neighbours G b)
+  others : (y : ℕ) → y ≢ a → y ≢ b → neighbours (edited k G a b) y ≡ neighbours G y
+  degreeA : degree (edited k G a b) a ≡ degreeAfter k (degree G a)
+  degreeB : degree (edited k G a b) b ≡ degreeAfter k (degree G b)
+  apart : (x : ℕ) → x < G .banks → T (edited k G a b .clash x x) → ⊥
 
 no-self : (a b x : ℕ) → a ≢ b → T (pair a b x x) → ⊥
 no-self a b x d t = go (ℕ-discrete x a) (ℕ-discrete x b)
@@ -77,7 +65,7 @@ no-self a b x d t = go (ℕ-discrete x a) (ℕ-discrete x b)
 
 module _ (G : Graph) (symmetric : (x y : ℕ) → x < G .banks → y < G .banks → G .clash x y ≡ G .clash y x) (apart : (x : ℕ) → x < G .banks → T (G .clash x x) → ⊥)
     (a b : ℕ) (la : a < G .banks) (lb : b < G .banks) (d : a ≢ b) where
-  pub neighbouring : (k : Kind) → Allowed k G a b → Neighbouring k G a b
+  neighbouring : (k : Kind) → Allowed k G a b → Neighbouring k G a b
   unfolding edited
   neighbouring adding free =
       let back : T (G .clash b a) → ⊥ = λ t. free (T-along (symmetric b a lb la) t) in
@@ -108,19 +96,42 @@ row-cell ns y i l = getD-take 23 (drop (y * 23) ns) i 0 l ∙ getD-drop (y * 23)
 row-long : (ns : List ℕ) (y : ℕ) → y * 23 + 23 ≤ length ns → length (rowAt ns y) ≡ 23
 row-long ns y h = omega (arith, length-take 23 (drop (y * 23) ns), length-drop (y * 23) ns)
 
--- another row
-other-row : (ns ns′ : List ℕ) (a y : ℕ) → Elsewhere ns ns′ a → length ns′ ≡ length ns → y * 23 + 23 ≤ length ns → y ≢ a → rowAt ns′ y ≡ rowAt ns y
-other-row ns ns′ a y e same h d = ext-getD 0 (rowAt ns′ y) (rowAt ns y)
-    (row-long ns′ y (omega arith) ∙ sym (row-long ns y h))
-    (λ i s. (let l : i < 23 = omega (arith, row-long ns′ y (omega arith)) in row-cell ns′ y i l ∙ go i l (decLt y a) ∙ sym (row-cell ns y i l)))
-  where
-    go : (i : ℕ) → i < 23 → Dec (y < a) → getD ns′ (y * 23 + i) 0 ≡ getD ns (y * 23 + i) 0
-    go i l (yes k) = e .below (y * 23 + i) (omega arith)
-    go i l (no k) = let m : a < y = lt-of y a k d in e .above (y * 23 + i) (omega arith)
+-- another row, and another degree
+module _ {k : Kind} {ns ds ns′ ds′ : List ℕ} {a v : ℕ} {banks : List ℕ} {r : ℕ} (al : Altered k ns ds ns′ ds′ a v banks r) where
+  other-row : length ns′ ≡ length ns → (y : ℕ) → y * 23 + 23 ≤ length ns → y ≢ a → rowAt ns′ y ≡ rowAt ns y
+  other-row same y h d = ext-getD 0 (rowAt ns′ y) (rowAt ns y)
+      (row-long ns′ y (omega arith) ∙ sym (row-long ns y h))
+      (λ i s. (let l : i < 23 = omega (arith, row-long ns′ y (omega arith)) in row-cell ns′ y i l ∙ go i l (decLt y a) ∙ sym (row-cell ns y i l)))
+    where
+      go : (i : ℕ) → i < 23 → Dec (y < a) → getD ns′ (y * 23 + i) 0 ≡ getD ns (y * 23 + i) 0
+      go i l (yes h) = al .below (y * 23 + i) (omega arith)
+      go i l (no h) = let m : a < y = lt-of y a h d in al .above (y * 23 + i) (omega arith)
+
+  other-degree : (y : ℕ) → y ≢ a → getD ds′ y 0 ≡ getD ds y 0
+  other-degree y d = rw (al .degrees) (getD-set-other ds a y (degreeAfter k (getD ds a 0)) 0 d)
+
+  own-degree : a < length ds → getD ds′ a 0 ≡ degreeAfter k (getD ds a 0)
+  own-degree h = rw (al .degrees) (getD-set-same ds a (degreeAfter k (getD ds a 0)) 0 h)
+
+  same-degrees : length ds′ ≡ length ds
+  same-degrees = rw (al .degrees) (length-set ds a (degreeAfter k (getD ds a 0)))
+
+-- a row that is to gain or lose z, and can
+ready : (G : Graph) (y z : ℕ) {row : List ℕ} {d : ℕ} (k : Kind) → Row row (neighbours G y) → d ≡ length (neighbours G y) → z < G .banks → Allowed k G y z → (k ≡ adding → d < 23)
+    → Ready k row (neighbours G y) d z
+ready G y z adding holds degree lz free room = record { holds = holds; degree = degree; room = room refl; fresh = λ m. free (neighbours-in G y z m .1) }
+ready G y z striking holds degree lz there room = record { holds = holds; degree = degree; has = in-neighbours G y z lz there }
+
+allowed-back : (G : Graph) (a b : ℕ) (k : Kind) → G .clash a b ≡ G .clash b a → Allowed k G a b → Allowed k G b a
+allowed-back G a b adding e free = λ t. free (T-along (sym e) t)
+allowed-back G a b striking e there = T-along e there
 
 module _ {k : Kind} {G : Graph} {ns ds : List ℕ} {a b : ℕ} (rd : Rowed G ns ds) (ac : Acceptable k G a b) where
   abbrev nb : Neighbouring k G a b
   nb = neighbouring G (rd .symmetric) (rd .apart) a b (ac .bankA) (ac .bankB) (ac .differ) k (ac .allowed)
+
+  row-in : (y : ℕ) → y < G .banks → y * 23 + 23 ≤ length ns
+  row-in y l = omega (arith, rd .wide-rows)
 
   row-of : (y : ℕ) → y < G .banks → Row (rowAt ns y) (neighbours G y)
   row-of y l = record {
@@ -129,30 +140,34 @@ module _ {k : Kind} {G : Graph} {ns ds : List ℕ} {a b : ℕ} (rd : Rowed G ns 
     sorted = neighbours-sorted G y;
     cells = λ i h. row-cell ns y i h ∙ rd .rows y i l h;
   }
-    where
-      row-in : (y : ℕ) → y < G .banks → y * 23 + 23 ≤ length ns
-      row-in y l = omega (arith, rd .wide-rows)
 
-  pub in-a : a * 23 + 23 ≤ length ns
-  in-a = omega (arith, rd .wide-rows, ac .bankA)
+  room-of : k ≡ adding → (degree G a < 23) × (degree G b < 23)
+  room-of e = subst (λ (j : Kind). HasRoom j G a b) e (ac .room)
 
-  pub in-b : b * 23 + 23 ≤ length ns
-  in-b = omega (arith, rd .wide-rows, ac .bankB)
+  pub altering-a : Altering k ns ds a b (neighbours G a)
+  altering-a = record {
+    in-rows = row-in a (ac .bankA);
+    in-degrees = omega (arith, ac .bankA, rd .wide-degrees);
+    ready = ready G a b k (row-of a (ac .bankA)) (rd .degrees a (ac .bankA) ∙ degree-length G a) (ac .bankB) (ac .allowed)
+        (λ e. omega (arith, room-of e .0, rd .degrees a (ac .bankA)));
+  }
 
-  degree-a : getD ds a 0 ≡ length (neighbours G a)
-  degree-a = rd .degrees a (ac .bankA) ∙ degree-length G a
+  module _ {ns1 ds1 : List ℕ} {r1 : ℕ} (same1 : length ns1 ≡ length ns) (al1 : Altered k ns ds ns1 ds1 a b (neighbours G a) r1) where
+    back : b ≢ a
+    back e = ac .differ (sym e)
 
-  degree-b : getD ds b 0 ≡ length (neighbours G b)
-  degree-b = rd .degrees b (ac .bankB) ∙ degree-length G b
+    degree-b : getD ds1 b 0 ≡ degree G b
+    degree-b = other-degree al1 b back ∙ rd .degrees b (ac .bankB)
 
-  -- a's row is written
-  module _ {ns1 : List ℕ} (same1 : length ns1 ≡ length ns) (else1 : Elsewhere ns ns1 a) where
-    pub row-b : Row (rowAt ns1 b) (neighbours G b)
-    row-b = rw (other-row ns ns1 a b else1 same1 in-b (λ e. ac .differ (sym e))) (row-of b (ac .bankB))
+    pub altering-b : Altering k ns1 ds1 b a (neighbours G b)
+    altering-b = record {
+      in-rows = omega (arith, row-in b (ac .bankB));
+      in-degrees = omega (arith, ac .bankB, rd .wide-degrees, same-degrees al1);
+      ready = ready G b a k (rw (other-row al1 same1 b (row-in b (ac .bankB)) back) (row-of b (ac .bankB))) (degree-b ∙ degree-length G b) (ac .bankA)
+          (allowed-back G a b k (rd .symmetric a b (ac .bankA) (ac .bankB)) (ac .allowed)) (λ e. omega (arith, room-of e .1, degree-b));
+    }
 
-    -- and b's
-    module _ {ns2 : List ℕ} (same2 : length ns2 ≡ length ns1) (else2 : Elsewhere ns1 ns2 b)
-        (rowA : Row (rowAt ns1 a) (rowAfter k b (neighbours G a))) (rowB : Row (rowAt ns2 b) (rowAfter k a (neighbours G b))) where
+    module _ {ns2 ds2 : List ℕ} {r2 : ℕ} (same2 : length ns2 ≡ length ns1) (al2 : Altered k ns1 ds1 ns2 ds2 b a (neighbours G b) r2) where
       abbrev H : Graph
       H = edited k G a b
 
@@ -163,86 +178,43 @@ module _ {k : Kind} {G : Graph} {ns ds : List ℕ} {a b : ℕ} (rd : Rowed G ns 
       rows-now y l = go (ℕ-discrete y a) (ℕ-discrete y b)
         where
           go : Dec (y ≡ a) → Dec (y ≡ b) → Row (rowAt ns2 y) (neighbours H y)
-          go (yes e) g = rw (e, nb .rowA, other-row ns1 ns2 b a else2 same2 (omega (arith, in-a)) (ac .differ)) rowA
-          go (no na) (yes e) = rw (e, nb .rowB) rowB
-          go (no na) (no nb′) =
-              rw (nb .others y na nb′, other-row ns1 ns2 b y else2 same2 (omega (arith, rd .wide-rows)) nb′, other-row ns ns1 a y else1 same1 (omega (arith, rd .wide-rows)) na) (row-of y l)
+          go (yes e) g = rw (e, nb .rowA, other-row al2 same2 a (omega (arith, row-in a (ac .bankA))) (ac .differ)) (al1 .row)
+          go (no na) (yes e) = rw (e, nb .rowB) (al2 .row)
+          go (no na) (no n) = rw (nb .others y na n, other-row al2 same2 y (omega (arith, row-in y l)) n, other-row al1 same1 y (row-in y l) na) (row-of y l)
 
-      abbrev ds′ : List ℕ
-      ds′ = set (set ds a (degreeAfter k (getD ds a 0))) b (degreeAfter k (getD ds b 0))
-
-      degrees-now : (y : ℕ) → y < G .banks → getD ds′ y 0 ≡ degree H y
+      degrees-now : (y : ℕ) → y < G .banks → getD ds2 y 0 ≡ degree H y
       degrees-now y l = go (ℕ-discrete y a) (ℕ-discrete y b)
         where
-          da : ℕ
-          da = degreeAfter k (getD ds a 0)
+          at-a : getD ds2 a 0 ≡ degree H a
+          at-a = other-degree al2 a (ac .differ) ∙ own-degree al1 (omega (arith, ac .bankA, rd .wide-degrees)) ∙ ap (degreeAfter k) (rd .degrees a (ac .bankA)) ∙ sym (nb .degreeA)
 
-          db : ℕ
-          db = degreeAfter k (getD ds b 0)
+          at-b : getD ds2 b 0 ≡ degree H b
+          at-b = own-degree al2 (omega (arith, ac .bankB, rd .wide-degrees, same-degrees al1)) ∙ ap (degreeAfter k) degree-b ∙ sym (nb .degreeB)
 
-          at-a : getD ds′ a 0 ≡ degree H a
-          at-a = getD-set-other (set ds a da) b a db 0 (ac .differ) ∙ getD-set-same ds a da 0 (omega (arith, ac .bankA, rd .wide-degrees)) ∙ ap (degreeAfter k) (rd .degrees a (ac .bankA)) ∙ sym (nb .degreeA)
-
-          at-b : getD ds′ b 0 ≡ degree H b
-          at-b = getD-set-same (set ds a da) b db 0 (omega (arith, length-set ds a da, ac .bankB, rd .wide-degrees)) ∙ ap (degreeAfter k) (rd .degrees b (ac .bankB)) ∙ sym (nb .degreeB)
-
-          go : Dec (y ≡ a) → Dec (y ≡ b) → getD ds′ y 0 ≡ degree H y
+          go : Dec (y ≡ a) → Dec (y ≡ b) → getD ds2 y 0 ≡ degree H y
           go (yes e) g = rw e at-a
           go (no na) (yes e) = rw e at-b
-          go (no na) (no nb′) =
-              getD-set-other (set ds a da) b y db 0 nb′ ∙ getD-set-other ds a y da 0 na ∙ rd .degrees y l
-              ∙ degree-length G y ∙ ap length (sym (nb .others y na nb′)) ∙ sym (degree-length H y)
+          go (no na) (no n) = other-degree al2 y n ∙ other-degree al1 y na ∙ rd .degrees y l ∙ degree-length G y ∙ ap length (sym (nb .others y na n)) ∙ sym (degree-length H y)
 
-      pub rewritten : Rewritten k G a b ns ds ns2 ds′ (record { a = getD ds a 0; b = getD ds b 0 })
-      rewritten = record {
-        rowed = record {
-          few = omega (arith, rd .few, edit .sameBanks);
-          wide-rows = omega (arith, rd .wide-rows, edit .sameBanks);
-          wide-degrees = omega (arith, rd .wide-degrees, length-set ds a (degreeAfter k (getD ds a 0)), length-set (set ds a (degreeAfter k (getD ds a 0))) b (degreeAfter k (getD ds b 0)), edit .sameBanks);
-          degrees = λ y l. degrees-now y (omega (arith, edit .sameBanks));
-          small = λ y l. omega (arith, degree-length H y, rows-now y (omega (arith, edit .sameBanks)) .few);
-          rows = λ y i l h. sym (row-cell ns2 y i h) ∙ rows-now y (omega (arith, edit .sameBanks)) .cells i h;
-          symmetric = edit .symmetric;
-          apart = λ x l. nb .apart x (omega (arith, edit .sameBanks));
-        };
-        rowsBeyond = record { long = same2 ∙ same1; same = λ j l. else2 .above j (omega (arith, ac .bankB)) ∙ else1 .above j (omega (arith, ac .bankA)) };
-        degreesBeyond = record {
-          long = length-set (set ds a (degreeAfter k (getD ds a 0))) b (degreeAfter k (getD ds b 0)) ∙ length-set ds a (degreeAfter k (getD ds a 0));
-          same = λ j l. getD-set-other (set ds a (degreeAfter k (getD ds a 0))) b j (degreeAfter k (getD ds b 0)) 0 (λ e. omega (arith, ac .bankB)) ∙ getD-set-other ds a j (degreeAfter k (getD ds a 0)) 0 (λ e. omega (arith, ac .bankA));
-        };
-        degreeA = rd .degrees a (ac .bankA);
-        degreeB = rd .degrees b (ac .bankB);
-      }
-
--- a and b can be put into each other's rows
-module _ {G : Graph} {ns ds : List ℕ} {a b : ℕ} (rd : Rowed G ns ds) (ac : Acceptable adding G a b) where
-  pub room-a : Room (rowAt ns a) (neighbours G a) (getD ds a 0) b
-  room-a = record {
-    holds = row-of rd ac a (ac .bankA);
-    degree = degree-a rd ac;
-    room = omega (arith, ac .room .0, rd .degrees a (ac .bankA));
-    fresh = λ m. ac .allowed (neighbours-in G a b m .1);
-  }
-
-  pub room-b : {ns1 : List ℕ} → length ns1 ≡ length ns → Elsewhere ns ns1 a → Room (rowAt ns1 b) (neighbours G b) (getD ds b 0) a
-  room-b same1 else1 = record {
-    holds = row-b rd ac same1 else1;
-    degree = degree-b rd ac;
-    room = omega (arith, ac .room .1, rd .degrees b (ac .bankB));
-    fresh = λ m. ac .allowed (T-along (rd .symmetric b a (ac .bankB) (ac .bankA)) (neighbours-in G b a m .1));
-  }
-
--- a and b can be taken out of each other's rows
-module _ {G : Graph} {ns ds : List ℕ} {a b : ℕ} (rd : Rowed G ns ds) (ac : Acceptable striking G a b) where
-  pub has-a : Has (rowAt ns a) (neighbours G a) (getD ds a 0) b
-  has-a = record { holds = row-of rd ac a (ac .bankA); degree = degree-a rd ac; has = in-neighbours G a b (ac .bankB) (ac .allowed) }
-
-  pub has-b : {ns1 : List ℕ} → length ns1 ≡ length ns → Elsewhere ns ns1 a → Has (rowAt ns1 b) (neighbours G b) (getD ds b 0) a
-  has-b same1 else1 = record {
-    holds = row-b rd ac same1 else1;
-    degree = degree-b rd ac;
-    has = in-neighbours G b a (ac .bankA) (T-along (rd .symmetric a b (ac .bankA) (ac .bankB)) (ac .allowed));
-  }
-
-pub some-cell : (N : List ℕ) (v : ℕ) → T (memb v N) → 0 < length N
-some-cell N v m = let c = cell-of N v m in omega (arith, c .1)
+      pub rewritten : Rewritten k G a b ns ds ns2 ds2 (record { a = r1; b = r2 })
+      rewritten =
+          let same : G .banks ≡ H .banks = edit .sameBanks in
+          record {
+            rowed = record {
+              few = omega (arith, rd .few);
+              wide-rows = omega (arith, rd .wide-rows);
+              wide-degrees = omega (arith, rd .wide-degrees, same-degrees al1, same-degrees al2);
+              degrees = λ y l. degrees-now y (omega arith);
+              small = λ y l. omega (arith, degree-length H y, rows-now y (omega arith) .few);
+              rows = λ y i l h. sym (row-cell ns2 y i h) ∙ rows-now y (omega arith) .cells i h;
+              symmetric = edit .symmetric;
+              apart = λ x l. nb .apart x (omega arith);
+            };
+            rowsBeyond = record { long = same2 ∙ same1; same = λ j l. al2 .above j (omega (arith, ac .bankB)) ∙ al1 .above j (omega (arith, ac .bankA)) };
+            degreesBeyond = record {
+              long = same-degrees al2 ∙ same-degrees al1;
+              same = λ j l. other-degree al2 j (λ e. omega (arith, ac .bankB)) ∙ other-degree al1 j (λ e. omega (arith, ac .bankA));
+            };
+            degreeA = al1 .was ∙ rd .degrees a (ac .bankA);
+            degreeB = al2 .was ∙ degree-b;
+          }

@@ -1,7 +1,7 @@
 -- One row with a bank more or less.
 use mathlib.Core.Bool.{Bool, true, false, _&&_, _||_, not, or-comm}
 use mathlib.Core.List.{List, [], _∷_, _++_}
-use mathlib.Core.Logic.{_⊎_, inl, inr}
+use mathlib.Core.Logic.{inl, inr}
 use mathlib.Core.Path.{_≡_, refl, sym, ap, subst, _∙_}
 use Prim.Native.Nat.{ℕ, _+_, _*_, _-_, _≤_, _<_}
 use native.Mathlib.Decide.{ℕ-discrete, decLt}
@@ -11,18 +11,19 @@ use lib.ListN.{length, getD, set, take, drop, length-take, length-drop, length-a
 use lib.Seq.{take-take, take-at, drop-at, getD-take, getD-drop, ext-getD, getD-set-same, getD-set-other, getD-append-add}
 use borrow.Rule.Slice.PartMut.{putMid, postOf}
 use Rattle.rule.specs.Lists.{filter, memb, insertBy, Sorted}
+use Rattle.rule.specs.Reach.{Kind}
 use Rattle.rule.proofs.Lists.{in-head, in-tail, in-none, in-append, in-append-l, in-append-r}
 use Rattle.rule.proofs.Order.{ltb-strict}
-use Rattle.rule.proofs.Sorting.{sorted-unique, sorted-insertBy, memb-insertBy, length-insertBy, sorted-filter, memb-filter}
+use Rattle.rule.proofs.Sorting.{sorted-unique, sorted-insertBy, memb-insertBy, sorted-filter, memb-filter}
 use Rattle.memory.proofs.Fronts.{getD-any, cell-of, drop-next, in-front}
 use Rattle.memory.proofs.Parts.{put-below, put-above}
 use Rattle.edits.specs.Queue.{Inserted}
-use Rattle.edits.specs.Rows.{Row, Room, Has, without, RowPlace, Removed, rowAt, Elsewhere}
+use Rattle.edits.specs.Rows.{Row, Room, Has, without, RowPlace, Removed, rowAt, rowAfter, degreeAfter, Altering, Altered}
 use Rattle.edits.proofs.Insertion.{inserted-list, put-sorted, put-members}
 use Rattle.edits.proofs.SortedLists.{sorted-cut, sorted-back, sorted-cells, memb-put}
 
 -- a row as its list and the unused cells, and back
-pub row-list : {row N : List ℕ} → Row row N → take (length N) row ≡ N
+row-list : {row N : List ℕ} → Row row N → take (length N) row ≡ N
 row-list {row} {N} r = ext-getD 0 (take (length N) row) N
     (omega (arith, length-take (length N) row, r .long, r .few))
     (λ i s. (let l : i < length N = omega (arith, length-take (length N) row) in getD-take (length N) row i 0 l ∙ r .cells i (omega (arith, r .few)) ∙ getD-any N i 65535 0 l))
@@ -208,18 +209,25 @@ module _ {row N : List ℕ} {d v at : ℕ} (has : Has row N d v) (place : RowPla
             go (yes k) = let e : i ≡ d - 1 = omega arith in rw e (rm .gap)
             go (no k) = rm .beyond i (omega arith) ∙ unused-cells (has .holds) i (omega (arith, has .degree)) l
 
--- the row as the part that is lent, and as it came back
+pub some-cell : (N : List ℕ) (v : ℕ) → T (memb v N) → 0 < length N
+some-cell N v m = let c = cell-of N v m in omega (arith, c .1)
+
+-- the row as the part that is lent
 pub lent-row : (ns : List ℕ) (b : ℕ) → take (b * 23 + 23 - b * 23) (drop (b * 23) ns) ≡ rowAt ns b
 lent-row ns b = let e : b * 23 + 23 - b * 23 ≡ 23 = omega arith in ap (λ (k : ℕ). take k (drop (b * 23) ns)) e
 
-module _ (ns row : List ℕ) (b : ℕ) (within : b * 23 + 23 ≤ length ns) (long : length row ≡ 23) where
-  pub row-back : rowAt (putMid (b * 23) (b * 23 + 23 - b * 23) ns row) b ≡ row
-  row-back =
-      ap (take 23) (drop-at (take (b * 23) ns) (row ++ postOf (b * 23) (b * 23 + 23 - b * 23) ns) (b * 23) (omega (arith, length-take (b * 23) ns)))
-      ∙ take-at row (postOf (b * 23) (b * 23 + 23 - b * 23) ns) 23 long
-
-  pub row-elsewhere : Elsewhere ns (putMid (b * 23) (b * 23 + 23 - b * 23) ns row) b
-  row-elsewhere = record {
-    below = put-below (b * 23) (b * 23 + 23) ns row (omega arith) within (omega arith);
-    above = put-above (b * 23) (b * 23 + 23) ns row (omega arith) within (omega arith);
-  }
+-- and as it came back, for either kind of edit
+pub altered : {k : Kind} {ns ds banks : List ℕ} {b v : ℕ} → Altering k ns ds b v banks → (row : List ℕ) → Row row (rowAfter k v banks)
+    → Altered k ns ds (putMid (b * 23) (b * 23 + 23 - b * 23) ns row) (set ds b (degreeAfter k (getD ds b 0))) b v banks (getD ds b 0)
+altered {k} {ns} {ds} {banks} {b} {v} al row r =
+    let size : length row ≡ b * 23 + 23 - b * 23 = omega (arith, r .long) in
+    let back : rowAt (putMid (b * 23) (b * 23 + 23 - b * 23) ns row) b ≡ row =
+    ap (take 23) (drop-at (take (b * 23) ns) (row ++ postOf (b * 23) (b * 23 + 23 - b * 23) ns) (b * 23) (omega (arith, length-take (b * 23) ns, al .in-rows)))
+    ∙ take-at row (postOf (b * 23) (b * 23 + 23 - b * 23) ns) 23 (r .long) in
+    record {
+      row = rw back r;
+      below = put-below (b * 23) (b * 23 + 23) ns row (omega arith) (al .in-rows) size;
+      above = put-above (b * 23) (b * 23 + 23) ns row (omega arith) (al .in-rows) size;
+      degrees = refl;
+      was = refl;
+    }

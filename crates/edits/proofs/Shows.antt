@@ -1,12 +1,12 @@
 -- Rows and degrees that show a plan: the i-th neighbour of h, in its cell.
-use mathlib.Core.Bool.{Bool, _&&_, _||_}
+use mathlib.Core.Bool.{_||_}
 use mathlib.Core.List.{List, [], _∷_, _++_}
 use mathlib.Core.Path.{_≡_, sym, ap, subst, _∙_}
 use Prim.Native.Nat.{ℕ, _+_, _*_, _≤_, _<_}
 use native.Mathlib.Omega.{arith}
 use lib.Dec.{T, eqb, ltb}
 use lib.ListN.{length, getD, take, drop, take-append-drop}
-use lib.Seq.{take-all, take-take}
+use lib.Seq.{take-all}
 use Rattle.rule.specs.Lists.{memb, Sorted}
 use Rattle.rule.specs.Graph.{Graph, neighbours, degree, earlier, earlierNeighbours}
 use Rattle.rule.proofs.Lists.{in-head}

@@ -1,24 +1,16 @@
 -- Sorted lists: cut, joined, by their cells, and how long they can be.
-use mathlib.Core.Bool.{Bool, true, false, _&&_, _||_, not}
+use mathlib.Core.Bool.{Bool, true, _&&_, _||_, not}
 use mathlib.Core.List.{List, [], _∷_, _++_}
-use mathlib.Core.Logic.{_⊎_, inl, inr}
+use mathlib.Core.Logic.{inl, inr}
 use mathlib.Core.Path.{_≡_, refl, sym, subst}
 use Prim.Native.Nat.{ℕ, zero, suc, _≤_, _<_}
 use native.Mathlib.Omega.{arith}
 use lib.Dec.{T, eqb, eqb→eq, not-T, T-not}
 use lib.ListN.{length, getD, take, drop, take-append-drop}
 use Rattle.rule.specs.Lists.{filter, memb, upto, Sorted}
-use Rattle.rule.proofs.Booleans.{and-l, and-r, both, or-l, or-r, or-cases, T-along, test-ext, eq→eqb}
+use Rattle.rule.proofs.Booleans.{and-l, and-r, both, or-l, or-r, or-cases, test-ext, eq→eqb}
 use Rattle.rule.proofs.Lists.{in-head, in-tail, in-cons, in-none, in-append, in-append-l, in-append-r, in-upto, count-lt, filter-true, length-upto}
 use Rattle.memory.proofs.Fronts.{in-cell, in-cut, in-drop}
-
--- sorted by one order, and so by another that says the same of its members
-pub sorted-cong : (R S : ℕ → ℕ → Bool) (xs : List ℕ) → ((x y : ℕ) → T (memb x xs) → T (memb y xs) → R x y ≡ S x y) → Sorted R xs → Sorted S xs
-sorted-cong R S [] h s = tt
-sorted-cong R S (x ∷ xs) h s = (
-  λ y m. T-along (h x y (in-head x x xs refl) (in-tail y x xs m)) (s .0 y m),
-  sorted-cong R S xs (λ y z a b. h y z (in-tail y x xs a) (in-tail z x xs b)) (s .1),
-)
 
 module _ (R : ℕ → ℕ → Bool) where
   pub sorted-cut : (xs ys : List ℕ) → Sorted R (xs ++ ys) → (x y : ℕ) → T (memb x xs) → T (memb y ys) → T (R x y)

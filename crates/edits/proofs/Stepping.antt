@@ -1,7 +1,7 @@
 -- One bank taken up.
 use mathlib.Core.Bool.{Bool, true, false, cond, _&&_, _||_, not}
 use mathlib.Core.List.{List, [], _∷_, _++_, map}
-use mathlib.Core.Logic.{_⊎_, inl, inr, _≢_}
+use mathlib.Core.Logic.{inl, inr, _≢_}
 use mathlib.Core.Path.{_≡_, refl, sym, ap, subst, _∙_}
 use Prim.Native.Nat.{ℕ, _+_, _*_, _≤_, _<_}
 use native.Mathlib.Decide.{ℕ-discrete}
@@ -14,12 +14,12 @@ use Rattle.rule.specs.Graph.{Graph, neighbours, earlier, earlierNeighbours}
 use Rattle.rule.specs.Wave.{wave, lowestFree}
 use Rattle.rule.specs.Reach.{changed}
 use Rattle.rule.specs.WorkList.{WorkList, Next}
-use Rattle.rule.proofs.Booleans.{and-l, and-r, or-l, or-r, or-cases, T-along, test-ext, eq→eqb, cond-yes, cond-no}
+use Rattle.rule.proofs.Booleans.{and-l, and-r, or-l, or-r, or-cases, T-along, test-ext, eq→eqb, cond-yes, cond-no, and-false}
 use Rattle.rule.proofs.Lists.{in-head, in-cons, map-cong, filter-kept, filter-left}
 use Rattle.rule.proofs.Neighbours.{in-neighbours, memb-neighbours}
 use Rattle.rule.proofs.Order.{earlier-irrefl, earlier-trans}
 use Rattle.rule.proofs.Waves.{earlierNeighbours-in}
-use Rattle.rule.proofs.Theorems.{next-wave, step, lowestFree-only, lowestFree-le, lowestFree-free, lowestFree-smaller}
+use Rattle.rule.proofs.Theorems.{next-wave, step, lowestFree-only, lowestFree-le, lowestFree-free}
 use Rattle.memory.specs.Counts.{standing}
 use Rattle.memory.proofs.Fronts.{pos, take-next, drop-next, take-store, memb-snoc, beyond-set, beyond-next, beyond-refl}
 use Rattle.memory.proofs.Standing.{standing-pos, pos-standing}
@@ -43,10 +43,6 @@ rest-step false true e false h = refl
 rest-step true false true false h = refl
 rest-step true false false false h = refl
 rest-step false false e false h = refl
-
-and-false : (t : Bool) → (t && false) ≡ false
-and-false true = refl
-and-false false = refl
 
 pub or-nothing : (t : Bool) → t ≡ (t || false)
 or-nothing true = refl
@@ -165,7 +161,7 @@ module _ {e : Edit} {m : Lent} {q : List ℕ} {p : Progress} (wk : Working e m q
       (c, low-small, zero-of _ (λ l. lowestFree-free held (standing-pos (λ v. getD (m .waves) v 0) c earliers (rw (cell-is c low-small) at l))))
 
   module _ (w : ℕ) (low : Lowest (m .counts) h w) where
-    pub new-wave : w ≡ wave (new e) h
+    new-wave : w ≡ wave (new e) h
     new-wave =
         lowestFree-only held w
         (λ i. (let z : ⊥ = omega (arith, pos-standing (λ v. getD (m .waves) v 0) w earliers i, low .free, cell-is w (low .small)) in z))

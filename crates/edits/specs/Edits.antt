@@ -1,5 +1,4 @@
 -- The accepted edit of one clash, on memory that holds a plan.
-use mathlib.Core.List.{List}
 use mathlib.Core.Logic.{_≢_}
 use mathlib.Core.Path.{_≡_}
 use Prim.Native.Nat.{ℕ, _<_, _≤_}

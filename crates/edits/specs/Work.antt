@@ -1,5 +1,5 @@
 -- The work-list part of an edit: what `can_step` does to the cells, and the state between two of its calls.
-use mathlib.Core.Bool.{Bool, cond, _&&_, _||_}
+use mathlib.Core.Bool.{cond, _&&_, _||_}
 use mathlib.Core.List.{List}
 use mathlib.Core.Logic.{_⊎_, _≢_}
 use mathlib.Core.Path.{_≡_}
@@ -7,7 +7,7 @@ use Prim.Native.Nat.{ℕ, _+_, _*_, _-_, _<_, _≤_}
 use lib.Dec.{T, eqb}
 use lib.ListN.{length, getD, take, drop, set}
 use Rattle.rule.specs.Lists.{filter, memb}
-use Rattle.rule.specs.Graph.{Graph, neighbours, degree, earlier}
+use Rattle.rule.specs.Graph.{Graph, neighbours, earlier}
 use Rattle.rule.specs.Wave.{wave, waves}
 use Rattle.rule.specs.Reach.{Kind, edited, changed, moved}
 use Rattle.rule.specs.WorkList.{OneEdit, WorkList, taken}

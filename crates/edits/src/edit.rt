@@ -22,8 +22,8 @@ pub struct Accepted {
     pub tally: Tally,
 }
 
-// Brings waves and Counts up to date, once rows and degrees are, and writes the trail and the moved list. The tally has the new number of
-// clashes; a and b had the degrees `before`.
+// Brings waves and Counts up to date, once rows and degrees are, and writes the trail and the moved list. `clashes` is their new number; a and
+// b had the degrees `before`.
 fn propagate(
     neighbours: &[u16],
     degrees: &[u16],
@@ -31,16 +31,15 @@ fn propagate(
     counts: &mut [u16],
     trail: &mut [u16],
     moved: &mut [u16],
-    tally: Tally,
+    banks: u16,
+    clashes: u16,
     a: Bank,
     b: Bank,
     before: Degrees,
 ) -> Accepted
-    requires { ⌜ ((o : Origin) × Changed (editAt o (a .0) (b .0)) (lentOf (now neighbours) (now degrees) (now waves) (now counts) (now trail) (now moved)) before tally) ⌝ }
-    ensures { λ r. ⌜ ((o : Origin) → Changed (editAt o (a .0) (b .0)) (lentOf (now (neighbours .entry)) (now (degrees .entry)) (now (waves .entry)) (now (counts .entry)) (now (trail .entry)) (now (moved .entry))) before tally → Result (o .kind) (o .graph) (a .0) (b .0) (o .lent) (lentOf (now (neighbours .entry)) (now (degrees .entry)) (now (waves .exit)) (now (counts .exit)) (now (trail .exit)) (now (moved .exit))) r) ⌝ }
+    requires { ⌜ ((o : Origin) × Changed (editAt o (a .0) (b .0)) (lentOf (now neighbours) (now degrees) (now waves) (now counts) (now trail) (now moved)) before banks clashes) ⌝ }
+    ensures { λ r. ⌜ ((o : Origin) → Changed (editAt o (a .0) (b .0)) (lentOf (now (neighbours .entry)) (now (degrees .entry)) (now (waves .entry)) (now (counts .entry)) (now (trail .entry)) (now (moved .entry))) before banks clashes → Result (o .kind) (o .graph) (a .0) (b .0) (o .lent) (lentOf (now (neighbours .entry)) (now (degrees .entry)) (now (waves .exit)) (now (counts .exit)) (now (trail .exit)) (now (moved .exit))) r) ⌝ }
 {
-    let banks = tally.banks;
-    let clashes = tally.clashes;
     let mut queue = [0u16; 1024];
     let queued = queue_seeds(neighbours, degrees, &mut queue, a, b, before);
     recount(neighbours, degrees, waves, counts, banks, &queue, queued);
@@ -87,11 +86,8 @@ pub fn add_edit(
     requires { ⌜ ((G : Graph) × Editable adding G (lentOf (now neighbours) (now degrees) (now waves) (now counts) (now trail) (now moved)) tally (a .0) (b .0)) ⌝ }
     ensures { λ r. ⌜ ((G : Graph) → Editable adding G (lentOf (now (neighbours .entry)) (now (degrees .entry)) (now (waves .entry)) (now (counts .entry)) (now (trail .entry)) (now (moved .entry))) tally (a .0) (b .0) → Result adding G (a .0) (b .0) (lentOf (now (neighbours .entry)) (now (degrees .entry)) (now (waves .entry)) (now (counts .entry)) (now (trail .entry)) (now (moved .entry))) (lentOf (now (neighbours .exit)) (now (degrees .exit)) (now (waves .exit)) (now (counts .exit)) (now (trail .exit)) (now (moved .exit))) r) ⌝ }
 {
-    let after = Tally {
-        banks: tally.banks,
-        clashes: tally.clashes + 1,
-        waves: tally.waves,
-    };
+    let banks = tally.banks;
+    let clashes = tally.clashes + 1;
     let before = insert_clash(neighbours, degrees, a, b);
     propagate(
         neighbours,
@@ -100,7 +96,8 @@ pub fn add_edit(
         counts,
         trail,
         moved,
-        after,
+        banks,
+        clashes,
         a,
         b,
         before,
@@ -122,11 +119,8 @@ pub fn strike_edit(
     requires { ⌜ ((G : Graph) × Editable striking G (lentOf (now neighbours) (now degrees) (now waves) (now counts) (now trail) (now moved)) tally (a .0) (b .0)) ⌝ }
     ensures { λ r. ⌜ ((G : Graph) → Editable striking G (lentOf (now (neighbours .entry)) (now (degrees .entry)) (now (waves .entry)) (now (counts .entry)) (now (trail .entry)) (now (moved .entry))) tally (a .0) (b .0) → Result striking G (a .0) (b .0) (lentOf (now (neighbours .entry)) (now (degrees .entry)) (now (waves .entry)) (now (counts .entry)) (now (trail .entry)) (now (moved .entry))) (lentOf (now (neighbours .exit)) (now (degrees .exit)) (now (waves .exit)) (now (counts .exit)) (now (trail .exit)) (now (moved .exit))) r) ⌝ }
 {
-    let after = Tally {
-        banks: tally.banks,
-        clashes: tally.clashes - 1,
-        waves: tally.waves,
-    };
+    let banks = tally.banks;
+    let clashes = tally.clashes - 1;
     let before = remove_clash(neighbours, degrees, a, b);
     propagate(
         neighbours,
@@ -135,7 +129,8 @@ pub fn strike_edit(
         counts,
         trail,
         moved,
-        after,
+        banks,
+        clashes,
         a,
         b,
         before,

@@ -12,7 +12,7 @@ use Rattle.rule.specs.Reach.{Kind, adding, striking, edited}
 use Rattle.memory.specs.Plan.{longEnough, PlanOf}
 use Rattle.memory.proofs.Theorems.{open-plan}
 use Rattle.planner.specs.Questions.{firstNo}
-use Rattle.planner.proofs.Numbers.{both-true}
+use Rattle.rule.proofs.Booleans.{both-true}
 use Rattle.planner.proofs.Outcomes.{acceptable, edited-banks}
 use Rattle.planner.proofs.After.{clashes-edited, plan-in}
 use Rattle.planner.specs.Calls.{Memory, allLong, editNumber, accepted}

@@ -2,7 +2,7 @@
 use mathlib.Core.Path.{_≡_, ap}
 use Prim.Native.Nat.{ℕ, zero, suc}
 use Rattle.rule.specs.Graph.{Graph}
-use Rattle.rule.specs.Reach.{Kind, edited}
+use Rattle.rule.specs.Reach.{Kind}
 use Rattle.memory.specs.declared.Tally.{Tally}
 use Rattle.memory.specs.Plan.{tallyOf}
 use Rattle.planner.specs.declared.Edited.{Edited}

@@ -1,5 +1,5 @@
 -- Striking all clashes of a bank, the lowest neighbour first.
-use mathlib.Core.Bool.{Bool, true, false, _&&_, not}
+use mathlib.Core.Bool.{Bool, true, false, not}
 use mathlib.Core.List.{List, [], _∷_}
 use mathlib.Core.Path.{_≡_, refl, sym, ap, _∙_}
 use Prim.Native.Nat.{ℕ, _-_, _≤_, _<_}
@@ -15,7 +15,7 @@ use Rattle.planner.specs.declared.Edited.{Edited}
 use Rattle.planner.specs.Questions.{firstNo}
 use Rattle.planner.specs.Calls.{Memory, clashQuestions, editNumber}
 use Rattle.planner.specs.Held.{Ready, Edits}
-use Rattle.list_reader.specs.Pass.{State, make, strikeEach}
+use Rattle.list_reader.specs.Pass.{make, strikeEach}
 use Rattle.list_reader.specs.Steps.{at, Stands}
 use Rattle.list_reader.proofs.Made.{ready-banks, edit-accepted}
 

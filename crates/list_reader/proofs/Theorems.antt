@@ -1,5 +1,5 @@
 -- Theorems on lists: what to cite.
-use mathlib.Core.Bool.{Bool, true, false, cond}
+use mathlib.Core.Bool.{Bool, true, false}
 use mathlib.Core.List.{List, [], _∷_, _++_}
 use mathlib.Core.Path.{_≡_, refl, sym, ap, _∙_}
 use Prim.Native.Nat.{ℕ, zero, suc, _+_, _≤_, _<_}
@@ -9,18 +9,18 @@ use lib.ListN.{length, take, length-append}
 use borrow.Author.Tests.{le-leb, leb-true}
 use Rattle.rule.specs.Graph.{Graph}
 use Rattle.memory.specs.declared.Tally.{Tally}
-use Rattle.memory.specs.Plan.{Slices, planIn, PlanOf}
+use Rattle.memory.specs.Plan.{Slices, PlanOf}
 use Rattle.memory.proofs.Agree.{planCells}
 use Rattle.memory.proofs.Theorems.{same-cells, tally-agree}
 use Rattle.planner.specs.Calls.{Memory}
 use Rattle.list_rows.specs.declared.row.Row.{Row}
 use Rattle.list_rows.specs.declared.row.Row.the-variants.{Banks, Edit, Unreadable}
 use Rattle.list_rows.specs.Text.{rows}
-use Rattle.list_rows.specs.Rows.{fromParts, rowOf}
+use Rattle.list_rows.specs.Rows.{rowOf}
 use Rattle.list_rows.proofs.Theorems.{final-feed}
 use Rattle.list_reader.specs.Pass.{ListResult, listResult, reading, pass, begin, beginNumber, beginBy, fromFirst, fromRows, readList}
 use Rattle.list_reader.specs.Ends.{after, afterFirst, afterRows, endOf, FirstOpens}
-use Rattle.list_reader.proofs.Kept.{Holding, pass-holds, pass-accepted, pass-before, begin-holds}
+use Rattle.list_reader.proofs.Kept.{pass-holds, pass-accepted, pass-before, begin-holds}
 
 within : (bytes : List ℕ) (m : Memory) → length bytes ≤ 60000 → readList bytes m ≡ fromRows (rows bytes) m
 unfolding readList

@@ -21,6 +21,7 @@ afterFirst (Banks n) rs m = after rs (begin n m)
 afterFirst (Edit c) rs m = begin 0 m
 afterFirst Unreadable rs m = begin 0 m
 
+-- after all rows
 unfoldable pub afterRows : List (List ℕ) → Memory → State
 afterRows [] m = begin 0 m
 afterRows (r ∷ rs) m = afterFirst (rowOf r) rs m

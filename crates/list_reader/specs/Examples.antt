@@ -73,10 +73,12 @@ cases =
     -- a clash struck, and all clashes of a bank, with and without any
     ∷ reads (joined (banks 4 ∷ plus 0 1 ∷ plus 0 2 ∷ minus 0 1 ∷ [])) 0 0 (0 ∷ 0 ∷ 1 ∷ 0 ∷ 0 ∷ [])
     ∷ reads (joined (banks 4 ∷ plus 0 1 ∷ plus 0 2 ∷ all 0 ∷ all 3 ∷ [])) 0 0 (0 ∷ 0 ∷ 0 ∷ 0 ∷ 0 ∷ [])
-    -- refused at row 1: no bytes; an empty row; no N row; 5 banks for slices of 4
+    -- refused at row 1: no bytes; an empty row; no N row; `N 10000`; `N 1025`; 5 banks for slices of 4
     ∷ reads [] 10 1 (zeros 5)
     ∷ reads (10 ∷ []) 10 1 (zeros 5)
     ∷ reads (plus 0 1) 10 1 (zeros 5)
+    ∷ reads (78 ∷ 32 ∷ 49 ∷ 48 ∷ 48 ∷ 48 ∷ 48 ∷ []) 10 1 (zeros 5)
+    ∷ reads (78 ∷ 32 ∷ 49 ∷ 48 ∷ 50 ∷ 53 ∷ []) 1 1 (zeros 5)
     ∷ reads (banks 5) 2 1 (zeros 5)
     -- refused at row 3, with the plan of the rows before: an empty row; an N row; `+ 05 1`; no such bank, twice; the same bank; a clash again; no clash
     ∷ reads (joined (banks 4 ∷ plus 0 1 ∷ [] ∷ plus 1 2 ∷ [])) 11 3 (0 ∷ 1 ∷ 0 ∷ 0 ∷ 0 ∷ [])

@@ -22,6 +22,7 @@ pub record ListResult : Type 0 where
   pub answer : Reading
   pub memory : Memory
 
+-- short names of a result and of an answer
 abbrev pub listResult : Reading → Memory → ListResult
 listResult answer memory = record { answer = answer; memory = memory }
 
@@ -33,7 +34,7 @@ pub record State : Type 0 where
   pub graph : Graph
   pub memory : Memory
 
--- one edit
+-- an edit to which no refusal is due
 unfoldable pub make : Kind → ℕ → ℕ → State → State
 make k a b s = record { graph = edited k (s .graph) a b; memory = accepted k (s .graph) a b (s .memory) .memory }
 
@@ -98,6 +99,7 @@ fromFirst (Banks n) rs m = beginBy (beginNumber n m) n rs m
 fromFirst (Edit c) rs m = listResult (reading 10 1) m
 fromFirst Unreadable rs m = listResult (reading 10 1) m
 
+-- question 2 of all rows: without any, there is no row 1 of that form
 unfoldable pub fromRows : List (List ℕ) → Memory → ListResult
 fromRows [] m = listResult (reading 10 1) m
 fromRows (r ∷ rs) m = fromFirst (rowOf r) rs m

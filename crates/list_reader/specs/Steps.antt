@@ -1,4 +1,4 @@
--- What the functions under `read_list_core` promise.
+-- What the functions under `read_list_core` ask (the records Asks ..) and promise.
 use mathlib.Core.List.{List, [], _∷_}
 use mathlib.Core.Path.{_≡_}
 use Prim.Native.Nat.{ℕ, zero, suc, _+_, _-_, _≤_, _<_}
@@ -19,6 +19,7 @@ use Rattle.planner.specs.declared.Edited.{Edited}
 use Rattle.list_reader.specs.declared.pass.Step.{Step}
 use Rattle.list_reader.specs.Pass.{State, reading, listResult, changeNumber, change, rowNumber, step, pass, beginNumber, beginBy}
 
+-- the state of these clashes and this memory
 abbrev pub at : Graph → Memory → State
 at G m = record { graph = G; memory = m }
 
@@ -59,6 +60,7 @@ pub record Changes (c : Change) (G : Graph) (m : Memory) (number : ℕ) (m′ : 
   pub is : number ≡ changeNumber c G
   pub stands : Stands (tried (changeNumber c G) (change c (at G m)) (at G m)) m′
 
+-- the same of whichever plan the memory holds
 pub record Applies (c : Change) (m : Memory) (r : Edited) (m′ : Memory) : Type 0 where
   pub of : (G : Graph) → Ready G m → Changes c G m (r .answer .number) m′
 

@@ -38,8 +38,8 @@ pub struct Step {
     pub tally: Tally,
 }
 
-// Reads a list: opens the plan, then makes the rows' edits. This is the core, with the tally by value: programs and other
-// crates call it.
+// Reads a list: opens the plan, then makes the rows' edits. This is the core, which takes and returns the tally by value:
+// programs and other crates call it. The function that borrows the tally is a thin one over it.
 pub fn read_list_core(
     list: &[u8],
     neighbours: &mut [u16],

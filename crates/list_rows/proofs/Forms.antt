@@ -1,11 +1,11 @@
 -- What the parts of a row read as, test by test.
-use mathlib.Core.Bool.{Bool, true, false, cond, _&&_}
+use mathlib.Core.Bool.{Bool, true, false, cond}
 use mathlib.Core.List.{List, [], _∷_}
 use mathlib.Core.Path.{_≡_, refl, ap}
 use Prim.Native.Nat.{ℕ, _+_, _-_, _≤_, _<_}
 use lib.Dec.{eqb}
 use lib.ListN.{length, getD, take, drop}
-use borrow.Author.Tests.{eq-eqb, ne-eqb}
+use borrow.Author.Tests.{ne-eqb}
 use Rattle.list_rows.specs.declared.number.Number.{Number}
 use Rattle.list_rows.specs.declared.number.Number.the-variants.{Value, Nothing}
 use Rattle.list_rows.specs.declared.row.Change.the-variants.{Add, Strike, StrikeAll}

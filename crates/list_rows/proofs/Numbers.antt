@@ -1,12 +1,11 @@
 -- Which parts are numbers, test by test.
-use mathlib.Core.Bool.{Bool, true, false, cond, _&&_, _||_, not}
+use mathlib.Core.Bool.{Bool, true, false, cond, _&&_, _||_}
 use mathlib.Core.List.{List}
 use mathlib.Core.Path.{_≡_, refl}
 use Prim.Native.Nat.{ℕ, _≤_, _<_}
-use lib.Dec.{leb, eqb}
+use lib.Dec.{leb}
 use lib.ListN.{length, getD}
 use borrow.Author.Tests.{le-leb, lt-leb, eq-eqb, ne-eqb}
-use Rattle.list_rows.specs.declared.number.Number.{Number}
 use Rattle.list_rows.specs.declared.number.Number.the-variants.{Value, Nothing}
 use Rattle.list_rows.specs.Text.{digits, isNumber, valueFrom, number}
 use Rattle.list_rows.specs.Inner.{digitsValue}

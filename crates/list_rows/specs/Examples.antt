@@ -1,14 +1,9 @@
 -- Computed examples: the rows of bytes, and which parts are numbers.
-use mathlib.Core.List.{List, [], _∷_}
+use mathlib.Core.List.{[], _∷_}
 use mathlib.Core.Path.{_≡_, refl}
-use mathlib.Core.Bool.{Bool, true, false, cond, _&&_, _||_, not}
-use Prim.Native.Nat.{ℕ}
-use lib.Dec.{leb, eqb}
-use lib.ListN.{length, getD}
-use Rattle.list_rows.specs.declared.number.Number.{Number}
+use mathlib.Core.Bool.{not}
 use Rattle.list_rows.specs.declared.number.Number.the-variants.{Value, Nothing}
 use Rattle.list_rows.specs.declared.row.Change.the-variants.{Add, Strike, StrikeAll}
-use Rattle.list_rows.specs.declared.row.Row.{Row}
 use Rattle.list_rows.specs.declared.row.Row.the-variants.{Banks, Edit, Unreadable}
 use Rattle.list_rows.specs.Text.{onto, rows, parts, digits, isNumber, valueFrom, number}
 use Rattle.list_rows.specs.Rows.{isByte, bank, twoParts, threeParts, fromParts, rowOf}

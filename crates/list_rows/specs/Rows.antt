@@ -7,7 +7,6 @@ use lib.ListN.{length, getD}
 use Rattle.rule.specs.declared.Bank.{Bank}
 use Rattle.list_rows.specs.declared.number.Number.{Number}
 use Rattle.list_rows.specs.declared.number.Number.the-variants.{Value, Nothing}
-use Rattle.list_rows.specs.declared.row.Change.{Change}
 use Rattle.list_rows.specs.declared.row.Change.the-variants.{Add, Strike, StrikeAll}
 use Rattle.list_rows.specs.declared.row.Row.{Row}
 use Rattle.list_rows.specs.declared.row.Row.the-variants.{Banks, Edit, Unreadable}
@@ -17,6 +16,7 @@ use Rattle.list_rows.specs.Text.{parts, number}
 unfoldable pub isByte : ℕ → List ℕ → Bool
 isByte c p = eqb (length p) 1 && eqb (getD p 0 0) c
 
+-- the bank of this number
 abbrev pub bank : ℕ → Bank
 bank x = record { 0 = x }
 

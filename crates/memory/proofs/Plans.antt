@@ -1,16 +1,17 @@
 -- The plan of G put into slices: how many cells it has, whether they have room, and the plan put over a plan.
 use mathlib.Core.Bool.{Bool, true, false, _&&_}
-use mathlib.Core.List.{List, [], _∷_}
-use mathlib.Core.Path.{_≡_, refl, sym, ap, subst, _∙_}
+use mathlib.Core.List.{List}
+use mathlib.Core.Path.{_≡_, refl, sym, ap, _∙_}
 use Prim.Native.Nat.{ℕ, _*_, _≤_}
 use native.Mathlib.Omega.{arith}
 use borrow.Author.Tests.{le-leb, leb-true}
-use lib.Dec.{T, leb}
+use lib.Dec.{leb}
 use lib.ListN.{length, length-map}
 use Rattle.rule.specs.Lists.{upto, filter}
 use Rattle.rule.specs.Graph.{Graph, neighbours, degree, empty}
 use Rattle.rule.specs.Wave.{wave, waves}
-use Rattle.rule.proofs.Lists.{length-upto}
+use Rattle.rule.proofs.Booleans.{is-true, is-false, both-true}
+use Rattle.rule.proofs.Lists.{length-upto, filter-none}
 use Rattle.memory.specs.Cells.{over}
 use Rattle.memory.specs.Plan.{Slices, longEnough, neighbourCells, degreeCells, countCells, tallyOf, planIn, PlanOf}
 use Rattle.memory.proofs.Fronts.{over-long}
@@ -41,14 +42,6 @@ pub record Long (n : ℕ) (s : Slices) : Type 0 where
   pub waves : n ≤ length (s .waves)
   pub counts : 24 * n ≤ length (s .counts)
 
-and-both : (a b : Bool) → (a && b) ≡ true → (a ≡ true) × (b ≡ true)
-and-both true b e = (refl, e)
-and-both false b e = absurd (subst T (sym e) tt)
-
-is-false : (b : Bool) → (b ≡ true → ⊥) → false ≡ b
-is-false true h = absurd (h refl)
-is-false false h = refl
-
 module _ (n : ℕ) (s : Slices) where
   pub long : longEnough n s ≡ true → Long n s
   unfolding longEnough
@@ -57,9 +50,9 @@ module _ (n : ℕ) (s : Slices) where
       let b : Bool = leb n (length (s .degrees)) in
       let w : Bool = leb n (length (s .waves)) in
       let d : Bool = leb (24 * n) (length (s .counts)) in
-      let p = and-both a (b && (w && d)) e in
-      let q = and-both b (w && d) (p .1) in
-      let r = and-both w d (q .1) in
+      let p = both-true a (b && (w && d)) e in
+      let q = both-true b (w && d) (p .1) in
+      let r = both-true w d (q .1) in
       record {
         neighbours = leb-true (23 * n) (length (s .neighbours)) (p .0);
         degrees = leb-true n (length (s .degrees)) (q .0);
@@ -78,7 +71,7 @@ module _ (n : ℕ) (s : Slices) where
       )
 
   pub too-short : (Long n s → ⊥) → false ≡ longEnough n s
-  too-short h = is-false (longEnough n s) (λ e. h (long e))
+  too-short h = sym (is-false (longEnough n s) (λ t. h (long (is-true (longEnough n s) t))))
 
 -- a plan put over a plan of as many banks
 pub plan-over : (G H : Graph) (s : Slices) → H .banks ≡ G .banks → planIn H (planIn G s) ≡ planIn H s
@@ -102,11 +95,6 @@ long-again G s e =
     long-enough (G .banks) (planIn G s) (record { neighbours = omega arith; degrees = omega arith; waves = omega arith; counts = omega arith })
 
 -- n banks and no clash: what opening leaves
-filter-none : (xs : List ℕ) → filter (λ y. false) xs ≡ []
-unfolding filter
-filter-none [] = refl
-filter-none (x ∷ xs) = filter-none xs
-
 no-degree : (n x : ℕ) → degree (empty n) x ≡ 0
 unfolding degree neighbours
 no-degree n x = ap length (filter-none (upto n))

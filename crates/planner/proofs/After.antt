@@ -13,7 +13,7 @@ use Rattle.rule.specs.Graph.{Graph, neighbours, degree, earlier, earlierNeighbo
 use Rattle.rule.specs.Wave.{wave}
 use Rattle.rule.specs.Reach.{Kind, adding, striking, edited, changed, isNamed, isReached, onTrail, trail, moved, around}
 use Rattle.rule.specs.WorkList.{Allowed, OneEdit, seed, isTaken}
-use Rattle.rule.proofs.Booleans.{and-l, and-r, both, or-l, or-r, or-cases, T-along, eq→eqb, passes?, test-ext}
+use Rattle.rule.proofs.Booleans.{and-l, and-r, both, or-l, or-r, or-cases, T-along, eq→eqb, is-true, is-false}
 use Rattle.rule.proofs.Lists.{filter-cong, in-upto, upto-below}
 use Rattle.rule.proofs.Spread.{same-neighbours, taken-spread, taken-seed, unchanged}
 use Rattle.rule.proofs.Waves.{earlierNeighbours-in}
@@ -204,14 +204,6 @@ module _ (G : Graph) (a b : ℕ) (c : Clashes G) where
   pair-here : T (pair a b a b)
   unfolding pair
   pair-here = or-l (eqb a a && eqb b b) _ (both (eqb a a) (eqb b b) (eq→eqb a a refl) (eq→eqb b b refl))
-
-  is-true : (t : Bool) → T t → t ≡ true
-  is-true true u = refl
-  is-true false u = absurd u
-
-  is-false : (t : Bool) → (T t → ⊥) → t ≡ false
-  is-false true u = absurd (u tt)
-  is-false false u = refl
 
   -- no refusal is due to it
   pub back-due : (k : Kind) → Acceptable k G a b → editNumber (inverse k) (edited k G a b) a b ≡ 0

@@ -9,7 +9,7 @@ use lib.ListN.{length, getD, drop, replicate, length-replicate}
 use Rattle.rule.specs.Lists.{upto, memb, filter}
 use Rattle.rule.specs.Graph.{neighbours, degree, earlierNeighbours, empty}
 use Rattle.rule.specs.Wave.{lowestFrom, lowestFree, wave, waves, waveCount}
-use Rattle.rule.proofs.Lists.{length-upto, upto-below, in-head, in-tail}
+use Rattle.rule.proofs.Lists.{length-upto, upto-below, in-head, in-tail, filter-none}
 use Rattle.rule.proofs.Theorems.{wave-equation}
 use Rattle.memory.specs.declared.Tally.{Tally}
 use Rattle.memory.specs.Cells.{cells, over}
@@ -25,11 +25,6 @@ map-const f v (x ∷ xs) h = ap₂ _∷_ (h x (in-head x x xs refl)) (map-const 
 cells-const : (k : ℕ) (f : ℕ → ℕ) (v : ℕ) → ((i : ℕ) → i < k → f i ≡ v) → cells k f ≡ replicate k v
 unfolding cells
 cells-const k f v h = map-const f v (upto k) (λ x m. h x (upto-below k x m)) ∙ ap (λ (n : ℕ). replicate n v) (length-upto k)
-
-filter-none : (xs : List ℕ) → filter (λ x. false) xs ≡ []
-unfolding filter
-filter-none [] = refl
-filter-none (x ∷ xs) = filter-none xs
 
 over-const : (k v : ℕ) (front xs : List ℕ) → front ≡ replicate k v → over front xs ≡ replicate k v ++ drop k xs
 unfolding over

@@ -10,10 +10,11 @@ use lib.ListN.{length}
 use borrow.Author.Tests.{le-leb, lt-leb, leb-true, lt-ltb, le-ltb, ltb-true, eq-eqb, ne-eqb}
 use Rattle.rule.specs.Graph.{Graph, degree}
 use Rattle.rule.specs.Reach.{Kind, adding, striking}
-use Rattle.rule.proofs.Booleans.{T-along}
+use Rattle.rule.proofs.Booleans.{T-along, is-true, both-true, and-true, and-false}
 use Rattle.memory.specs.declared.Tally.{Tally}
 use Rattle.memory.specs.Plan.{Slices, longEnough, graphIn, holds, PlanOf}
-use Rattle.memory.proofs.Theorems.{holds-plan}
+use Rattle.memory.proofs.Theorems.{holds-plan, plan-holds}
+use Rattle.memory.proofs.Views.{tally-banks}
 use Rattle.planner.specs.Questions.{Question, firstNo}
 use Rattle.planner.specs.Held.{Ready}
 use Rattle.planner.specs.Calls.{Memory, allLong, openNumber, planNumber, bankNumber, memoryNumber, clashQuestions, editNumber}
@@ -23,10 +24,6 @@ pub none : (h : Bool) (k : ℕ) (qs : List Question) → firstNo (record { holds
 unfolding firstNo
 none true k qs e = (refl, e)
 none false k qs e = absurd (omega arith)
-
-pub both-true : (a b : Bool) → (a && b) ≡ true → (a ≡ true) × (b ≡ true)
-both-true true b e = (refl, e)
-both-true false b e = absurd (T-along (sym e) tt)
 
 -- open
 module _ (n : ℕ) (s : Slices) where
@@ -108,14 +105,6 @@ module _ (m : Memory) where
   unfolding memoryNumber firstNo
   memory-many h = rw (lt-leb n 1024 h)
 
-  and-false : (a : Bool) → (a && false) ≡ false
-  and-false true = refl
-  and-false false = refl
-
-  and-true : (a : Bool) → (a && true) ≡ a
-  and-true true = refl
-  and-true false = refl
-
   pub trail-short : n ≤ 1024 → length (m .trail) < n → memoryNumber m ≡ 2
   unfolding memoryNumber firstNo allLong
   trail-short h k = rw (le-leb n 1024 h, lt-leb n (length (m .trail)) k, and-false)
@@ -192,3 +181,9 @@ pub number-ready : (m : Memory) → m .tally .banks ≤ length (m .trail) → m 
     → Ready (graphIn (m .tally .banks) (m .slices)) m
 unfolding graphIn
 number-ready m t v e = record { plan = number-plan (m .slices) (m .tally) e; trailRoom = t; movedRoom = v }
+
+-- and memory that holds a plan passes them
+pub held-number : (G : Graph) (s : Slices) (t : Tally) → PlanOf G s t → planNumber s t ≡ 0
+held-number G s t p =
+    let e = tally-banks t G (p .tally) in
+    plan-fine s t (omega (arith, p .clashes .most)) (rw e (p .long)) (is-true (holds s t) (plan-holds s t G p))

@@ -28,8 +28,8 @@ use Rattle.planner.specs.declared.Answer.{Answer}
 use Rattle.planner.specs.declared.Edited.{Edited}
 use Rattle.planner.specs.Calls.{Memory, memoryOf, EditResult, editResult, noEdit, refused, accepted, clashQuestions, editNumber, editBy, editOf, planNumber, memoryNumber, checkedBy, edit}
 use Rattle.planner.specs.Held.{Ready, graphBy, graphAfter, Edits}
-use Rattle.rule.proofs.Booleans.{T-along}
-use Rattle.planner.proofs.Numbers.{none, both-true, memory-passed, number-ready}
+use Rattle.rule.proofs.Booleans.{T-along, both-true}
+use Rattle.planner.proofs.Numbers.{none, memory-passed, number-ready}
 
 -- the number 0 says that no refusal is due
 module _ (G : Graph) (a b : ℕ) where

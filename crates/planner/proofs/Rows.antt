@@ -11,7 +11,7 @@ use lib.Seq.{getD-take, getD-drop, ext-getD}
 use Rattle.rule.specs.Graph.{Graph, neighbours, degree}
 use Rattle.rule.specs.Wave.{wave}
 use Rattle.rule.specs.Lists.{memb}
-use Rattle.rule.proofs.Booleans.{T-along}
+use Rattle.rule.proofs.Booleans.{T-along, is-true, is-false}
 use Rattle.rule.proofs.Lists.{in-none, in-append, in-cons}
 use Rattle.rule.proofs.Neighbours.{degree-length, memb-neighbours}
 use Rattle.memory.specs.declared.Tally.{Tally}
@@ -87,14 +87,6 @@ module _ (b : ℕ) (s : Slices) (t : Tally) where
   clashes-found e = unfold clashesBy in clashes-by 0 e
 
 -- a search for bank v among cells
-is-false : (t : Bool) → (T t → ⊥) → t ≡ false
-is-false true h = absurd (h tt)
-is-false false h = refl
-
-is-true : (t : Bool) → T t → t ≡ true
-is-true true h = refl
-is-true false h = absurd h
-
 pub not-yet : (v : ℕ) → memb v [] ≡ false
 not-yet v = is-false (memb v []) (in-none v)
 

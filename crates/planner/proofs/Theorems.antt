@@ -12,9 +12,10 @@ use Rattle.rule.proofs.Theorems.{trail-bound}
 use Rattle.memory.specs.declared.Tally.{Tally}
 use Rattle.memory.specs.Plan.{Slices, graphIn, PlanOf}
 use Rattle.memory.proofs.Views.{tally-banks}
-use Rattle.planner.specs.Calls.{Memory, openResult, opened, refused, accepted, editNumber, edit}
+use Rattle.planner.specs.Calls.{Memory, planNumber, openResult, opened, refused, accepted, editNumber, edit}
 use Rattle.planner.specs.Held.{Ready}
 use Rattle.planner.proofs.Outcomes.{acceptable}
+use Rattle.planner.proofs.Numbers as Numbers
 use Rattle.planner.proofs.NoClash as NoClash
 use Rattle.planner.proofs.Outcomes as Outcomes
 use Rattle.planner.proofs.After as After
@@ -24,7 +25,11 @@ use Rattle.planner.proofs.After.{SameCells, inverse}
 pub opened-plan : (n : ℕ) (s : Slices) (t : Tally) {s′ : Slices} {t′ : Tally} → openResult 0 s′ t′ ≡ opened n s t → PlanOf (empty n) s′ t′
 opened-plan = NoClash.opened-plan
 
--- 2. an edit of memory that holds the plan of G, to which no refusal is due
+-- 2. memory that holds a plan passes questions 3 to 5 of a call that reads
+pub held-number : (G : Graph) (s : Slices) (t : Tally) → PlanOf G s t → planNumber s t ≡ 0
+held-number = Numbers.held-number
+
+-- 3. an edit of memory that holds the plan of G, to which no refusal is due
 module _ (k : Kind) (G : Graph) (a b : ℕ) (m : Memory) (ready : Ready G m) (due : editNumber k G a b ≡ 0) where
   -- memory holds the plan of the new clashes afterwards, the slices still have room,
   pub after-plan : PlanOf (edited k G a b) (accepted k G a b m .memory .slices) (accepted k G a b m .memory .tally)
@@ -64,11 +69,11 @@ module _ (k : Kind) (G : Graph) (a b : ℕ) (m : Memory) (ready : Ready G m) (du
   pub inverse-tally : accepted (inverse k) (edited k G a b) a b (accepted k G a b m .memory) .memory .tally ≡ m .tally
   inverse-tally = After.inverse-tally k G a b m ready due
 
--- 3. a refused call leaves all as it was, and its answer is the number with counts 0
+-- 4. a refused call leaves all as it was, and its answer is the number with counts 0
 pub refused-same : (k : Kind) (a b : ℕ) (m : Memory) (c : ℕ) → edit k a b m .answer .number ≡ suc c → edit k a b m ≡ refused (suc c) m
 refused-same = After.refused-same
 
--- 4. and an accepted one, of any memory, is the edit of the plan that it holds, to which no refusal was due
+-- 5. and an accepted one, of any memory, is the edit of the plan that it holds, to which no refusal was due
 pub accepted-edit : (k : Kind) (a b : ℕ) (m : Memory) → edit k a b m .answer .number ≡ 0
     → Ready (graphIn (m .tally .banks) (m .slices)) m × (editNumber k (graphIn (m .tally .banks) (m .slices)) a b ≡ 0)
     × (edit k a b m ≡ accepted k (graphIn (m .tally .banks) (m .slices)) a b m)

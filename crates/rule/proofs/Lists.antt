@@ -119,6 +119,11 @@ unfolding filter
 filter-true [] = refl
 filter-true (y ∷ ys) = ap (_∷_ y) (filter-true ys)
 
+pub filter-none : (xs : List ℕ) → filter (λ x. false) xs ≡ []
+unfolding filter
+filter-none [] = refl
+filter-none (y ∷ ys) = filter-none ys
+
 -- one test after another
 pub filter-filter : (p q : ℕ → Bool) (xs : List ℕ) → filter q (filter p xs) ≡ filter (λ x. p x && q x) xs
 unfolding filter

@@ -10,16 +10,11 @@ use lib.ListN.{length}
 use borrow.Author.Tests.{eq-eqb, ne-eqb}
 use Rattle.rule.specs.Lists.{upto, filter, memb, insertBy}
 use Rattle.rule.specs.Graph.{Graph, neighbours, degree, pair, added, struck}
-use Rattle.rule.proofs.Booleans.{and-l, and-r, both, or-l, or-r, or-cases, test-ext, T-along, eq→eqb}
+use Rattle.rule.proofs.Booleans.{and-l, and-r, both, or-l, or-r, or-cases, test-ext, T-along, eq→eqb, and-true, or-false}
 use Rattle.rule.proofs.Lists.{filter-cong}
 use Rattle.rule.proofs.Order.{ltb-strict}
 use Rattle.rule.proofs.Sorting.{sorted-unique, sorted-insertBy, memb-insertBy, length-insertBy}
-use Rattle.rule.proofs.Degrees.{or-false}
 use Rattle.rule.proofs.Neighbours.{degree-length, neighbours-in, in-neighbours, neighbours-sorted}
-
-and-true : (t : Bool) → (t && true) ≡ t
-and-true true = refl
-and-true false = refl
 
 put-back : (m e : Bool) → (T e → T m) → m ≡ (e || (m && not e))
 put-back true true h = refl

@@ -9,7 +9,7 @@ use lib.Dec.{T, eqb, ltb}
 use borrow.Author.Tests.{eq-eqb, ne-eqb}
 use Rattle.rule.specs.Lists.{upto, filter, memb, Sorted, Strict}
 use Rattle.rule.specs.Graph.{Graph, neighbours, pair, struck}
-use Rattle.rule.proofs.Booleans.{T-along}
+use Rattle.rule.proofs.Booleans.{T-along, is-true, or-false}
 use Rattle.rule.proofs.Lists.{in-head, in-tail, in-cons, in-none, upto-below, filter-in, filter-cong, filter-filter}
 use Rattle.rule.proofs.Order.{ltb-strict}
 use Rattle.rule.proofs.Sorting.{sorted-upto, sorted-filter}
@@ -20,10 +20,6 @@ not-in v [] n = refl
 not-in v (x ∷ xs) n =
     rw (ne-eqb x v (λ e. n (in-head v x xs (sym e)))) (ap (_∷_ x) (not-in v xs (λ m. n (in-tail v x xs m))))
 
-true-of : (b : Bool) → T b → b ≡ true
-true-of true t = refl
-true-of false t = absurd t
-
 module _ (G : Graph) (b v : ℕ) (vs : List ℕ) (e : neighbours G b ≡ v ∷ vs) (apart : G .clash b b ≡ false) where
   in-row : T (memb v (filter (G .clash b) (upto (G .banks))))
   unfolding neighbours
@@ -33,7 +29,7 @@ module _ (G : Graph) (b v : ℕ) (vs : List ℕ) (e : neighbours G b ≡ v ∷ v
   first-below = upto-below (G .banks) v (filter-in (G .clash b) (upto (G .banks)) v in-row .0)
 
   pub first-clash : G .clash b v ≡ true
-  first-clash = true-of (G .clash b v) (filter-in (G .clash b) (upto (G .banks)) v in-row .1)
+  first-clash = is-true (G .clash b v) (filter-in (G .clash b) (upto (G .banks)) v in-row .1)
 
   pub first-other : b ≡ v → ⊥
   first-other q =
@@ -49,11 +45,7 @@ module _ (G : Graph) (b v : ℕ) (vs : List ℕ) (e : neighbours G b ≡ v ∷ v
 
   this-pair : (x : ℕ) → pair b v b x ≡ eqb x v
   unfolding pair
-  this-pair x = rw (eq-eqb b b refl, ne-eqb b v first-other) (go (eqb x v))
-    where
-      go : (t : Bool) → (t || false) ≡ t
-      go true = refl
-      go false = refl
+  this-pair x = rw (eq-eqb b b refl, ne-eqb b v first-other) (or-false (eqb x v))
 
   pub struck-first : neighbours (struck G b v) b ≡ vs
   unfolding neighbours filter

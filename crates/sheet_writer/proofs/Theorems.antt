@@ -11,7 +11,7 @@ use Rattle.rule.specs.Wave.{wave, waveCount}
 use Rattle.memory.specs.declared.Tally.{Tally}
 use Rattle.memory.specs.Cells.{over}
 use Rattle.memory.specs.Plan.{Slices, graphIn, Clashes, PlanOf}
-use Rattle.planner.specs.Calls.{planNumber}
+use Rattle.planner.proofs.Numbers.{held-number, number-plan}
 use Rattle.sheet_writer.specs.Sheet.{letters, Line, lineOf, linesOf, joined, banksShown, times, bankText, headText, sheet}
 use Rattle.sheet_writer.specs.Calls.{sheetResult, writeSheet}
 use Rattle.sheet_writer.specs.Examples
@@ -63,10 +63,12 @@ pub one-sheet : (G H : Graph) (s : Slices) (t : Tally) → PlanOf G s t → Plan
 one-sheet G H s t p q = sym (Plans.sheet-is G s t p) ∙ Plans.sheet-is H s t q
 
 -- 7. an output of 4,067 bytes is never too short: memory that holds the plan of G gives its sheet
-module _ (s : Slices) (t : Tally) (out : List ℕ) (checked : 0 ≡ planNumber s t) (plan : PlanOf (graphIn (t .banks) s) s t) where
-  pub never-short : 4067 ≤ length out → (G : Graph) → PlanOf G s t
-      → sheetResult (record { number = 0; length = length (sheet G) }) (over (sheet G) out) ≡ writeSheet s t out
-  never-short room G held = Plans.never-short s t out checked plan room (sheet G) (one-sheet G (graphIn (t .banks) s) s t held plan)
+pub never-short : (G : Graph) (s : Slices) (t : Tally) (out : List ℕ) → PlanOf G s t → 4067 ≤ length out
+    → sheetResult (record { number = 0; length = length (sheet G) }) (over (sheet G) out) ≡ writeSheet s t out
+never-short G s t out held room =
+    let checked = held-number G s t held in
+    let plan = number-plan s t checked in
+    Plans.never-short s t out (sym checked) plan room (sheet G) (one-sheet G (graphIn (t .banks) s) s t held plan)
 
 -- 8. M1's sheet is `WAVES 0`; that of four banks with the clashes 0-1, 1-2, 2-3, 0-3 is `WAVES 2`, `A 0 2`, `B 1 3`
 pub sheet-M1 : sheet (empty 0) ≡ 87 ∷ 65 ∷ 86 ∷ 69 ∷ 83 ∷ 32 ∷ 48 ∷ 10 ∷ []

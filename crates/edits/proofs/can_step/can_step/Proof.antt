@@ -1,25 +1,25 @@
 -- `can_step`: the state after it by the laws of `Stepping`, whether the wave stays or changes.
-use borrow.Author.Needs.{needs}
 use native.Mathlib.Omega.{arith}
 use mathlib.Core.Path.{refl}
+use lib.ListN.{length-set}
 use Rattle.edits.proofs.Stepping.{h-bank, counts-in, one-free, treated, stays, notice, notice-start, goes}
 use Rattle.edits.proofs.can_step.can_step.Statement.{statement}
 use Rattle.edits.proofs.can_step.can_step.Tie as tie
 
 add-next : tie.Need-add-next
-add-next c = search needs
+add-next c = omega arith
 
 mul-t18 : tie.Need-mul-t18
-mul-t18 c = search needs
+mul-t18 c = omega arith
 
 slice-read-t20 : tie.Need-slice-read-t20
-slice-read-t20 c = search needs
+slice-read-t20 c = omega arith
 
 cast-at : tie.Need-cast-at
-cast-at c = search needs
+cast-at c = omega arith
 
 mul-t18-2 : tie.Need-mul-t18-2
-mul-t18-2 c = search needs
+mul-t18-2 c = omega arith
 
 slice-read-t20-2 : tie.Need-slice-read-t20-2
 slice-read-t20-2 c = let wk = c .before .before .before .before .before .before .before .before .before .before .pre .0 .1 in omega (arith, h-bank wk (c .before .before .before .before .before .before .before .before .before .before .pre .1), wk .wide-waves)
@@ -28,25 +28,25 @@ lowest-wave-requires : tie.Need-lowest-wave-requires
 lowest-wave-requires c κs = let wk = c .before .before .before .before .before .before .before .before .before .before .before .pre .0 .1 in (counts-in wk (c .before .before .before .before .before .before .before .before .before .before .before .pre .1), one-free wk (c .before .before .before .before .before .before .before .before .before .before .before .pre .1))
 
 mul-waves : tie.Need-mul-waves
-mul-waves c = search needs
+mul-waves c = omega arith
 
 slice-write-waves : tie.Need-slice-write-waves
 slice-write-waves c = let wk = c .before .before .before .before .before .before .before .before .before .before .before .before .pre .0 .1 in omega (arith, h-bank wk (c .before .before .before .before .before .before .before .before .before .before .before .before .pre .1), wk .wide-waves)
 
 mul-trail : tie.Need-mul-trail
-mul-trail c = search needs
+mul-trail c = omega arith
 
 slice-write-trail : tie.Need-slice-write-trail
-slice-write-trail c = search needs
+slice-write-trail c = omega arith
 
 same-length : tie.Need-same-length
-same-length c = search needs
+same-length c = simp length-set
 
 same-length-2 : tie.Need-same-length-2
-same-length-2 c = search needs
+same-length-2 c = refl
 
 same-length-3 : tie.Need-same-length-3
-same-length-3 c = search needs
+same-length-3 c = simp length-set
 
 returns : tie.Need-returns
 returns c =
@@ -56,10 +56,10 @@ returns c =
     (treated (c .before .before .before .before .before .before .before .before .before .before .before .before .before .before .before .pre .0 .1) lt w low _ _ refl refl refl, λ e wk. stays wk lt w low (c .if1 .taken))
 
 mul-moved : tie.Need-mul-moved
-mul-moved c = search needs
+mul-moved c = omega arith
 
 slice-write-moved : tie.Need-slice-write-moved
-slice-write-moved c = search needs
+slice-write-moved c = omega arith
 
 notify-later-requires : tie.Need-notify-later-requires
 notify-later-requires c κs =
@@ -71,22 +71,22 @@ notify-later-requires c κs =
     (notice wk lt w low _ refl differ, notice-start wk lt w low _ refl differ)
 
 add-t18 : tie.Need-add-t18
-add-t18 c = search needs
+add-t18 c = omega arith
 
 same-length-4 : tie.Need-same-length-4
-same-length-4 c = search needs
+same-length-4 c = simp length-set
 
 same-length-5 : tie.Need-same-length-5
-same-length-5 c = search needs
+same-length-5 c = c .before .before .before .before .notify-later .kept .1 .1 .0
 
 same-length-6 : tie.Need-same-length-6
-same-length-6 c = search needs
+same-length-6 c = simp length-set
 
 same-length-7 : tie.Need-same-length-7
-same-length-7 c = search needs
+same-length-7 c = simp length-set
 
 same-length-8 : tie.Need-same-length-8
-same-length-8 c = search needs
+same-length-8 c = c .before .before .before .before .notify-later .kept .1 .1 .1 .0
 
 returns-2 : tie.Need-returns-2
 returns-2 c =

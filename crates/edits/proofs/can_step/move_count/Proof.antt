@@ -6,55 +6,55 @@ use Rattle.edits.proofs.can_step.move_count.Statement.{statement}
 use Rattle.edits.proofs.can_step.move_count.Tie as tie
 
 cast-base : tie.Need-cast-base
-cast-base c = search needs
+cast-base c = omega arith
 
 mul-base : tie.Need-mul-base
-mul-base c = search needs
+mul-base c = omega arith
 
 cast-from : tie.Need-cast-from
-cast-from c = search needs
+cast-from c = omega arith
 
 add-from : tie.Need-add-from
-add-from c = search needs
+add-from c = omega arith
 
 cast-to : tie.Need-cast-to
-cast-to c = search needs
+cast-to c = omega arith
 
 add-to : tie.Need-add-to
-add-to c = search needs
+add-to c = omega arith
 
 mul-fewer : tie.Need-mul-fewer
-mul-fewer c = search needs
+mul-fewer c = omega arith
 
 slice-read-fewer : tie.Need-slice-read-fewer
-slice-read-fewer c = search needs
+slice-read-fewer c = omega arith
 
 sub-fewer : tie.Need-sub-fewer
-sub-fewer c = search needs
+sub-fewer c = omega arith
 
 mul-more : tie.Need-mul-more
-mul-more c = search needs
+mul-more c = omega arith
 
 slice-read-more : tie.Need-slice-read-more
-slice-read-more c = search needs
+slice-read-more c = omega arith
 
 add-more : tie.Need-add-more
-add-more c = search needs
+add-more c = omega arith
 
 mul-counts : tie.Need-mul-counts
-mul-counts c = search needs
+mul-counts c = omega arith
 
 slice-write-counts : tie.Need-slice-write-counts
-slice-write-counts c = search needs
+slice-write-counts c = omega arith
 
 mul-counts-2 : tie.Need-mul-counts-2
-mul-counts-2 c = search needs
+mul-counts-2 c = omega arith
 
 slice-write-counts-2 : tie.Need-slice-write-counts-2
 slice-write-counts-2 c = simp length-set (omega arith)
 
 same-length : tie.Need-same-length
-same-length c = search needs
+same-length c = simp length-set
 
 returns : tie.Need-returns
 returns c = search needs

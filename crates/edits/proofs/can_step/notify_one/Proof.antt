@@ -1,5 +1,4 @@
 -- `notify_one`: neighbour i is passed over, or its Counts and the queue are brought up to date.
-use borrow.Author.Needs.{needs}
 use native.Mathlib.Omega.{arith}
 use mathlib.Core.Path.{sym, _∙_}
 use borrow.Author.Tests.{not-true, not-false}
@@ -9,10 +8,10 @@ use Rattle.edits.proofs.can_step.notify_one.Statement.{statement}
 use Rattle.edits.proofs.can_step.notify_one.Tie as tie
 
 cast-at : tie.Need-cast-at
-cast-at c = search needs
+cast-at c = omega arith
 
 mul-t13 : tie.Need-mul-t13
-mul-t13 c = search needs
+mul-t13 c = omega arith
 
 add-t14 : tie.Need-add-t14
 add-t14 c = omega (arith, in-row (c .before .before .before .before .before .pre .0 .1) (c .before .before .before .before .before .pre .1), c .before .before .before .before .before .good .0)
@@ -24,7 +23,11 @@ shared-slice-read-t17 : tie.Need-shared-slice-read-t17
 shared-slice-read-t17 c = in-row (c .before .before .before .before .before .before .pre .0 .1) (c .before .before .before .before .before .before .pre .1)
 
 is-earlier-requires : tie.Need-is-earlier-requires
-is-earlier-requires c κs = (h-degree (c .before .before .before .before .before .before .pre .0 .1) (c .before .before .before .before .before .before .pre .1), v-degree (c .before .before .before .before .before .before .pre .0 .1) (c .before .before .before .before .before .before .pre .1))
+is-earlier-requires c κs =
+    let nt = c .before .before .before .before .before .before .pre .0 .1 in
+    let h = h-degree nt (c .before .before .before .before .before .before .pre .1) in
+    let v = v-degree nt (c .before .before .before .before .before .before .pre .1) in
+    (omega arith, omega arith)
 
 returns : tie.Need-returns
 returns c =
@@ -45,10 +48,10 @@ enqueue-requires c κs =
     (c .before .before .before .before .before .before .before .before .before .before .before .before .before .pre .0 .0 .graph, line nt lt (T-along (sym (not-false _ (c .before .before .before .before .before .if1 .left)) ∙ c .before .before .before .before .before .before .is-earlier .ensures ∙ order-is nt lt) tt))
 
 same-length : tie.Need-same-length
-same-length c = search needs
+same-length c = c .before .before .before .before .before .before .move-count .kept .0
 
 same-length-2 : tie.Need-same-length-2
-same-length-2 c = search needs
+same-length-2 c = c .before .before .enqueue .kept .1 .0
 
 returns-2 : tie.Need-returns-2
 returns-2 c =

@@ -1,7 +1,7 @@
 -- `propagate`: the seeds are queued, counted anew and settled, and the outcome is that of `Propagating`.
 use borrow.Author.Needs.{needs}
 use native.Mathlib.Omega.{arith}
-use mathlib.Core.Path.{refl}
+use mathlib.Core.Path.{refl, _∙_}
 use Rattle.edits.specs.Work.{new}
 use Rattle.edits.specs.Change.{editAt}
 use Rattle.edits.proofs.Propagating.{seedable, recount-start, working, count-in, waves-small, few-taken, outcome}
@@ -43,8 +43,8 @@ wave-count-requires c κs =
     let st = c .before .before .before .before .before .before .before .before .before .before .settle .ensures e (working ch sd (c .before .before .before .before .before .before .before .before .before .before .before .before .before .before .before .before .before .before .recount .ensures (new e) (recount-start ch sd))) in
     (count-in ch st, waves-small ch st)
 
-cast-t40 : tie.Need-cast-t40
-cast-t40 c =
+cast-t39 : tie.Need-cast-t39
+cast-t39 c =
     let o = c .before .before .before .before .before .before .before .before .before .before .before .before .before .before .before .before .before .before .before .before .before .before .before .before .before .before .before .before .before .before .before .before .before .pre .0 in
     let ch = c .before .before .before .before .before .before .before .before .before .before .before .before .before .before .before .before .before .before .before .before .before .before .before .before .before .before .before .before .before .before .before .before .before .pre .1 in
     let e = editAt o (c .before .before .before .before .before .before .before .before .before .before .before .before .before .before .before .before .before .before .before .before .before .before .before .before .before .before .before .before .before .before .before .before .before .args .a .0) (c .before .before .before .before .before .before .before .before .before .before .before .before .before .before .before .before .before .before .before .before .before .before .before .before .before .before .before .before .before .before .before .before .before .args .b .0) in
@@ -52,8 +52,8 @@ cast-t40 c =
     let st = c .before .before .before .before .before .before .before .before .before .before .before .before .settle .ensures e (working ch sd (c .before .before .before .before .before .before .before .before .before .before .before .before .before .before .before .before .before .before .before .before .recount .ensures (new e) (recount-start ch sd))) in
     omega (arith, few-taken ch st, st .fewer)
 
-cast-t41 : tie.Need-cast-t41
-cast-t41 c =
+cast-t40 : tie.Need-cast-t40
+cast-t40 c =
     let o = c .before .before .before .before .before .before .before .before .before .before .before .before .before .before .before .before .before .before .before .before .before .before .before .before .before .before .before .before .before .before .before .before .before .before .pre .0 in
     let ch = c .before .before .before .before .before .before .before .before .before .before .before .before .before .before .before .before .before .before .before .before .before .before .before .before .before .before .before .before .before .before .before .before .before .before .pre .1 in
     let e = editAt o (c .before .before .before .before .before .before .before .before .before .before .before .before .before .before .before .before .before .before .before .before .before .before .before .before .before .before .before .before .before .before .before .before .before .before .args .a .0) (c .before .before .before .before .before .before .before .before .before .before .before .before .before .before .before .before .before .before .before .before .before .before .before .before .before .before .before .before .before .before .before .before .before .before .args .b .0) in
@@ -62,16 +62,16 @@ cast-t41 c =
     omega (arith, few-taken ch st)
 
 same-length : tie.Need-same-length
-same-length c = search needs
+same-length c = c .before .before .before .before .before .before .before .before .before .before .before .before .before .settle .kept .1 .1 .0
 
 same-length-2 : tie.Need-same-length-2
-same-length-2 c = search needs
+same-length-2 c = c .before .before .before .before .before .before .before .before .before .before .before .before .before .settle .kept .1 .1 .1 .0 ∙ c .before .before .before .before .before .before .before .before .before .before .before .before .before .before .before .before .before .before .before .before .before .recount .kept .1 .1 .1 .0
 
 same-length-3 : tie.Need-same-length-3
-same-length-3 c = search needs
+same-length-3 c = c .before .before .before .before .before .before .before .before .before .before .before .before .before .settle .kept .1 .1 .1 .1 .0
 
 same-length-4 : tie.Need-same-length-4
-same-length-4 c = search needs
+same-length-4 c = c .before .before .before .before .before .before .before .before .before .before .before .before .before .settle .kept .1 .1 .1 .1 .1 .0
 
 returns : tie.Need-returns
 returns c =
@@ -92,8 +92,8 @@ propagate-spec =
     slice-aggregate-settle
     settle-requires
     wave-count-requires
+    cast-t39
     cast-t40
-    cast-t41
     same-length
     same-length-2
     same-length-3

@@ -1,5 +1,4 @@
 -- `strike_edit`: what it hands to `propagate` is as `Changed` says, for whichever clashes memory holds the plan of.
-use borrow.Author.Needs.{needs}
 use native.Mathlib.Omega.{arith}
 use Rattle.rule.specs.Reach.{striking}
 use Rattle.edits.specs.Lent.{lentOf}
@@ -8,8 +7,8 @@ use Rattle.edits.proofs.Propagating.{originOf, changed-from}
 use Rattle.edits.proofs.edit.strike_edit.Statement.{statement}
 use Rattle.edits.proofs.edit.strike_edit.Tie as tie
 
-sub-t12 : tie.Need-sub-t12
-sub-t12 c = omega (arith, clashes-less (c .before .before .before .before .before .before .before .pre .1))
+sub-clashes : tie.Need-sub-clashes
+sub-clashes c = omega (arith, clashes-less (c .before .before .before .before .before .before .before .pre .1))
 
 remove-clash-requires : tie.Need-remove-clash-requires
 remove-clash-requires c κs = (c .before .before .before .before .before .before .before .before .before .pre .0, c .before .before .before .before .before .before .before .before .before .pre .1 .held .rowed, c .before .before .before .before .before .before .before .before .before .pre .1 .acceptable)
@@ -24,22 +23,22 @@ propagate-requires c κs =
     )
 
 same-length : tie.Need-same-length
-same-length c = search needs
+same-length c = c .before .before .before .before .before .before .before .before .before .before .before .before .before .before .before .before .before .before .before .remove-clash .kept .0
 
 same-length-2 : tie.Need-same-length-2
-same-length-2 c = search needs
+same-length-2 c = c .before .before .before .before .before .before .before .before .before .before .before .before .before .before .before .before .before .before .before .remove-clash .kept .1 .0
 
 same-length-3 : tie.Need-same-length-3
-same-length-3 c = search needs
+same-length-3 c = c .before .before .before .before .before .before .before .before .propagate .kept .1 .1 .0
 
 same-length-4 : tie.Need-same-length-4
-same-length-4 c = search needs
+same-length-4 c = c .before .before .before .before .before .before .before .before .propagate .kept .1 .1 .1 .0
 
 same-length-5 : tie.Need-same-length-5
-same-length-5 c = search needs
+same-length-5 c = c .before .before .before .before .before .before .before .before .propagate .kept .1 .1 .1 .1 .0
 
 same-length-6 : tie.Need-same-length-6
-same-length-6 c = search needs
+same-length-6 c = c .before .before .before .before .before .before .before .before .propagate .kept .1 .1 .1 .1 .1 .0
 
 returns : tie.Need-returns
 returns c =
@@ -53,7 +52,7 @@ pub strike-edit-spec : {M : Type 1} → statement M
 strike-edit-spec =
     tie.close
     (tie.spec
-    sub-t12
+    sub-clashes
     remove-clash-requires
     propagate-requires
     same-length

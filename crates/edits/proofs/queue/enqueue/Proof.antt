@@ -1,6 +1,6 @@
 -- `enqueue`: v stands at its place already, or is put there.
-use borrow.Author.Needs.{needs}
 use native.Mathlib.Omega.{arith}
+use mathlib.Core.Path.{refl}
 use mathlib.Core.Logic.{⊎-elim}
 use Rattle.edits.proofs.Lines.{in-degrees, stands-there, room-for, put-there}
 use Rattle.edits.proofs.queue.enqueue.Statement.{statement}
@@ -12,13 +12,13 @@ place-requires c κs =
     ((p .order, omega (arith, p .queue .room, p .queue .wide-queue), omega (arith, p .bank, p .wide-degrees)), in-degrees p)
 
 mul-if2 : tie.Need-mul-if2
-mul-if2 c = search needs
+mul-if2 c = omega arith
 
 slice-read-if2 : tie.Need-slice-read-if2
-slice-read-if2 c = search needs
+slice-read-if2 c = omega arith
 
 same-length : tie.Need-same-length
-same-length c = search needs
+same-length c = refl
 
 returns : tie.Need-returns
 returns c = λ G line. stands-there line (c .before .before .before .before .place .result) (c .before .before .before .if1 .taken) (c .if2 .taken)
@@ -29,10 +29,10 @@ insert-at-requires c κs =
     (c .before .before .place .ensures .high, omega (arith, room-for p (c .before .before .place .result) (c .before .before .place .ensures) (⊎-elim (λ w l. w .3 .left) (λ w l. (let z : ⊥ = omega arith in absurd z)) (c .before .if1 .came)), p .queue .wide-queue))
 
 add-result : tie.Need-add-result
-add-result c = search needs
+add-result c = omega arith
 
 same-length-2 : tie.Need-same-length-2
-same-length-2 c = search needs
+same-length-2 c = c .before .before .insert-at .kept .0
 
 returns-2 : tie.Need-returns-2
 returns-2 c =

@@ -1,8 +1,7 @@
 -- `recount`: after i turns the first i banks of the queue are counted.
-use borrow.Author.Needs.{needs}
 use native.Mathlib.Omega.{arith}
 use Prim.Native.Nat.{_-_, _≤_}
-use mathlib.Core.Path.{_≡_, refl}
+use mathlib.Core.Path.{_≡_, refl, _∙_}
 use lib.ListN.{length}
 use Rattle.rule.specs.Graph.{Graph}
 use Rattle.edits.specs.Recount.{Recounting}
@@ -20,7 +19,7 @@ abbrev μ-loop : tie.MeasureT-loop
 μ-loop neighbours degrees waves counts₀ banks queue end i₀ counts i = end - i
 
 loop-holds : tie.Need-loop-holds Inv-loop μ-loop
-loop-holds c = (search needs, refl, λ G rc. rc)
+loop-holds c = (omega arith, refl, λ G rc. rc)
 
 mul-t13 : tie.Need-mul-t13 Inv-loop μ-loop
 mul-t13 c = let rc = c .before .before .before .before .before .before .before .before .pre .1 in omega (arith, rc .queue .room, rc .shown .few)
@@ -35,13 +34,13 @@ add-i : tie.Need-add-i Inv-loop μ-loop
 add-i c = let rc = c .before .before .before .before .before .before .before .before .before .before .before .before .pre .1 in omega (arith, rc .queue .room, rc .shown .few, c .before .before .before .before .before .loop-test .taken)
 
 loop-less : tie.Need-loop-less Inv-loop μ-loop
-loop-less c = search needs
+loop-less c = omega arith
 
 loop-again : tie.Need-loop-again Inv-loop μ-loop
-loop-again c = (search needs, search needs, λ G rc. recounted (c .before .before .before .before .before .before .loop .inv .2 G rc) (c .before .before .before .before .before .loop-test .taken) (c .before .before .recount-one .kept .1 .1 .1 .0) (c .before .before .recount-one .ensures))
+loop-again c = (omega arith, c .before .before .recount-one .kept .1 .1 .1 .0 ∙ c .before .before .before .before .before .before .loop .inv .1, λ G rc. recounted (c .before .before .before .before .before .before .loop .inv .2 G rc) (c .before .before .before .before .before .loop-test .taken) (c .before .before .recount-one .kept .1 .1 .1 .0) (c .before .before .recount-one .ensures))
 
 same-length : tie.Need-same-length Inv-loop μ-loop
-same-length c = search needs
+same-length c = c .before .loop .inv .1
 
 returns : tie.Need-returns Inv-loop μ-loop
 returns c = let e : c .before .loop .i ≡ c .before .before .before .before .before .before .before .args .end = omega (arith, c .before .loop .inv .0, c .loop-test .left) in λ G rc. rw e at (c .before .loop .inv .2 G rc)

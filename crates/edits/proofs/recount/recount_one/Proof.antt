@@ -1,29 +1,30 @@
 -- `recount_one`: the part of b, lent to `count_earlier` and put back.
 use borrow.Author.Needs.{needs}
+use native.Mathlib.Omega.{arith}
 use Rattle.edits.proofs.Recounts.{part-back}
 use Rattle.edits.proofs.recount.recount_one.Statement.{statement}
 use Rattle.edits.proofs.recount.recount_one.Tie as tie
 
 cast-at : tie.Need-cast-at
-cast-at c = search needs
+cast-at c = omega arith
 
 mul-start : tie.Need-mul-start
-mul-start c = search needs
+mul-start c = omega arith
 
 add-end : tie.Need-add-end
-add-end c = search needs
+add-end c = omega arith
 
 mul-count-earlier : tie.Need-mul-count-earlier
-mul-count-earlier c = search needs
+mul-count-earlier c = omega arith
 
 sub-count-earlier : tie.Need-sub-count-earlier
-sub-count-earlier c = search needs
+sub-count-earlier c = omega arith
 
 part-count-earlier-start : tie.Need-part-count-earlier-start
-part-count-earlier-start c = search needs
+part-count-earlier-start c = omega arith
 
 part-count-earlier-end : tie.Need-part-count-earlier-end
-part-count-earlier-end c = search needs
+part-count-earlier-end c = omega arith
 
 count-earlier-requires : tie.Need-count-earlier-requires
 count-earlier-requires c κs = search needs

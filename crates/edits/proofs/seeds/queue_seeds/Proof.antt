@@ -1,5 +1,5 @@
 -- `queue_seeds`: a, b, and then the turned neighbours of each.
-use borrow.Author.Needs.{needs}
+use mathlib.Core.Path.{_∙_}
 use Rattle.edits.specs.Work.{new}
 use Rattle.edits.specs.Change.{editAt}
 use Rattle.edits.proofs.Seeding.{line-a, line-b, turn-a, turn-b, seeded}
@@ -31,7 +31,7 @@ queue-turned-requires-2 c κs =
     (_, turn-b sd one two (c .before .before .before .queue-turned .ensures _ (turn-a sd one two)))
 
 same-length : tie.Need-same-length
-same-length c = search needs
+same-length c = c .before .before .queue-turned2 .kept .1 .1 .0 ∙ c .before .before .before .before .before .before .queue-turned .kept .1 .1 .0 ∙ c .before .before .before .before .before .before .before .before .before .before .enqueue2 .kept .1 .0 ∙ c .before .before .before .before .before .before .before .before .before .before .before .before .before .before .enqueue .kept .1 .0
 
 returns : tie.Need-returns
 returns c =

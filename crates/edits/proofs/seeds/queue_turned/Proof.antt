@@ -1,8 +1,7 @@
 -- `queue_turned`: after i turns the turned ones of the first i neighbours are queued.
-use borrow.Author.Needs.{needs}
 use native.Mathlib.Omega.{arith}
 use Prim.Native.Nat.{_-_, _≤_}
-use mathlib.Core.Path.{_≡_, refl}
+use mathlib.Core.Path.{_≡_, refl, _∙_}
 use lib.ListN.{length, getD}
 use Rattle.edits.specs.Seeds.{Search, Turning}
 use Rattle.edits.proofs.seeds.queue_turned.Statement.{statement}
@@ -18,7 +17,7 @@ abbrev μ-loop : tie.MeasureT-loop
 μ-loop neighbours degrees queue₀ end b old at degree queued₀ i₀ queue queued i = degree - i
 
 cast-at : tie.Need-cast-at Inv-loop μ-loop
-cast-at c = search needs
+cast-at c = omega arith
 
 mul-degree : tie.Need-mul-degree Inv-loop μ-loop
 mul-degree c = let tn = c .before .before .before .before .pre .1 in omega (arith, tn .bank, tn .shown .few)
@@ -30,7 +29,7 @@ cast-degree : tie.Need-cast-degree Inv-loop μ-loop
 cast-degree c = let tn = c .before .before .before .before .before .pre .1 in omega (arith, tn .shown .degrees (c .before .before .before .before .before .args .b .0) (tn .bank), tn .shown .small (c .before .before .before .before .before .args .b .0) (tn .bank))
 
 loop-holds : tie.Need-loop-holds Inv-loop μ-loop
-loop-holds c = (search needs, refl, λ s tn. tn)
+loop-holds c = (omega arith, refl, λ s tn. tn)
 
 queue-turned-one-requires : tie.Need-queue-turned-one-requires Inv-loop μ-loop
 queue-turned-one-requires c κs = ((c .before .before .before .before .before .before .before .before .pre .0, c .before .before .loop .inv .2 (c .before .before .before .before .before .before .before .before .pre .0) (c .before .before .before .before .before .before .before .before .pre .1)), c .before .loop-test .taken)
@@ -39,13 +38,13 @@ add-i : tie.Need-add-i Inv-loop μ-loop
 add-i c = let tn = c .before .before .before .before .before .before .before .before .before .before .before .pre .1 in omega (arith, tn .shown .degrees (c .before .before .before .before .before .before .before .before .before .before .before .args .b .0) (tn .bank), tn .shown .small (c .before .before .before .before .before .before .before .before .before .before .before .args .b .0) (tn .bank), c .before .before .before .before .loop-test .taken)
 
 loop-less : tie.Need-loop-less Inv-loop μ-loop
-loop-less c = search needs
+loop-less c = omega arith
 
 loop-again : tie.Need-loop-again Inv-loop μ-loop
-loop-again c = (search needs, search needs, λ s tn. c .before .before .queue-turned-one .ensures s (c .before .before .before .before .before .loop .inv .2 s tn))
+loop-again c = (omega arith, c .before .before .queue-turned-one .kept .1 .1 .0 ∙ c .before .before .before .before .before .loop .inv .1, λ s tn. c .before .before .queue-turned-one .ensures s (c .before .before .before .before .before .loop .inv .2 s tn))
 
 same-length : tie.Need-same-length Inv-loop μ-loop
-same-length c = search needs
+same-length c = c .before .loop .inv .1
 
 returns : tie.Need-returns Inv-loop μ-loop
 returns c =

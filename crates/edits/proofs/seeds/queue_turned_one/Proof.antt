@@ -6,10 +6,10 @@ use Rattle.edits.proofs.seeds.queue_turned_one.Statement.{statement}
 use Rattle.edits.proofs.seeds.queue_turned_one.Tie as tie
 
 cast-at : tie.Need-cast-at
-cast-at c = search needs
+cast-at c = omega arith
 
 mul-earlier : tie.Need-mul-earlier
-mul-earlier c = search needs
+mul-earlier c = omega arith
 
 add-earlier : tie.Need-add-earlier
 add-earlier c = omega (arith, in-row (c .before .before .before .before .pre .0 .1) (c .before .before .before .before .pre .1), c .before .before .before .before .good .0)
@@ -21,10 +21,10 @@ shared-slice-read-earlier : tie.Need-shared-slice-read-earlier
 shared-slice-read-earlier c = in-row (c .before .before .before .before .before .pre .0 .1) (c .before .before .before .before .before .pre .1)
 
 cast-at-v : tie.Need-cast-at-v
-cast-at-v c = search needs
+cast-at-v c = omega arith
 
 mul-earlier-3 : tie.Need-mul-earlier-3
-mul-earlier-3 c = search needs
+mul-earlier-3 c = omega arith
 
 shared-slice-read-earlier-2 : tie.Need-shared-slice-read-earlier-2
 shared-slice-read-earlier-2 c = v-degree (c .before .before .before .before .before .before .before .pre .0 .1) (c .before .before .before .before .before .before .before .pre .1)
@@ -42,7 +42,7 @@ enqueue-requires : tie.Need-enqueue-requires
 enqueue-requires c κs = (c .before .before .before .before .before .before .before .before .before .before .before .pre .0 .0 .graph, line (c .before .before .before .before .before .before .before .before .before .before .before .pre .0 .1) (c .before .before .before .before .before .before .before .before .before .before .before .pre .1))
 
 same-length : tie.Need-same-length
-same-length c = search needs
+same-length c = c .before .before .enqueue .kept .1 .0
 
 returns-2 : tie.Need-returns-2
 returns-2 c =

@@ -1,5 +1,6 @@
 -- `strike_all` meets its contract. The invariant: memory holds a plan in which `left` clashes of b are left, and striking these leads to the same state.
 use mathlib.Core.Path.{refl, ap}
+use Prim.Native.Nat.{_≤_}
 use lib.ListN.{length}
 use borrow.Author.Count.{falls-down}
 use Rattle.rule.specs.Graph.{Graph}
@@ -8,6 +9,7 @@ use Rattle.planner.specs.Held.{Ready}
 use Rattle.list_reader.proofs.Lengths.{SameLengths, same, then}
 use Rattle.list_reader.proofs.Struck.{Left, left-start, left-some, left-turn, left-end}
 use Rattle.list_reader.proofs.Passing.{change-none, change-all}
+use native.Mathlib.Omega.{arith}
 use Rattle.list_reader.proofs.change.strike_all.Statement.{statement}
 use Rattle.list_reader.proofs.change.strike_all.Tie as tie
 
@@ -21,7 +23,9 @@ abbrev μ-loop : tie.MeasureT-loop
 μ-loop neighbours₀ degrees₀ waves₀ counts₀ trail₀ moved₀ b left₀ last₀ neighbours degrees waves counts trail moved left last = left
 
 returns : tie.Need-returns Inv-loop μ-loop
-returns c = record { of = λ G h. change-none G _ h _ (c .if1 .taken) }
+returns c =
+    let far : c .before .before .before .before .before .before .before .before .before .args .tally .banks ≤ c .before .before .before .before .before .before .before .before .before .args .b .0 = omega (arith, c .if1 .taken) in
+    record { of = λ G h. change-none G _ h _ far }
 
 clashes-held-requires : tie.Need-clashes-held-requires Inv-loop μ-loop
 clashes-held-requires c κs =

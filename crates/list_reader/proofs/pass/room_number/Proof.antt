@@ -1,5 +1,4 @@
 -- `room_number` meets its contract, test by test.
-use mathlib.Core.Path.{_∙_, sym}
 use Rattle.list_reader.proofs.Opening.{room-many, room-trail, room-moved, room-none}
 use borrow.Author.Needs.{needs}
 use native.Mathlib.Omega.{arith}

@@ -1,6 +1,6 @@
 -- `read_digits` meets its contract. The invariant: the bytes up to i are digits, and i digits give a value below 10 ^ i.
 use mathlib.Core.Path.{_≡_, _∙_}
-use Prim.Native.Nat.{ℕ, _-_, _^_, _<_, _≤_}
+use Prim.Native.Nat.{_-_, _^_, _<_, _≤_}
 use lib.ListN.{length, getD, drop}
 use Rattle.list_rows.specs.Text.{digits, valueFrom}
 use Rattle.list_rows.proofs.Digits.{digits-low, digits-high, digits-next, value-next, digits-end, value-end, more, small, digits-yes, digits-no}

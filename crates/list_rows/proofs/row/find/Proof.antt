@@ -1,6 +1,6 @@
 -- `find` meets its contract. The invariant: no c stands from `from` up to i, so the first from either place on is the same.
 use mathlib.Core.Path.{_≡_}
-use Prim.Native.Nat.{ℕ, _+_, _-_, _≤_}
+use Prim.Native.Nat.{_+_, _-_, _≤_}
 use lib.ListN.{length, drop}
 use Rattle.list_rows.specs.Inner.{before}
 use Rattle.list_rows.proofs.Places.{before-here, before-next, before-end}
