@@ -24,8 +24,8 @@ again. None is cleared first: what a call needs cleared it clears itself, within
 ";
 
 const AFTER_PLANS: &str = "\
-The plans have random clashes, and an edit's two banks are random. Trail and moved do not depend on the machine. Times are processor
-times.
+The plans have random clashes, and an edit's two banks are random. Trail and moved do not depend on the machine. One plan's number of
+clashes was picked so that its average trail is about 40, without regard to its times. Times are processor times.
 ";
 
 pub fn document(plans: &[Measured], programs: &Programs) -> String {

@@ -5,6 +5,7 @@ use crate::count::wave_count;
 use rule::Bank;
 use rule::COUNT_CELLS;
 use rule::MOST_BANKS;
+use rule::MOST_WAVES;
 use rule::ROW_CELLS;
 use rule::UNUSED;
 use rule::Wave;
@@ -189,7 +190,7 @@ fn waves_small(waves: &[u16], banks: u16) -> bool
     let n = banks as usize;
     let mut i = 0;
     while i < n {
-        if 24 <= waves[i] {
+        if MOST_WAVES <= waves[i] {
             return false;
         }
         i += 1;
@@ -225,7 +226,7 @@ fn part_right(part: &[u16], cells: &[u16; COUNT_CELLS], wave: Wave) -> bool
     ensures { λ r. ⌜ Says (PartRight (now (part .entry)) (λ c. getD (now (cells .entry)) c 0) (wave .0)) r ⌝ }
 {
     let mut c: u16 = 0;
-    while c < 24 {
+    while c < MOST_WAVES {
         let at = c as usize;
         if !cell_right(part[at], cells[at], Wave(c), wave) {
             return false;

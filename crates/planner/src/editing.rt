@@ -7,6 +7,7 @@ use edits::add_edit;
 use edits::strike_edit;
 use memory::Tally;
 use rule::Bank;
+use rule::MOST_CLASHES;
 use rule::wide;
 ghost use mathlib.Core.Path.{_≡_};
 ghost use Prim.Native.Nat.{_<_};
@@ -59,10 +60,10 @@ fn add_number(
     }
     let at_a = wide(a.0);
     let at_b = wide(b.0);
-    if 23 <= degrees[at_a] {
+    if MOST_CLASHES <= degrees[at_a] {
         return 8;
     }
-    if 23 <= degrees[at_b] {
+    if MOST_CLASHES <= degrees[at_b] {
         return 8;
     }
     0

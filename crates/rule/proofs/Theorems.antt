@@ -1,13 +1,13 @@
 -- The theorems to cite, each restated. Their proofs are in the files beside this one.
-use mathlib.Core.Bool.{Bool, false, cond, _&&_, _||_, not}
+use mathlib.Core.Bool.{Bool, true, false, cond, _&&_, _||_, not}
 use mathlib.Core.List.{List, map}
 use mathlib.Core.Logic.{_≢_}
-use mathlib.Core.Path.{_≡_, sym}
+use mathlib.Core.Path.{_≡_, refl, sym, _∙_}
 use native.Mathlib.Omega.{arith}
 use Prim.Native.Nat.{ℕ, _≤_, _<_}
 use lib.Dec.{T, ltb, eqb}
 use lib.ListN.{length}
-use Rattle.rule.specs.Lists.{filter, memb, insertBy, Sorted, Once, Strict}
+use Rattle.rule.specs.Lists.{memb, insertBy, Sorted, Once, Strict}
 use Rattle.rule.specs.Graph.{Graph, degree, earlier, earlierNeighbours, order, added, struck}
 use Rattle.rule.specs.Wave.{lowestFree, wave}
 use Rattle.rule.specs.Reach.{Kind, edited, changed, isTurned, onTrail, trail, moved, around}
@@ -23,7 +23,8 @@ use Rattle.rule.proofs.Steps
 use Rattle.rule.proofs.Turned
 use Rattle.rule.proofs.Reaches
 use Rattle.rule.proofs.Reaches.{Same}
-use Rattle.rule.proofs.Booleans.{T-along, and-l, and-r, both, passes?}
+use Rattle.rule.proofs.Booleans.{T-along, and-l, and-r, both}
+use Rattle.rule.proofs.Lists.{filter-true}
 
 -- 1. the rule order is a strict total order
 pub earlier-strict : (G : Graph) → Strict (earlier G)
@@ -66,8 +67,9 @@ pub wave-agree : (G H : Graph) → G .banks ≡ H .banks → ((x y : ℕ) → x 
     → (x : ℕ) → x < H .banks → wave G x ≡ wave H x
 wave-agree = Agree.wave-agree
 
-pub order-agree : {G H : Graph} → Same G H → (p : ℕ → Bool) → filter p (order G) ≡ filter p (order H)
-order-agree s p = Reaches.ordered-agree s p p (λ x h. λ i. p x)
+pub order-agree : {G H : Graph} → Same G H → order G ≡ order H
+order-agree {G} {H} s =
+    sym (filter-true (order G)) ∙ Reaches.ordered-agree s (λ x. true) (λ x. true) (λ x h. refl) ∙ filter-true (order H)
 
 module _ {old new old′ new′ : Graph} (o : Same old old′) (n : Same new new′) (banks : old′ .banks ≡ new′ .banks) where
   pub moved-agree : moved old new ≡ moved old′ new′

@@ -11,11 +11,17 @@ pub struct Wave(pub u16);
 // The most banks of a plan.
 pub const MOST_BANKS: usize = 1024;
 
-// The cells of a bank's row in Neighbours: the highest degree.
+// The cells of a bank's row in Neighbours: one for each clash that it can have.
 pub const ROW_CELLS: usize = 23;
 
-// The cells of a bank in Counts: the most waves.
+// The cells of a bank in Counts: one for each wave.
 pub const COUNT_CELLS: usize = 24;
+
+// The highest degree: the most clashes of a bank.
+pub const MOST_CLASHES: u16 = 23;
+
+// The most waves of a plan.
+pub const MOST_WAVES: u16 = 24;
 
 // What stands in the cells of a row that are left over.
 pub const UNUSED: u16 = 65535;
