@@ -80,10 +80,11 @@ cases =
     ∷ reads (78 ∷ 32 ∷ 49 ∷ 48 ∷ 48 ∷ 48 ∷ 48 ∷ []) 10 1 (zeros 5)
     ∷ reads (78 ∷ 32 ∷ 49 ∷ 48 ∷ 50 ∷ 53 ∷ []) 1 1 (zeros 5)
     ∷ reads (banks 5) 2 1 (zeros 5)
-    -- refused at row 3, with the plan of the rows before: an empty row; an N row; `+ 05 1`; no such bank, twice; the same bank; a clash again; no clash
+    -- refused at row 3, with the plan of the rows before: an empty row; an N row; `+ 00005 1`; no such bank, three times, once as `+ 05 1`; the same bank; a clash again; no clash
     ∷ reads (joined (banks 4 ∷ plus 0 1 ∷ [] ∷ plus 1 2 ∷ [])) 11 3 (0 ∷ 1 ∷ 0 ∷ 0 ∷ 0 ∷ [])
     ∷ reads (joined (banks 4 ∷ plus 0 1 ∷ banks 4 ∷ [])) 11 3 (0 ∷ 1 ∷ 0 ∷ 0 ∷ 0 ∷ [])
-    ∷ reads (joined (banks 4 ∷ plus 0 1 ∷ (43 ∷ 32 ∷ 48 ∷ 53 ∷ 32 ∷ 49 ∷ []) ∷ [])) 11 3 (0 ∷ 1 ∷ 0 ∷ 0 ∷ 0 ∷ [])
+    ∷ reads (joined (banks 4 ∷ plus 0 1 ∷ (43 ∷ 32 ∷ 48 ∷ 48 ∷ 48 ∷ 48 ∷ 53 ∷ 32 ∷ 49 ∷ []) ∷ [])) 11 3 (0 ∷ 1 ∷ 0 ∷ 0 ∷ 0 ∷ [])
+    ∷ reads (joined (banks 4 ∷ plus 0 1 ∷ (43 ∷ 32 ∷ 48 ∷ 53 ∷ 32 ∷ 49 ∷ []) ∷ [])) 4 3 (0 ∷ 1 ∷ 0 ∷ 0 ∷ 0 ∷ [])
     ∷ reads (joined (banks 4 ∷ plus 0 1 ∷ plus 9 9 ∷ [])) 4 3 (0 ∷ 1 ∷ 0 ∷ 0 ∷ 0 ∷ [])
     ∷ reads (joined (banks 4 ∷ plus 0 1 ∷ all 4 ∷ [])) 4 3 (0 ∷ 1 ∷ 0 ∷ 0 ∷ 0 ∷ [])
     ∷ reads (joined (banks 4 ∷ plus 0 1 ∷ plus 1 1 ∷ [])) 5 3 (0 ∷ 1 ∷ 0 ∷ 0 ∷ 0 ∷ [])

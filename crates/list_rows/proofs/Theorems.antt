@@ -6,8 +6,11 @@ use Prim.Native.Nat.{ℕ, _+_, _-_, _<_}
 use lib.Dec.{eqb}
 use lib.ListN.{length, take, drop}
 use borrow.Author.Tests.{ne-eqb}
-use Rattle.list_rows.specs.Text.{onto, rows}
+use Rattle.list_rows.specs.declared.number.Number.the-variants.{Value}
+use Rattle.list_rows.specs.Text.{onto, rows, number}
+use Rattle.list_rows.specs.Unpadded.{unpaddedNumber}
 use Rattle.list_rows.specs.Inner.{Finds}
+use Rattle.list_rows.proofs.Numbers as Numbers
 use Rattle.list_rows.proofs.Pieces
 
 -- the first row from place a on ends at e, the first line feed or the end; the others start after it
@@ -19,3 +22,7 @@ pub final-feed : (bytes : List ℕ) (c : ℕ) → (c ≡ 10 → ⊥) → rows ((
 unfolding rows onto
 final-feed [] c n = rw (ne-eqb c 10 n)
 final-feed (x ∷ xs) c n = ap (λ (r : List (List ℕ)). cond (eqb x 10) ([] ∷ r) (onto x r)) (final-feed xs c n)
+
+-- a part that the unpadded form takes for a number has the same value now
+pub number-kept : (p : List ℕ) (x : ℕ) → unpaddedNumber p ≡ Value x → number p ≡ Value x
+number-kept = Numbers.number-kept

@@ -39,14 +39,23 @@ most : number (57 ∷ 57 ∷ 57 ∷ 57 ∷ []) ≡ Value 9999
 unfolding number isNumber digits valueFrom
 most = refl
 
--- `05`, `00`, `10000`, `5a` and an empty part are none
-leading-zero : number (48 ∷ 53 ∷ []) ≡ Nothing
+-- and padded, `05`, `00`, `0005` are 5, 0, 5
+leading-zero : number (48 ∷ 53 ∷ []) ≡ Value 5
 unfolding number isNumber digits valueFrom
 leading-zero = refl
 
-two-zeros : number (48 ∷ 48 ∷ []) ≡ Nothing
+two-zeros : number (48 ∷ 48 ∷ []) ≡ Value 0
 unfolding number isNumber digits valueFrom
 two-zeros = refl
+
+padded : number (48 ∷ 48 ∷ 48 ∷ 53 ∷ []) ≡ Value 5
+unfolding number isNumber digits valueFrom
+padded = refl
+
+-- `10000`, `00005`, `5a` and an empty part are none
+five-digits-padded : number (48 ∷ 48 ∷ 48 ∷ 48 ∷ 53 ∷ []) ≡ Nothing
+unfolding number isNumber digits valueFrom
+five-digits-padded = refl
 
 five-digits : number (49 ∷ 48 ∷ 48 ∷ 48 ∷ 48 ∷ []) ≡ Nothing
 unfolding number isNumber digits valueFrom
@@ -77,11 +86,16 @@ all-row : rowOf (68 ∷ 32 ∷ 51 ∷ []) ≡ Edit (StrikeAll (bank 3))
 unfolding rowOf fromParts parts onto twoParts isByte number isNumber digits valueFrom
 all-row = refl
 
--- `+ 05 1`, `+ 0  1`, `N 4 ` and an empty row do not read
-leading-zero-row : rowOf (43 ∷ 32 ∷ 48 ∷ 53 ∷ 32 ∷ 49 ∷ []) ≡ Unreadable
+-- `N 0004` and `+ 05 1`
+padded-banks-row : rowOf (78 ∷ 32 ∷ 48 ∷ 48 ∷ 48 ∷ 52 ∷ []) ≡ Banks 4
+unfolding rowOf fromParts parts onto twoParts isByte number isNumber digits valueFrom
+padded-banks-row = refl
+
+leading-zero-row : rowOf (43 ∷ 32 ∷ 48 ∷ 53 ∷ 32 ∷ 49 ∷ []) ≡ Edit (Add (bank 5) (bank 1))
 unfolding rowOf fromParts parts onto threeParts isByte number isNumber digits valueFrom
 leading-zero-row = refl
 
+-- `+ 0  1`, `N 4 ` and an empty row do not read
 two-spaces : rowOf (43 ∷ 32 ∷ 48 ∷ 32 ∷ 32 ∷ 49 ∷ []) ≡ Unreadable
 unfolding rowOf fromParts parts onto threeParts isByte number isNumber digits valueFrom
 two-spaces = refl

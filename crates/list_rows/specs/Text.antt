@@ -1,9 +1,9 @@
 -- The text of a list: bytes into rows, rows into parts, parts into numbers (01, "The list").
-use mathlib.Core.Bool.{Bool, true, cond, _&&_, _||_, not}
+use mathlib.Core.Bool.{Bool, true, cond, _&&_}
 use mathlib.Core.List.{List, [], _∷_}
 use Prim.Native.Nat.{ℕ, _+_, _*_, _-_}
 use lib.Dec.{leb, eqb}
-use lib.ListN.{length, getD}
+use lib.ListN.{length}
 use Rattle.list_rows.specs.declared.number.Number.{Number}
 use Rattle.list_rows.specs.declared.number.Number.the-variants.{Value, Nothing}
 
@@ -27,9 +27,9 @@ unfoldable pub digits : List ℕ → Bool
 digits [] = true
 digits (c ∷ cs) = leb 48 c && (leb c 57 && digits cs)
 
--- is the part a number: 1 to 4 digits, without leading zeros except 0 itself?
+-- is the part a number: 1 to 4 digits, leading zeros allowed?
 unfoldable pub isNumber : List ℕ → Bool
-isNumber p = leb 1 (length p) && (leb (length p) 4 && ((leb (length p) 1 || not (eqb (getD p 0 0) 48)) && digits p))
+isNumber p = leb 1 (length p) && (leb (length p) 4 && digits p)
 
 -- the value of v followed by digits
 unfoldable pub valueFrom : ℕ → List ℕ → ℕ

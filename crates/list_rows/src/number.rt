@@ -24,12 +24,6 @@ pub fn read_number(s: &[u8]) -> Number
     if MOST_DIGITS < s.len() {
         return Number::Nothing;
     }
-    if s[0] == b'0' {
-        if 1 < s.len() {
-            return Number::Nothing;
-        }
-        return read_digits(s);
-    }
     read_digits(s)
 }
 

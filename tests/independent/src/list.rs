@@ -59,13 +59,12 @@ fn parts(row: &[u8]) -> Vec<&[u8]> {
     row.split(|&byte| byte == b' ').collect()
 }
 
-/// A number: 1 to 4 digits, without leading zeros except `0` itself.
+/// A number: 1 to 4 digits, leading zeros allowed.
 fn number(digits: &[u8]) -> Option<usize> {
     let short = (1..=4).contains(&digits.len());
     let decimal = digits.iter().all(u8::is_ascii_digit);
-    let plain = digits == b"0" || !digits.starts_with(b"0");
     let value = |so_far, digit: &u8| 10 * so_far + usize::from(digit - b'0');
-    (short && decimal && plain).then(|| digits.iter().fold(0, value))
+    (short && decimal).then(|| digits.iter().fold(0, value))
 }
 
 impl Memory {

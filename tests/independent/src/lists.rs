@@ -10,7 +10,7 @@ mod malformed;
 
 pub use drawn::{long_list, random_list};
 pub use edges::{edges, Case};
-pub use malformed::{malformed_lists, malformed_n_rows, malformed_rows, near_lists, zero_rows};
+pub use malformed::{malformed_lists, malformed_n_rows, malformed_rows, near_lists, padded_rows};
 
 /// Bytes that damage a list more cunningly than any bytes do.
 const LIKELY_BYTES: &[u8] = b"\n \t\r\0+-DN0123456789/:,x\x80\xff";

@@ -73,11 +73,24 @@ fn drawn_list(random: &mut Random, n: usize, hot: usize, draws: usize) -> Vec<u8
             draft.stray_row(random);
         }
     }
-    let mut list = draft.rows.join("\n").into_bytes();
+    let rows: Vec<String> = draft.rows.iter().map(|row| padded(random, row)).collect();
+    let mut list = rows.join("\n").into_bytes();
     if random.one_in(2) {
         list.push(b'\n');
     }
     list
+}
+
+/// The row with its numbers padded, in one case of eight.
+fn padded(random: &mut Random, row: &str) -> String {
+    if !random.one_in(8) {
+        return row.to_string();
+    }
+    let pad = |part: &str| match part.parse::<usize>() {
+        Ok(number) if part.len() < 4 => format!("{number:04}"),
+        _ => part.to_string(),
+    };
+    row.split(' ').map(pad).collect::<Vec<_>>().join(" ")
 }
 
 impl Draft {

@@ -69,6 +69,8 @@ fn row_1_edges() -> Vec<Case> {
         refused("1,025 banks", "N 1025", 1, 1),
         refused("9,999 banks and nonsense", "N 9999\n?", 1, 1),
         refused("10,000 banks", "N 10000", 10, 1),
+        case("padded bank count", "N 0001", "WAVES 1\nA 0\n"),
+        refused("bank count padded to five digits", "N 00004", 10, 1),
         refused("empty list", "", 10, 1),
         refused("a lone line feed", "\n", 10, 1),
         refused("an empty first row", "\nN 4\n", 10, 1),
@@ -78,7 +80,18 @@ fn row_1_edges() -> Vec<Case> {
 
 fn later_row_edges() -> Vec<Case> {
     vec![
-        refused("a leading zero", "N 9\n+ 05 1", 11, 2),
+        case(
+            "a leading zero",
+            "N 9\n+ 05 1",
+            "WAVES 2\nA 0 1 2 3 4 6 7 8\nB 5\n",
+        ),
+        case(
+            "padded to four digits",
+            "N 0002\n+ 0000 0001",
+            "WAVES 2\nA 0\nB 1\n",
+        ),
+        refused("padded to five digits", "N 9\n+ 00005 1", 11, 2),
+        refused("padded, and not there", "N 9\n+ 0009 0001", 4, 2),
         refused("far banks", "N 9\n+ 9999 9999", 4, 2),
         refused("five digits", "N 9\n+ 10000 1", 11, 2),
         refused(

@@ -22,7 +22,7 @@ pub fn malformed_rows() -> Vec<Vec<u8>> {
         "+ 1x 2|+ 0x1 2|+ 1.0 2|+ 1e0 2|+ 1_0 2|+ 1 /|+ 1 :|+ / 1|+ : 1|D /|D :",
         "+ \u{661} 2|+ \u{ff11} 2|+ 1 \u{b2}|\u{ff0b} 1 2|\u{2212} 1 2",
         // More than four digits.
-        "+ 10000 1|+ 1 10000|- 10000 1|D 10000|D 99999|+ 65537 1|D 65536|D 4294967296",
+        "+ 10000 1|+ 1 10000|+ 00005 1|+ 1 00005|D 00001|- 10000 1|D 10000|D 99999|+ 65537 1|D 65536|D 4294967296",
         "+ 99999999999999999999 1",
     ];
     let bytes: [&[u8]; 8] = [
@@ -37,21 +37,26 @@ pub fn malformed_rows() -> Vec<Vec<u8>> {
     ];
     let text = groups.into_iter().flat_map(parted);
     let bytes = bytes.iter().map(|row| row.to_vec());
-    text.chain(bytes).chain(zero_rows()).collect()
+    text.chain(bytes).collect()
 }
 
-/// Rows that are malformed for a leading zero only.
-pub fn zero_rows() -> Vec<Vec<u8>> {
-    let adds = parted("+ 05 1|+ 1 05|+ 00 1|+ 1 00|+ 01 02|+ 0001 2|+ 1 0002");
-    let strikes = parted("- 06 7|- 6 07|- 0006 0007|D 01|D 00|D 000|D 0000|D 0006|D 012");
-    [adds, strikes].concat()
+/// Rows of padded numbers, each with the same row unpadded.
+pub fn padded_rows() -> Vec<(Vec<u8>, Vec<u8>)> {
+    let padded = "+ 05 1|+ 1 05|+ 00 1|+ 1 00|+ 01 02|+ 0001 2|+ 1 0002|- 06 7|- 6 07|- 0006 0007";
+    let plain = "+ 5 1|+ 1 5|+ 0 1|+ 1 0|+ 1 2|+ 1 2|+ 1 2|- 6 7|- 6 7|- 6 7";
+    let padded_d = "D 01|D 00|D 000|D 0000|D 0006|D 012|+ 0099 0001";
+    let plain_d = "D 1|D 0|D 0|D 0|D 6|D 12|+ 99 1";
+    let pairs = parted(padded).into_iter().zip(parted(plain));
+    pairs
+        .chain(parted(padded_d).into_iter().zip(parted(plain_d)))
+        .collect()
 }
 
 /// First rows that are no N row. No row is empty.
 pub fn malformed_n_rows() -> Vec<Vec<u8>> {
     let groups = [
         "N|N | N 4|N  4|N 4 |N4|N\t4|\tN 4|N 4\t|N 4\r|N 4\0|N\0|\0|n 4|M 4|O 4|NN 4|N N 4|N 4 4",
-        "N +4|N -4|N -0|N 04|N 00|N 000|N 0000|N 0004|N 00004|N 10000|N 12345|N 65540",
+        "N +4|N -4|N -0|N 00000|N 00004|N 10000|N 12345|N 65540",
         "N 4294967300|N 18446744073709551620|N x|N 4x|N x4|N 4.|N 4,|N 1,024|N 1_0|N 0x4|N /|N :",
         "+ 0 1|- 0 1|D 0|V 2| |\r|4|N \u{664}|N\u{a0}4|\u{feff}N 4|\u{39d} 4",
     ];

@@ -175,7 +175,8 @@ fn numbers_and_rows_of_later_rows() {
     refused_later(b"N 4\n+ 0 1\n\n", 11, 3);
     refused_later(b"N 4\n\n+ 0 1\n", 11, 2);
     refused_later(b"N 4\nN 4", 11, 2);
-    refused_later(b"N 4\n+ 1 3\n+ 05 1", 11, 3);
+    refused_later(b"N 4\n+ 1 3\n+ 00005 1", 11, 3);
+    refused_later(b"N 4\n+ 1 3\n+ 05 1", 4, 3);
     refused_later(b"N 4\n+ 9999 9999\n", 4, 2);
     refused_later(b"N 4\n+ 0 4\n", 4, 2);
     refused_later(b"N 4\n- 4 0\n", 4, 2);
@@ -245,6 +246,18 @@ fn malformed_rows_are_refused() {
     for row in lists::malformed_n_rows() {
         refused_at_once(&row, 10, 1);
         refused_at_once(&[&row[..], b"\n+ 0 1\n"].concat(), 10, 1);
+    }
+}
+
+#[test]
+fn padded_rows_read_as_plain_ones() {
+    for (padded, plain) in lists::padded_rows() {
+        let mut with_zeros = Memory::filled(30, 7);
+        let mut without = Memory::filled(30, 7);
+        let answer = with_zeros.read_list(&[b"N 0030\n+ 0006 07\n", &padded[..]].concat());
+        let expected = without.read_list(&[b"N 30\n+ 6 7\n", &plain[..]].concat());
+        assert_eq!((answer.number, answer.row), (expected.number, expected.row));
+        assert_eq!(with_zeros, without);
     }
 }
 

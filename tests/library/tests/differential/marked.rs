@@ -86,6 +86,6 @@ fn refusals() {
     assert_eq!(plan.clashes_of(Bank(2)), Err(refused(4, 0)));
     assert!(plan.strike(Bank(1), Bank(0)).is_ok());
     assert_eq!(plan.strike(Bank(1), Bank(0)), Err(refused(7, 0)));
-    let list = b"N 2\n+ 0 1\n+ 05 1";
+    let list = b"N 0002\n+ 00 01\n+ 00005 1";
     assert_eq!(Plan::read_list(list).err(), Some(refused(11, 3)));
 }
