@@ -1,5 +1,6 @@
 //! Plan memory, and the calls of the static libraries that are timed.
 
+use crate::raw::{wave_plan_add, wave_plan_open, wave_plan_strike, wave_plan_wave_of};
 use crate::BANKS;
 
 /// An edit by the C interface: six slices, tally, result, and the two banks.
@@ -52,39 +53,7 @@ macro_rules! edit_calls {
     };
 }
 
-edit_calls! { bench_add bench_strike wave_plan_add wave_plan_strike }
-
-extern "C" {
-    fn wave_plan_open(
-        neighbours: *mut u16,
-        neighbours_length: usize,
-        degrees: *mut u16,
-        degrees_length: usize,
-        waves: *mut u16,
-        waves_length: usize,
-        counts: *mut u16,
-        counts_length: usize,
-        tally: *mut u16,
-        tally_length: usize,
-        banks: u16,
-    ) -> u16;
-
-    fn wave_plan_wave_of(
-        neighbours: *const u16,
-        neighbours_length: usize,
-        degrees: *const u16,
-        degrees_length: usize,
-        waves: *const u16,
-        waves_length: usize,
-        counts: *const u16,
-        counts_length: usize,
-        tally: *const u16,
-        tally_length: usize,
-        result: *mut u16,
-        result_length: usize,
-        b: u16,
-    ) -> u16;
-}
+edit_calls! { bench_add bench_strike }
 
 /// The two edits with question 5 and without.
 #[derive(Clone, Copy)]
