@@ -10,7 +10,8 @@
  * tally    three cells: banks, clashes, waves. The caller keeps them with the plan and changes them only through these calls.
  * result   the further answers of a call, from the front; 0 where the call is refused.
  * A tally slice of fewer than three cells, or a result slice shorter than the call's, gets 2 first of all, and nothing is changed.
- * Apart from its result cells a refused call changes nothing (see wave_plan_read_list for the rows before the one refused).
+ * Apart from its result cells a refused call changes nothing (see wave_plan_read_list and wave_plan_replay for the rows or fields
+ * before the one refused).
  */
 #ifndef WAVE_PLAN_H
 #define WAVE_PLAN_H
@@ -43,10 +44,22 @@ extern "C" {
 #define WAVE_PLAN_CLASHES_RESULTS 2
 #define WAVE_PLAN_LIST_RESULTS 1
 #define WAVE_PLAN_SHEET_RESULTS 1
+#define WAVE_PLAN_START_RESULTS 1
+#define WAVE_PLAN_RECORD_RESULTS 3
+#define WAVE_PLAN_REPLAY_RESULTS 2
 
-/* The most bytes of a list, and of a sheet. */
+/* The most bytes of a list, of a sheet, and of a journal. */
 #define WAVE_PLAN_MOST_LIST_BYTES 60000
 #define WAVE_PLAN_MOST_SHEET_BYTES 4067
+#define WAVE_PLAN_MOST_JOURNAL_BYTES 60000
+
+/* A journal is a row of fields: a one-byte tag, a two-byte length and the value, low byte first. The first field has the bank count
+ * as its value, two bytes; each other one an edit's two banks in the order given, four bytes. */
+#define WAVE_PLAN_FIRST_TAG 0x4E
+#define WAVE_PLAN_ADD_TAG 0x2B
+#define WAVE_PLAN_STRIKE_TAG 0x2D
+#define WAVE_PLAN_FIRST_BYTES 5
+#define WAVE_PLAN_ENTRY_BYTES 7
 
 /* What a call returns: 0, or the number of the first question that is answered no. */
 #define WAVE_PLAN_ACCEPTED 0
@@ -58,10 +71,13 @@ extern "C" {
 #define WAVE_PLAN_CLASH_THERE 6     /* (add) Are they free of a clash so far? */
 #define WAVE_PLAN_NO_CLASH 7        /* (strike) Do they clash? */
 #define WAVE_PLAN_ROW_FULL 8        /* (add) Have both fewer than 23 clashes? */
-#define WAVE_PLAN_LONG_LIST 9       /* (list) Is the list at most 60000 bytes? */
+#define WAVE_PLAN_LONG_LIST 9       /* (list, journal) Has it at most 60000 bytes? */
 #define WAVE_PLAN_NO_FIRST_ROW 10   /* (list) Is row 1 an N row of the stated form? */
 #define WAVE_PLAN_UNREADABLE_ROW 11 /* (list, each further row in turn) Is it one of the three forms? */
 #define WAVE_PLAN_SHORT_OUTPUT 12   /* (sheet) Is the output at least as long as the sheet? */
+#define WAVE_PLAN_NO_FIRST_FIELD 13 /* (journal) Is it within the slice, and its first field whole and of the stated form? */
+#define WAVE_PLAN_WRONG_FIELD 14    /* (journal, each further field in turn) Are tag and length of the stated form? */
+#define WAVE_PLAN_NO_SPACE 15       /* (start, record) Is there space in the slice, and in 60000 bytes, for what is to be written? */
 
 /* Opens a plan of `banks` banks with no clash, all waves 0. */
 uint16_t wave_plan_open(uint16_t *neighbours, size_t neighbours_cells, uint16_t *degrees, size_t degrees_cells,
@@ -104,6 +120,38 @@ uint16_t wave_plan_write_sheet(const uint16_t *neighbours, size_t neighbours_cel
                                const uint16_t *waves, size_t waves_cells, const uint16_t *counts, size_t counts_cells,
                                const uint16_t *tally, size_t tally_cells, uint8_t *out, size_t out_bytes,
                                uint16_t *result, size_t result_cells);
+
+/* Starts a journal at the front of the slice: its first field, then the clashes of the plan as adds, smaller bank first, lowest pair
+ * first. Bytes beyond it stay. result[0]: its length. */
+uint16_t wave_plan_start_journal(const uint16_t *neighbours, size_t neighbours_cells, const uint16_t *degrees, size_t degrees_cells,
+                                 const uint16_t *waves, size_t waves_cells, const uint16_t *counts, size_t counts_cells,
+                                 const uint16_t *tally, size_t tally_cells, uint8_t *journal, size_t journal_bytes,
+                                 uint16_t *result, size_t result_cells);
+
+/* Adds the clash of banks a and b and writes it after the last field of the journal, which is the first `length` bytes of the slice.
+ * result[0]: how many banks moved; result[1]: how many were taken up; result[2]: the new length. The questions come in the order 9,
+ * 13, 1, 2, 3, 14, 4 to 8, 15; a journal that ends inside a field gets 14. */
+uint16_t wave_plan_add_recorded(uint16_t *neighbours, size_t neighbours_cells, uint16_t *degrees, size_t degrees_cells,
+                                uint16_t *waves, size_t waves_cells, uint16_t *counts, size_t counts_cells,
+                                uint16_t *trail, size_t trail_cells, uint16_t *moved, size_t moved_cells,
+                                uint16_t *tally, size_t tally_cells, uint8_t *journal, size_t journal_bytes,
+                                uint16_t *result, size_t result_cells, uint16_t a, uint16_t b, size_t length);
+
+/* Strikes the clash of banks a and b and writes it after the last field. Otherwise as wave_plan_add_recorded. */
+uint16_t wave_plan_strike_recorded(uint16_t *neighbours, size_t neighbours_cells, uint16_t *degrees, size_t degrees_cells,
+                                   uint16_t *waves, size_t waves_cells, uint16_t *counts, size_t counts_cells,
+                                   uint16_t *trail, size_t trail_cells, uint16_t *moved, size_t moved_cells,
+                                   uint16_t *tally, size_t tally_cells, uint8_t *journal, size_t journal_bytes,
+                                   uint16_t *result, size_t result_cells, uint16_t a, uint16_t b, size_t length);
+
+/* Replays a journal: opens the plan of its first field, then makes the edits of the others. result[0]: the field that was refused,
+ * counted from 1; 0 if the journal was accepted or is too long. result[1]: how many bytes at its end were left over, fewer than a
+ * whole field. Where a later field is refused, the plan, tally, trail and moved are those of the fields before it. */
+uint16_t wave_plan_replay(const uint8_t *journal, size_t journal_bytes, uint16_t *neighbours, size_t neighbours_cells,
+                          uint16_t *degrees, size_t degrees_cells, uint16_t *waves, size_t waves_cells,
+                          uint16_t *counts, size_t counts_cells, uint16_t *trail, size_t trail_cells,
+                          uint16_t *moved, size_t moved_cells, uint16_t *tally, size_t tally_cells,
+                          uint16_t *result, size_t result_cells);
 
 #ifdef __cplusplus
 }

@@ -3,6 +3,6 @@ pub mod Lengths
 pub mod Made
 pub mod Struck
 pub mod Passing
-pub mod Opening
+pub mod Beginning
 pub mod Kept
 pub mod Theorems

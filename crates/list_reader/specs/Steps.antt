@@ -16,8 +16,9 @@ use Rattle.list_rows.specs.Inner.{before}
 use Rattle.list_reader.specs.declared.pass.Reading.{Reading}
 use Rattle.list_reader.specs.declared.pass.Listed.{Listed}
 use Rattle.planner.specs.declared.Edited.{Edited}
+use Rattle.planner.specs.declared.Opened.{Opened}
 use Rattle.list_reader.specs.declared.pass.Step.{Step}
-use Rattle.list_reader.specs.Pass.{State, reading, listResult, changeNumber, change, rowNumber, step, pass, beginNumber, beginBy}
+use Rattle.list_reader.specs.Pass.{State, reading, listResult, changeNumber, change, rowNumber, step, pass, begin, beginNumber, beginBy}
 
 -- the state of these clashes and this memory
 abbrev pub at : Graph → Memory → State
@@ -91,6 +92,12 @@ pub record ReadsEdits (list : List ℕ) (first : ℕ) (m : Memory) (r : Listed) 
 -- the first row, of n banks, and the later ones, which start at `next`, are done
 pub record Begins (list : List ℕ) (next n : ℕ) (m : Memory) (r : Listed) (m′ : Memory) : Type 0 where
   pub is : listResult (r .answer) m′ ≡ beginBy (beginNumber n m) n (rows (drop next list)) m
+
+-- opening n banks got its number and left m′, where question 4 is asked for all six slices
+pub record OpensAll (n : ℕ) (m : Memory) (r : Opened) (m′ : Memory) : Type 0 where
+  pub number : r .number ≡ beginNumber n m
+  pub refused : (r .number ≡ 0 → ⊥) → m′ ≡ m
+  pub opened : r .number ≡ 0 → Stands (begin n m) m′
 
 -- the answer of a pass whose last row has this number
 unfoldable pub ending : ℕ → ℕ → Reading

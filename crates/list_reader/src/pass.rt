@@ -1,16 +1,14 @@
 // The pass over a list.
 use crate::change::apply;
+use crate::opening::open_all;
 use list_rows::Row;
 use list_rows::find;
 use list_rows::read_row;
 use memory::Tally;
-use planner::open_core;
-use rule::MOST_BANKS;
-use rule::wide;
 ghost use mathlib.Core.Path.{_≡_};
 ghost use Rattle.planner.specs.Calls.{memoryOf};
 ghost use Rattle.list_reader.specs.Pass.{listResult, readList};
-ghost use Rattle.list_reader.specs.Steps.{AsksBegin, AsksRow, AsksRows, Begins, ReadsEdits, EditsRow, ending, roomNumber};
+ghost use Rattle.list_reader.specs.Steps.{AsksBegin, AsksRow, AsksRows, Begins, ReadsEdits, EditsRow, ending};
 
 // The most bytes of a list.
 const MOST_BYTES: usize = 60000;
@@ -99,17 +97,16 @@ fn begin(
     requires { ⌜ AsksBegin (now list) next ⌝ }
     ensures { λ r. ⌜ Begins (now (list .entry)) next banks (memoryOf (now (neighbours .entry)) (now (degrees .entry)) (now (waves .entry)) (now (counts .entry)) (now (trail .entry)) (now (moved .entry)) tally) r (memoryOf (now (neighbours .exit)) (now (degrees .exit)) (now (waves .exit)) (now (counts .exit)) (now (trail .exit)) (now (moved .exit)) (r .tally)) ⌝ }
 {
-    let number = room_number(banks, trail.len(), moved.len());
-    if number != 0 {
-        return Listed {
-            answer: Reading {
-                number: number,
-                row: FIRST_ROW,
-            },
-            tally: tally,
-        };
-    }
-    let opened = open_core(neighbours, degrees, waves, counts, banks, tally);
+    let opened = open_all(
+        neighbours,
+        degrees,
+        waves,
+        counts,
+        trail,
+        moved,
+        banks,
+        tally,
+    );
     let after = opened.tally;
     if opened.number != 0 {
         return Listed {
@@ -233,21 +230,4 @@ fn ended(number: u16, row: u16) -> Reading
         number: number,
         row: row,
     }
-}
-
-// Questions 3 and 4, the latter for the trail and moved slices only: their number, or 0.
-fn room_number(banks: u16, trail: usize, moved: usize) -> u16
-    ensures { λ r. ⌜ r ≡ roomNumber banks trail moved ⌝ }
-{
-    let n = wide(banks);
-    if MOST_BANKS < n {
-        return 1;
-    }
-    if trail < n {
-        return 2;
-    }
-    if moved < n {
-        return 2;
-    }
-    0
 }

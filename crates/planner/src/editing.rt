@@ -33,7 +33,7 @@ fn names(row: &[u16], v: Bank) -> bool
 }
 
 // Questions 7, 8, 9 and 11 of an add: 0, or the number of the first no.
-fn add_number(
+pub fn add_number(
     neighbours: &[u16],
     degrees: &[u16],
     waves: &[u16],
@@ -70,7 +70,7 @@ fn add_number(
 }
 
 // Questions 7, 8 and 10 of a strike: 0, or the number of the first no.
-fn strike_number(
+pub fn strike_number(
     neighbours: &[u16],
     degrees: &[u16],
     waves: &[u16],

@@ -5,11 +5,14 @@ mod lent;
 mod opening;
 mod reading;
 
+pub use checks::check_memory;
 pub use checks::check_plan;
 pub use editing::add_core;
 pub use editing::add_held;
+pub use editing::add_number;
 pub use editing::strike_core;
 pub use editing::strike_held;
+pub use editing::strike_number;
 pub use lent::add;
 pub use lent::open;
 pub use lent::strike;

@@ -4,7 +4,6 @@ use mathlib.Core.Path.{_≡_, refl}
 use Prim.Native.Nat.{ℕ, _≤_}
 use native.Mathlib.Omega.{arith}
 use lib.ListN.{length, set}
-use Rattle.memory.specs.declared.Tally.{Tally}
 use Rattle.memory.specs.Cells.{over}
 use Rattle.wave_plan.specs.Lent.{tallyIn, tallyCells}
 
@@ -19,12 +18,12 @@ two-cells [] x y h = absurd (omega arith)
 two-cells (a ∷ []) x y h = absurd (omega arith)
 two-cells (a ∷ b ∷ xs) x y h = refl
 
-pub tally-put : (xs : List ℕ) (t : Tally) → 3 ≤ length xs → set (set (set xs 0 (t .banks)) 1 (t .clashes)) 2 (t .waves) ≡ over (tallyCells t) xs
-unfolding over tallyCells
-tally-put [] t h = absurd (omega arith)
-tally-put (a ∷ []) t h = absurd (omega arith)
-tally-put (a ∷ b ∷ []) t h = absurd (omega arith)
-tally-put (a ∷ b ∷ c ∷ xs) t h = refl
+pub three-cells : (xs : List ℕ) (x y z : ℕ) → 3 ≤ length xs → set (set (set xs 0 x) 1 y) 2 z ≡ over (x ∷ y ∷ z ∷ []) xs
+unfolding over
+three-cells [] x y z h = absurd (omega arith)
+three-cells (a ∷ []) x y z h = absurd (omega arith)
+three-cells (a ∷ b ∷ []) x y z h = absurd (omega arith)
+three-cells (a ∷ b ∷ c ∷ xs) x y z h = refl
 
 -- a refused call puts the tally back as it was
 pub tally-again : (xs : List ℕ) → 3 ≤ length xs → over (tallyCells (tallyIn xs)) xs ≡ xs

@@ -1,5 +1,5 @@
 -- What follows from the contracts of this crate, each restated in full.
--- 1. a refused edit changes no slice but the front two cells of the result, which are 0; a refused opening changes nothing
+-- 1. a refused edit, recorded or not, changes no slice but the front cells of the result, which are 0; a refused opening changes nothing
 -- 2. the part that wave_plan_clashes_of names is the filled part of the bank's row
 -- 3. the length of a sheet fits the result cell
 use mathlib.Core.List.{List, [], _∷_}
@@ -11,20 +11,37 @@ use Rattle.memory.specs.Cells.{over}
 use Rattle.memory.specs.Plan.{Slices}
 use Rattle.planner.specs.Calls.{openResult, refused, bankNumber, clashesOf}
 use Rattle.sheet_writer.specs.Calls.{writeSheet}
+use Rattle.journal.specs.Calls.{recordResult, noRecord}
 use Rattle.wave_plan.specs.Lent.{tallyIn, Lent, memoryIn, leaving}
 use Rattle.wave_plan.specs.Calls.{openLeft, openDone, left, editDone}
+use Rattle.wave_plan.specs.Journals.{recordLeft, recordDone}
 use Rattle.wave_plan.proofs.Fronts.{tally-again}
 use Rattle.wave_plan.proofs.Answers as Answers
 
+-- what was lent, with these results
+abbrev told-only : List ℕ → Lent → Lent
+told-only results l =
+    record { slices = l .slices; trail = l .trail; moved = l .moved; tally = l .tally; result = over results (l .result) }
+
 module _ (l : Lent) (long : 3 ≤ length (l .tally)) where
+  leaves-all : (results : List ℕ) → leaving (memoryIn l) results l ≡ told-only results l
+  unfolding memoryIn leaving
+  leaves-all results =
+      ap
+      (λ (t : List ℕ). record { slices = l .slices; trail = l .trail; moved = l .moved; tally = t; result = over results (l .result) })
+      (tally-again (l .tally) long)
+
   pub refused-edit : (c : ℕ)
       → editDone (refused c (memoryIn l)) l
       ≡ left c (record { slices = l .slices; trail = l .trail; moved = l .moved; tally = l .tally; result = over (0 ∷ 0 ∷ []) (l .result) })
-  unfolding editDone refused memoryIn leaving
-  refused-edit c =
-      ap
-      (λ (t : List ℕ). left c (record { slices = l .slices; trail = l .trail; moved = l .moved; tally = t; result = over (0 ∷ 0 ∷ []) (l .result) }))
-      (tally-again (l .tally) long)
+  unfolding editDone refused
+  refused-edit c = ap (left c) (leaves-all (0 ∷ 0 ∷ []))
+
+  pub refused-record : (c : ℕ) (journal : List ℕ)
+      → recordDone (recordResult (noRecord c) (memoryIn l) journal) l
+      ≡ recordLeft c (record { slices = l .slices; trail = l .trail; moved = l .moved; tally = l .tally; result = over (0 ∷ 0 ∷ 0 ∷ []) (l .result) }) journal
+  unfolding recordDone
+  refused-record c journal = ap (λ (x : Lent). recordLeft c x journal) (leaves-all (0 ∷ 0 ∷ 0 ∷ []))
 
 pub refused-open : (s : Slices) (tally : List ℕ) → 3 ≤ length tally → (c : ℕ)
     → openDone (openResult c s (tallyIn tally)) tally ≡ openLeft c s tally

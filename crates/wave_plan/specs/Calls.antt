@@ -9,7 +9,7 @@ use Rattle.memory.specs.Plan.{Slices}
 use Rattle.planner.specs.Calls.{OpenResult, opened, EditResult, edit, bankNumber, waveOf, clashesOf}
 use Rattle.list_reader.specs.Pass.{ListResult, readList}
 use Rattle.sheet_writer.specs.Calls.{SheetResult, writeSheet}
-use Rattle.wave_plan.specs.Lent.{tallyIn, tallyCells, roomNumber, Lent, memoryIn, leaving}
+use Rattle.wave_plan.specs.Lent.{tallyIn, tallyCells, roomNumber, roomed, Lent, memoryIn, leaving}
 
 -- what opening answers and leaves
 pub record OpenLeft : Type 0 where
@@ -24,14 +24,9 @@ openLeft number slices tally = record { number = number; slices = slices; tally 
 unfoldable pub openDone : OpenResult → List ℕ → OpenLeft
 openDone o tally = openLeft (o .number) (o .slices) (over (tallyCells (o .tally)) tally)
 
--- by the number for short slices
-unfoldable pub openRoom : ℕ → ℕ → Slices → List ℕ → OpenLeft
-openRoom zero n s tally = openDone (opened n s (tallyIn tally)) tally
-openRoom (suc c) n s tally = openLeft (suc c) s tally
-
 -- wave_plan_open
 unfoldable pub openCall : ℕ → Slices → List ℕ → OpenLeft
-openCall n s tally = openRoom (roomNumber 0 tally []) n s tally
+openCall n s tally = roomed (roomNumber 0 tally []) (λ c. openLeft c s tally) (openDone (opened n s (tallyIn tally)) tally)
 
 -- what an edit or a list answers and leaves
 pub record Left : Type 0 where
@@ -45,27 +40,17 @@ left number lent = record { number = number; lent = lent }
 unfoldable pub editDone : EditResult → Lent → Left
 editDone e l = left (e .answer .number) (leaving (e .memory) (e .answer .moved ∷ e .answer .trail ∷ []) l)
 
--- by the number for short slices
-unfoldable pub editRoom : ℕ → Kind → ℕ → ℕ → Lent → Left
-editRoom zero k a b l = editDone (edit k a b (memoryIn l)) l
-editRoom (suc c) k a b l = left (suc c) l
-
 -- wave_plan_add and wave_plan_strike
 unfoldable pub editCall : Kind → ℕ → ℕ → Lent → Left
-editCall k a b l = editRoom (roomNumber 2 (l .tally) (l .result)) k a b l
+editCall k a b l = roomed (roomNumber 2 (l .tally) (l .result)) (λ c. left c l) (editDone (edit k a b (memoryIn l)) l)
 
 -- the row is the result
 unfoldable pub listDone : ListResult → Lent → Left
 listDone x l = left (x .answer .number) (leaving (x .memory) (x .answer .row ∷ []) l)
 
--- by the number for short slices
-unfoldable pub listRoom : ℕ → List ℕ → Lent → Left
-listRoom zero bytes l = listDone (readList bytes (memoryIn l)) l
-listRoom (suc c) bytes l = left (suc c) l
-
 -- wave_plan_read_list
 unfoldable pub listCall : List ℕ → Lent → Left
-listCall bytes l = listRoom (roomNumber 1 (l .tally) (l .result)) bytes l
+listCall bytes l = roomed (roomNumber 1 (l .tally) (l .result)) (λ c. left c l) (listDone (readList bytes (memoryIn l)) l)
 
 -- what a call that reads one bank answers and leaves
 pub record Told : Type 0 where
@@ -75,28 +60,26 @@ pub record Told : Type 0 where
 abbrev pub told : ℕ → List ℕ → Told
 told number result = record { number = number; result = result }
 
--- by the number for short slices: the wave is the result
-unfoldable pub waveRoom : ℕ → ℕ → Slices → Tally → List ℕ → Told
-waveRoom zero b s t result = told (bankNumber b s t) (over (waveOf b s t ∷ []) result)
-waveRoom (suc c) b s t result = told (suc c) result
+-- the wave is the result
+unfoldable pub waveDone : ℕ → Slices → Tally → List ℕ → Told
+waveDone b s t result = told (bankNumber b s t) (over (waveOf b s t ∷ []) result)
 
 -- wave_plan_wave_of
 unfoldable pub waveCall : ℕ → Slices → List ℕ → List ℕ → Told
-waveCall b s tally result = waveRoom (roomNumber 1 tally result) b s (tallyIn tally) result
+waveCall b s tally result = roomed (roomNumber 1 tally result) (λ c. told c result) (waveDone b s (tallyIn tally) result)
 
 -- by the number of the first no: where the row of b starts
 unfoldable pub startBy : ℕ → ℕ → ℕ
 startBy zero b = 23 * b
 startBy (suc c) b = 0
 
--- by the number for short slices: the filled part of the row, its start and its length, is the result
-unfoldable pub clashesRoom : ℕ → ℕ → Slices → Tally → List ℕ → Told
-clashesRoom zero b s t result = told (bankNumber b s t) (over (startBy (bankNumber b s t) b ∷ length (clashesOf b s t) ∷ []) result)
-clashesRoom (suc c) b s t result = told (suc c) result
+-- the filled part of the row, its start and its length, is the result
+unfoldable pub clashesDone : ℕ → Slices → Tally → List ℕ → Told
+clashesDone b s t result = told (bankNumber b s t) (over (startBy (bankNumber b s t) b ∷ length (clashesOf b s t) ∷ []) result)
 
 -- wave_plan_clashes_of
 unfoldable pub clashesCall : ℕ → Slices → List ℕ → List ℕ → Told
-clashesCall b s tally result = clashesRoom (roomNumber 2 tally result) b s (tallyIn tally) result
+clashesCall b s tally result = roomed (roomNumber 2 tally result) (λ c. told c result) (clashesDone b s (tallyIn tally) result)
 
 -- the part of a slice that two cells name by its start and its length
 unfoldable pub partNamed : List ℕ → List ℕ → List ℕ
@@ -115,11 +98,6 @@ sheetLeft number out result = record { number = number; out = out; result = resu
 unfoldable pub sheetDone : SheetResult → List ℕ → SheetLeft
 sheetDone x result = sheetLeft (x .answer .number) (x .out) (over (x .answer .length ∷ []) result)
 
--- by the number for short slices
-unfoldable pub sheetRoom : ℕ → Slices → Tally → List ℕ → List ℕ → SheetLeft
-sheetRoom zero s t out result = sheetDone (writeSheet s t out) result
-sheetRoom (suc c) s t out result = sheetLeft (suc c) out result
-
 -- wave_plan_write_sheet
 unfoldable pub sheetCall : Slices → List ℕ → List ℕ → List ℕ → SheetLeft
-sheetCall s tally out result = sheetRoom (roomNumber 1 tally result) s (tallyIn tally) out result
+sheetCall s tally out result = roomed (roomNumber 1 tally result) (λ c. sheetLeft c out result) (sheetDone (writeSheet s (tallyIn tally) out) result)

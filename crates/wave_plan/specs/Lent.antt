@@ -1,6 +1,6 @@
 -- What a caller in C lends, and how its cells carry the tally and the results.
 use mathlib.Core.List.{List, [], _∷_}
-use Prim.Native.Nat.{ℕ}
+use Prim.Native.Nat.{ℕ, zero, suc}
 use lib.Dec.{leb}
 use lib.ListN.{length, getD}
 use Rattle.memory.specs.declared.Tally.{Tally}
@@ -20,6 +20,11 @@ tallyCells t = t .banks ∷ t .clashes ∷ t .waves ∷ []
 -- 2 if the tally slice has fewer than three cells, or the result slice fewer than the call needs; else 0
 unfoldable pub roomNumber : ℕ → List ℕ → List ℕ → ℕ
 roomNumber needed tally result = firstNo ((leb 3 (length tally) else 2) ∷ (leb needed (length result) else 2) ∷ [])
+
+-- by the number for short slices: what the call leaves, or the refusal
+unfoldable pub roomed : {A : Type 0} → ℕ → (ℕ → A) → A → A
+roomed zero refusal done = done
+roomed (suc c) refusal done = refusal (suc c)
 
 -- what a call that edits is lent and leaves
 pub record Lent : Type 0 where

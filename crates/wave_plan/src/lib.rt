@@ -1,13 +1,19 @@
-// The C library: each call of the planner, the list reader and the sheet writer on numbers and slices. It decides nothing itself but that
-// a tally slice of fewer than three cells, or a result slice that is too short, gets 2 with nothing changed.
+// The C library: each call of the planner, the list reader, the sheet writer and the journal on numbers and slices. It decides nothing itself
+// but that a tally slice of fewer than three cells, or a result slice that is too short, gets 2 with nothing changed.
 mod cells;
 
 use cells::put_edited;
 use cells::put_listed;
 use cells::put_one;
+use cells::put_recorded;
+use cells::put_replayed;
 use cells::put_tally;
 use cells::put_two;
 use cells::tally_in;
+use journal::add_recorded_core;
+use journal::start_journal;
+use journal::strike_recorded_core;
+use journal_replay::replay_core;
 use list_reader::read_list_core;
 use planner::add_core;
 use planner::clashes_of;
@@ -26,6 +32,7 @@ ghost use Rattle.memory.specs.Plan.{slicesOf};
 ghost use Rattle.planner.specs.Calls.{clashesOf};
 ghost use Rattle.wave_plan.specs.Lent.{tallyIn, lentOf};
 ghost use Rattle.wave_plan.specs.Calls.{openLeft, openCall, left, editCall, listCall, told, waveCall, clashesCall, partNamed, sheetLeft, sheetCall};
+ghost use Rattle.wave_plan.specs.Journals.{startLeft, startCall, recordLeft, recordCall, replayCall};
 
 // The cells of a tally slice: banks, clashes, waves.
 const TALLY_CELLS: usize = 3;
@@ -40,6 +47,12 @@ const CLASHES_RESULTS: usize = 2;
 const LIST_RESULTS: usize = 1;
 
 const SHEET_RESULTS: usize = 1;
+
+const START_RESULTS: usize = 1;
+
+const RECORD_RESULTS: usize = 3;
+
+const REPLAY_RESULTS: usize = 2;
 
 // Opens a plan of `banks` banks with no clash.
 #[no_mangle]
@@ -245,4 +258,138 @@ pub extern "C" fn wave_plan_write_sheet(
     let r = write_sheet(neighbours, degrees, waves, counts, t, out);
     put_one(result, r.length as u16);
     r.number
+}
+
+// Starts a journal at the front of the slice. The result is its length.
+#[no_mangle]
+pub extern "C" fn wave_plan_start_journal(
+    neighbours: &[u16],
+    degrees: &[u16],
+    waves: &[u16],
+    counts: &[u16],
+    tally: &[u16],
+    journal: &mut [u8],
+    result: &mut [u16],
+) -> u16
+    ensures { λ r. ⌜ startLeft r (now (journal .exit)) (now (result .exit)) ≡ startCall (slicesOf (now (neighbours .entry)) (now (degrees .entry)) (now (waves .entry)) (now (counts .entry))) (now (tally .entry)) (now (journal .entry)) (now (result .entry)) ⌝ }
+{
+    if tally.len() < TALLY_CELLS {
+        return 2;
+    }
+    if result.len() < START_RESULTS {
+        return 2;
+    }
+    let t = tally_in(tally);
+    let r = start_journal(neighbours, degrees, waves, counts, t, journal);
+    put_one(result, r.length);
+    r.number
+}
+
+// Adds the clash of a and b and writes it after the last field of the journal of `length` bytes. The results are the moved count, the trail
+// count and the new length.
+#[no_mangle]
+pub extern "C" fn wave_plan_add_recorded(
+    neighbours: &mut [u16],
+    degrees: &mut [u16],
+    waves: &mut [u16],
+    counts: &mut [u16],
+    trail: &mut [u16],
+    moved: &mut [u16],
+    tally: &mut [u16],
+    journal: &mut [u8],
+    result: &mut [u16],
+    a: u16,
+    b: u16,
+    length: usize,
+) -> u16
+    ensures { λ r. ⌜ recordLeft r (lentOf (now (neighbours .exit)) (now (degrees .exit)) (now (waves .exit)) (now (counts .exit)) (now (trail .exit)) (now (moved .exit)) (now (tally .exit)) (now (result .exit))) (now (journal .exit)) ≡ recordCall adding a b (lentOf (now (neighbours .entry)) (now (degrees .entry)) (now (waves .entry)) (now (counts .entry)) (now (trail .entry)) (now (moved .entry)) (now (tally .entry)) (now (result .entry))) length (now (journal .entry)) ⌝ }
+{
+    if tally.len() < TALLY_CELLS {
+        return 2;
+    }
+    if result.len() < RECORD_RESULTS {
+        return 2;
+    }
+    let t = tally_in(tally);
+    let r = add_recorded_core(
+        neighbours,
+        degrees,
+        waves,
+        counts,
+        trail,
+        moved,
+        t,
+        Bank(a),
+        Bank(b),
+        journal,
+        length,
+    );
+    put_recorded(tally, result, r)
+}
+
+// Strikes the clash of a and b and writes it after the last field. The results are those of wave_plan_add_recorded.
+#[no_mangle]
+pub extern "C" fn wave_plan_strike_recorded(
+    neighbours: &mut [u16],
+    degrees: &mut [u16],
+    waves: &mut [u16],
+    counts: &mut [u16],
+    trail: &mut [u16],
+    moved: &mut [u16],
+    tally: &mut [u16],
+    journal: &mut [u8],
+    result: &mut [u16],
+    a: u16,
+    b: u16,
+    length: usize,
+) -> u16
+    ensures { λ r. ⌜ recordLeft r (lentOf (now (neighbours .exit)) (now (degrees .exit)) (now (waves .exit)) (now (counts .exit)) (now (trail .exit)) (now (moved .exit)) (now (tally .exit)) (now (result .exit))) (now (journal .exit)) ≡ recordCall striking a b (lentOf (now (neighbours .entry)) (now (degrees .entry)) (now (waves .entry)) (now (counts .entry)) (now (trail .entry)) (now (moved .entry)) (now (tally .entry)) (now (result .entry))) length (now (journal .entry)) ⌝ }
+{
+    if tally.len() < TALLY_CELLS {
+        return 2;
+    }
+    if result.len() < RECORD_RESULTS {
+        return 2;
+    }
+    let t = tally_in(tally);
+    let r = strike_recorded_core(
+        neighbours,
+        degrees,
+        waves,
+        counts,
+        trail,
+        moved,
+        t,
+        Bank(a),
+        Bank(b),
+        journal,
+        length,
+    );
+    put_recorded(tally, result, r)
+}
+
+// Replays a journal. The results are the field and the number of bytes left over.
+#[no_mangle]
+pub extern "C" fn wave_plan_replay(
+    journal: &[u8],
+    neighbours: &mut [u16],
+    degrees: &mut [u16],
+    waves: &mut [u16],
+    counts: &mut [u16],
+    trail: &mut [u16],
+    moved: &mut [u16],
+    tally: &mut [u16],
+    result: &mut [u16],
+) -> u16
+    ensures { λ r. ⌜ left r (lentOf (now (neighbours .exit)) (now (degrees .exit)) (now (waves .exit)) (now (counts .exit)) (now (trail .exit)) (now (moved .exit)) (now (tally .exit)) (now (result .exit))) ≡ replayCall (now (journal .entry)) (lentOf (now (neighbours .entry)) (now (degrees .entry)) (now (waves .entry)) (now (counts .entry)) (now (trail .entry)) (now (moved .entry)) (now (tally .entry)) (now (result .entry))) ⌝ }
+{
+    if tally.len() < TALLY_CELLS {
+        return 2;
+    }
+    if result.len() < REPLAY_RESULTS {
+        return 2;
+    }
+    let t = tally_in(tally);
+    let r = replay_core(journal, neighbours, degrees, waves, counts, trail, moved, t);
+    put_replayed(tally, result, r)
 }

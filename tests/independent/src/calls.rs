@@ -50,17 +50,12 @@ impl Memory {
     /// An edit. If accepted, it leaves the plan of the new graph, trail and moved.
     fn edit(&mut self, edit: Edit, a: u16, b: u16) -> EditAnswer {
         let (a, b) = (usize::from(a), usize::from(b));
-        match self.edit_questions(edit, a, b) {
-            Ok((old, new)) => {
-                let reach = reach(edit, a, b, &old, &new);
-                self.store_plan(&new);
-                self.store_reach(&reach);
-                EditAnswer {
-                    number: ACCEPTED,
-                    moved: reach.moved.len(),
-                    trail: reach.trail.len(),
-                }
-            }
+        let asked = self.memory_questions().and_then(|old| {
+            let new = clash_questions(edit, a, b, &old)?;
+            Ok((old, new))
+        });
+        match asked {
+            Ok((old, new)) => self.store_edit(edit, a, b, &old, &new),
             Err(number) => EditAnswer {
                 number,
                 moved: 0,
@@ -69,13 +64,30 @@ impl Memory {
         }
     }
 
-    /// All questions of an edit. The answer is the old and the new graph.
-    fn edit_questions(&self, edit: Edit, a: Bank, b: Bank) -> Result<(Graph, Graph), u16> {
+    /// Stores what the accepted edit leaves that leads from the old graph to the new one.
+    pub(crate) fn store_edit(
+        &mut self,
+        edit: Edit,
+        a: Bank,
+        b: Bank,
+        old: &Graph,
+        new: &Graph,
+    ) -> EditAnswer {
+        let reach = reach(edit, a, b, old, new);
+        self.store_plan(new);
+        self.store_reach(&reach);
+        EditAnswer {
+            number: ACCEPTED,
+            moved: reach.moved.len(),
+            trail: reach.trail.len(),
+        }
+    }
+
+    /// The questions of an edit on its memory. The answer is the graph.
+    pub(crate) fn memory_questions(&self) -> Result<Graph, u16> {
         let n = self.tally_banks()?;
         ask(self.all_fit(n), SLICE_TOO_SHORT)?;
-        let old = self.held_graph().ok_or(NO_PLAN)?;
-        let new = clash_questions(edit, a, b, &old)?;
-        Ok((old, new))
+        self.held_graph().ok_or(NO_PLAN)
     }
 
     /// Wave of bank b.

@@ -10,11 +10,14 @@
 //! - `refusals`: the numbers of the questions.
 //! - `calls`: open, add, strike, wave of a bank, clashes of a bank.
 //! - `list`: the list's rows and the call that reads a list.
+//! - `journal`: a journal's fields, and the calls that start, record and replay.
 //! - `sheet`: the sheet's text, the call that writes it, and the output of the program.
-//! - `random`, `lists`: inputs for the tests.
+//! - `random`, `lists`, `journals`: inputs for the tests.
 
 pub mod calls;
 pub mod graph;
+pub mod journal;
+pub mod journals;
 pub mod list;
 pub mod lists;
 pub mod memory;

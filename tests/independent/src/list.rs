@@ -106,18 +106,24 @@ impl Memory {
     /// One further row: its questions, then its edits.
     fn later_row(&mut self, row: &[u8], graph: &mut Graph) -> Result<(), u16> {
         match edit_row(row).ok_or(NOT_A_ROW)? {
-            Row::Add(a, b) => self.row_edit(Edit::Add, a, b, graph),
-            Row::Strike(a, b) => self.row_edit(Edit::Strike, a, b, graph),
+            Row::Add(a, b) => self.edit_in_turn(Edit::Add, a, b, graph),
+            Row::Strike(a, b) => self.edit_in_turn(Edit::Strike, a, b, graph),
             Row::StrikeAll(b) => {
                 ask(b < graph.banks(), NO_SUCH_BANK)?;
                 let mut ascending = graph.neighbours(b).collect::<Vec<Bank>>().into_iter();
-                ascending.try_for_each(|q| self.row_edit(Edit::Strike, b, q, graph))
+                ascending.try_for_each(|q| self.edit_in_turn(Edit::Strike, b, q, graph))
             }
         }
     }
 
-    /// One edit of a row: its questions, its trail and moved, and the graph after it.
-    fn row_edit(&mut self, edit: Edit, a: Bank, b: Bank, graph: &mut Graph) -> Result<(), u16> {
+    /// One edit of a list or a journal: its questions, its trail and moved, and the graph after it.
+    pub(crate) fn edit_in_turn(
+        &mut self,
+        edit: Edit,
+        a: Bank,
+        b: Bank,
+        graph: &mut Graph,
+    ) -> Result<(), u16> {
         let new = clash_questions(edit, a, b, graph)?;
         self.store_reach(&reach(edit, a, b, graph, &new));
         *graph = new;

@@ -13,6 +13,9 @@ pub const LIST_TOO_LONG: u16 = 9;
 pub const NOT_AN_N_ROW: u16 = 10;
 pub const NOT_A_ROW: u16 = 11;
 pub const OUTPUT_TOO_SHORT: u16 = 12;
+pub const NOT_A_FIRST_FIELD: u16 = 13;
+pub const NOT_A_FIELD: u16 = 14;
+pub const NO_SPACE: u16 = 15;
 
 /// A question: the given number if the answer is no.
 pub fn ask(yes: bool, number: u16) -> Result<(), u16> {

@@ -16,167 +16,93 @@ pub struct Lent<'a> {
     pub result: &'a mut [u16],
 }
 
-// Each block is sound since the slices are valid for their lengths and apart from each other, and
-// the library asks nothing else.
+/// Calls a function of the library: the bytes that it reads, the other slices, then the numbers. A
+/// slice is a pointer and a length. Sound since the slices are valid for their lengths and apart
+/// from each other, and the library asks nothing else.
+macro_rules! call {
+    ($function:ident($($bytes:ident)?; $($slice:expr),*; $($number:expr),*)) => {
+        unsafe {
+            raw::$function(
+                $($bytes.as_ptr(), $bytes.len(),)?
+                $($slice.as_mut_ptr(), $slice.len(),)*
+                $($number),*
+            )
+        }
+    };
+}
+
 impl Lent<'_> {
     /// Open: n banks, no clash. Uses the plan slices and the tally.
     pub fn open(&mut self, n: u16) -> u16 {
-        unsafe {
-            raw::wave_plan_open(
-                self.neighbours.as_mut_ptr(),
-                self.neighbours.len(),
-                self.degrees.as_mut_ptr(),
-                self.degrees.len(),
-                self.waves.as_mut_ptr(),
-                self.waves.len(),
-                self.counts.as_mut_ptr(),
-                self.counts.len(),
-                self.tally.as_mut_ptr(),
-                self.tally.len(),
-                n,
-            )
-        }
+        call!(wave_plan_open(;
+            self.neighbours, self.degrees, self.waves, self.counts, self.tally; n))
     }
 
     /// Add the clash of a and b. Results: moved count, trail count.
     pub fn add(&mut self, a: u16, b: u16) -> u16 {
-        unsafe {
-            raw::wave_plan_add(
-                self.neighbours.as_mut_ptr(),
-                self.neighbours.len(),
-                self.degrees.as_mut_ptr(),
-                self.degrees.len(),
-                self.waves.as_mut_ptr(),
-                self.waves.len(),
-                self.counts.as_mut_ptr(),
-                self.counts.len(),
-                self.trail.as_mut_ptr(),
-                self.trail.len(),
-                self.moved.as_mut_ptr(),
-                self.moved.len(),
-                self.tally.as_mut_ptr(),
-                self.tally.len(),
-                self.result.as_mut_ptr(),
-                self.result.len(),
-                a,
-                b,
-            )
-        }
+        call!(wave_plan_add(;
+            self.neighbours, self.degrees, self.waves, self.counts, self.trail, self.moved,
+            self.tally, self.result; a, b))
     }
 
     /// Strike the clash of a and b. Results: moved count, trail count.
     pub fn strike(&mut self, a: u16, b: u16) -> u16 {
-        unsafe {
-            raw::wave_plan_strike(
-                self.neighbours.as_mut_ptr(),
-                self.neighbours.len(),
-                self.degrees.as_mut_ptr(),
-                self.degrees.len(),
-                self.waves.as_mut_ptr(),
-                self.waves.len(),
-                self.counts.as_mut_ptr(),
-                self.counts.len(),
-                self.trail.as_mut_ptr(),
-                self.trail.len(),
-                self.moved.as_mut_ptr(),
-                self.moved.len(),
-                self.tally.as_mut_ptr(),
-                self.tally.len(),
-                self.result.as_mut_ptr(),
-                self.result.len(),
-                a,
-                b,
-            )
-        }
+        call!(wave_plan_strike(;
+            self.neighbours, self.degrees, self.waves, self.counts, self.trail, self.moved,
+            self.tally, self.result; a, b))
     }
 
     /// Wave of bank b. Result: the wave.
     pub fn wave_of(&mut self, b: u16) -> u16 {
-        unsafe {
-            raw::wave_plan_wave_of(
-                self.neighbours.as_ptr(),
-                self.neighbours.len(),
-                self.degrees.as_ptr(),
-                self.degrees.len(),
-                self.waves.as_ptr(),
-                self.waves.len(),
-                self.counts.as_ptr(),
-                self.counts.len(),
-                self.tally.as_ptr(),
-                self.tally.len(),
-                self.result.as_mut_ptr(),
-                self.result.len(),
-                b,
-            )
-        }
+        call!(wave_plan_wave_of(;
+            self.neighbours, self.degrees, self.waves, self.counts, self.tally, self.result; b))
     }
 
     /// Clashes of bank b. Results: the first cell of the filled part of its row, and its length.
     pub fn clashes_of(&mut self, b: u16) -> u16 {
-        unsafe {
-            raw::wave_plan_clashes_of(
-                self.neighbours.as_ptr(),
-                self.neighbours.len(),
-                self.degrees.as_ptr(),
-                self.degrees.len(),
-                self.waves.as_ptr(),
-                self.waves.len(),
-                self.counts.as_ptr(),
-                self.counts.len(),
-                self.tally.as_ptr(),
-                self.tally.len(),
-                self.result.as_mut_ptr(),
-                self.result.len(),
-                b,
-            )
-        }
+        call!(wave_plan_clashes_of(;
+            self.neighbours, self.degrees, self.waves, self.counts, self.tally, self.result; b))
     }
 
     /// Read a list. Result: the row of a refusal.
     pub fn read_list(&mut self, list: &[u8]) -> u16 {
-        unsafe {
-            raw::wave_plan_read_list(
-                list.as_ptr(),
-                list.len(),
-                self.neighbours.as_mut_ptr(),
-                self.neighbours.len(),
-                self.degrees.as_mut_ptr(),
-                self.degrees.len(),
-                self.waves.as_mut_ptr(),
-                self.waves.len(),
-                self.counts.as_mut_ptr(),
-                self.counts.len(),
-                self.trail.as_mut_ptr(),
-                self.trail.len(),
-                self.moved.as_mut_ptr(),
-                self.moved.len(),
-                self.tally.as_mut_ptr(),
-                self.tally.len(),
-                self.result.as_mut_ptr(),
-                self.result.len(),
-            )
-        }
+        call!(wave_plan_read_list(list;
+            self.neighbours, self.degrees, self.waves, self.counts, self.trail, self.moved,
+            self.tally, self.result;))
     }
 
     /// Write a sheet to the front of the output. Result: its length.
     pub fn write_sheet(&mut self, out: &mut [u8]) -> u16 {
-        unsafe {
-            raw::wave_plan_write_sheet(
-                self.neighbours.as_ptr(),
-                self.neighbours.len(),
-                self.degrees.as_ptr(),
-                self.degrees.len(),
-                self.waves.as_ptr(),
-                self.waves.len(),
-                self.counts.as_ptr(),
-                self.counts.len(),
-                self.tally.as_ptr(),
-                self.tally.len(),
-                out.as_mut_ptr(),
-                out.len(),
-                self.result.as_mut_ptr(),
-                self.result.len(),
-            )
-        }
+        call!(wave_plan_write_sheet(;
+            self.neighbours, self.degrees, self.waves, self.counts, self.tally, out, self.result;))
+    }
+
+    /// Start a journal at the front of the slice. Result: its length.
+    pub fn start_journal(&mut self, journal: &mut [u8]) -> u16 {
+        call!(wave_plan_start_journal(;
+            self.neighbours, self.degrees, self.waves, self.counts, self.tally, journal,
+            self.result;))
+    }
+
+    /// Add the clash of a and b and record it in the journal of so many bytes. Results: moved
+    /// count, trail count, the new length.
+    pub fn add_recorded(&mut self, a: u16, b: u16, journal: &mut [u8], length: usize) -> u16 {
+        call!(wave_plan_add_recorded(;
+            self.neighbours, self.degrees, self.waves, self.counts, self.trail, self.moved,
+            self.tally, journal, self.result; a, b, length))
+    }
+
+    /// Strike the clash of a and b and record it, as `add_recorded` does.
+    pub fn strike_recorded(&mut self, a: u16, b: u16, journal: &mut [u8], length: usize) -> u16 {
+        call!(wave_plan_strike_recorded(;
+            self.neighbours, self.degrees, self.waves, self.counts, self.trail, self.moved,
+            self.tally, journal, self.result; a, b, length))
+    }
+
+    /// Replay a journal. Results: the field of a refusal, and how many bytes were left over.
+    pub fn replay(&mut self, journal: &[u8]) -> u16 {
+        call!(wave_plan_replay(journal;
+            self.neighbours, self.degrees, self.waves, self.counts, self.trail, self.moved,
+            self.tally, self.result;))
     }
 }

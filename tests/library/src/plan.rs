@@ -10,11 +10,12 @@ pub struct Bank(pub u16);
 #[derive(Clone, Copy, Debug, PartialEq, Eq)]
 pub struct Wave(pub u16);
 
-/// A refused call: its number, and the row if a list was refused at a row (else 0).
+/// A refused call: its number, and the row of a list or the field of a journal that got it (else
+/// 0).
 #[derive(Clone, Copy, Debug, PartialEq, Eq)]
 pub struct Refused {
     pub number: u16,
-    pub row: u16,
+    pub place: u16,
 }
 
 /// An accepted edit: the banks taken up and the banks whose wave changed, both in the new order.
@@ -31,6 +32,10 @@ const MAX_BANKS: u16 = 1024;
 /// banks.
 const SHEET_BYTES: usize = 4067;
 
+/// The most bytes of a journal, and the bytes of the field of one edit.
+const JOURNAL_BYTES: usize = 60_000;
+const ENTRY_BYTES: usize = 7;
+
 /// A plan and the memory that it stands in.
 #[derive(Clone, Debug)]
 pub struct Plan {
@@ -41,7 +46,7 @@ pub struct Plan {
     trail: Vec<u16>,
     moved: Vec<u16>,
     tally: [u16; 3],
-    result: [u16; 2],
+    result: [u16; 3],
 }
 
 impl Plan {
@@ -56,11 +61,69 @@ impl Plan {
     pub fn read_list(list: &[u8]) -> Result<Plan, Refused> {
         let mut plan = Plan::memory_for(MAX_BANKS);
         let number = plan.lent().read_list(list);
-        answer(number).map_err(|refused| Refused {
-            row: plan.result[0],
-            ..refused
-        })?;
+        answer_at(number, plan.result[0])?;
         Ok(plan)
+    }
+
+    /// The plan of a journal, and how many bytes of it were left over.
+    pub fn replay(journal: &[u8]) -> Result<(Plan, usize), Refused> {
+        let mut plan = Plan::memory_for(MAX_BANKS);
+        let number = plan.lent().replay(journal);
+        answer_at(number, plan.result[0])?;
+        let left = usize::from(plan.result[1]);
+        Ok((plan, left))
+    }
+
+    /// A new journal of the plan.
+    pub fn start_journal(&mut self) -> Result<Vec<u8>, Refused> {
+        let mut journal = vec![0; JOURNAL_BYTES];
+        answer(self.lent().start_journal(&mut journal))?;
+        journal.truncate(usize::from(self.result[0]));
+        Ok(journal)
+    }
+
+    /// Adds the clash of a and b and records it at the journal's end.
+    pub fn add_recorded(
+        &mut self,
+        a: Bank,
+        b: Bank,
+        journal: &mut Vec<u8>,
+    ) -> Result<Edit, Refused> {
+        self.recorded(journal, |plan, bytes, length| {
+            plan.lent().add_recorded(a.0, b.0, bytes, length)
+        })
+    }
+
+    /// Strikes the clash of a and b and records it at the journal's end.
+    pub fn strike_recorded(
+        &mut self,
+        a: Bank,
+        b: Bank,
+        journal: &mut Vec<u8>,
+    ) -> Result<Edit, Refused> {
+        self.recorded(journal, |plan, bytes, length| {
+            plan.lent().strike_recorded(a.0, b.0, bytes, length)
+        })
+    }
+
+    /// A call that records an edit, with space for its field. The journal keeps its length if the
+    /// call is refused.
+    fn recorded(
+        &mut self,
+        journal: &mut Vec<u8>,
+        call: impl Fn(&mut Plan, &mut [u8], usize) -> u16,
+    ) -> Result<Edit, Refused> {
+        let length = journal.len();
+        journal.resize(length + ENTRY_BYTES, 0);
+        let number = call(self, journal, length);
+        let accepted = number == 0;
+        journal.truncate(if accepted {
+            usize::from(self.result[2])
+        } else {
+            length
+        });
+        answer(number)?;
+        Ok(self.edit())
     }
 
     /// Adds the clash of a and b.
@@ -84,7 +147,7 @@ impl Plan {
     /// The banks that clash with bank b, ascending.
     pub fn clashes_of(&mut self, b: Bank) -> Result<Vec<Bank>, Refused> {
         answer(self.lent().clashes_of(b.0))?;
-        let [start, length] = self.result.map(usize::from);
+        let [start, length, _] = self.result.map(usize::from);
         Ok(banks(&self.neighbours[start..start + length]))
     }
 
@@ -107,7 +170,7 @@ impl Plan {
             trail: vec![0; n],
             moved: vec![0; n],
             tally: [0; 3],
-            result: [0; 2],
+            result: [0; 3],
         }
     }
 
@@ -126,7 +189,7 @@ impl Plan {
 
     /// What the last accepted edit left in trail and moved.
     fn edit(&self) -> Edit {
-        let [moved, trail] = self.result.map(usize::from);
+        let [moved, trail, _] = self.result.map(usize::from);
         Edit {
             trail: banks(&self.trail[..trail]),
             moved: banks(&self.moved[..moved]),
@@ -140,8 +203,13 @@ fn banks(cells: &[u16]) -> Vec<Bank> {
 
 /// The refusal of a number, if it is one.
 fn answer(number: u16) -> Result<(), Refused> {
+    answer_at(number, 0)
+}
+
+/// The refusal of a number at a row or a field, if it is one.
+fn answer_at(number: u16, place: u16) -> Result<(), Refused> {
     match number {
         0 => Ok(()),
-        number => Err(Refused { number, row: 0 }),
+        number => Err(Refused { number, place }),
     }
 }

@@ -1,14 +1,18 @@
 -- `wave_plan::wave_plan_add` meets its contract.
 use borrow.Author.Needs.{needs}
-use Rattle.wave_plan.proofs.Done.{edit-short-tally, edit-short-result, edit-done}
+use Rattle.wave_plan.specs.Calls.{editCall}
+use Rattle.wave_plan.proofs.Room.{short-tally, short-result}
+use Rattle.wave_plan.proofs.Done.{edit-done}
 use Rattle.wave_plan.proofs.wave_plan_add.Statement.{statement}
 use Rattle.wave_plan.proofs.wave_plan_add.Tie as tie
 
 returns : tie.Need-returns
-returns c = edit-short-tally _ _ _ _ (c .if1 .taken)
+unfolding editCall
+returns c = short-tally _ _ _ _ _ (c .if1 .taken)
 
 returns-2 : tie.Need-returns-2
-returns-2 c = edit-short-result _ _ _ _ (c .before .if1 .left) (c .if2 .taken)
+unfolding editCall
+returns-2 c = short-result _ _ _ _ _ (c .before .if1 .left) (c .if2 .taken)
 
 tally-in-requires : tie.Need-tally-in-requires
 tally-in-requires c κs = search needs

@@ -5,15 +5,19 @@ use Prim.Native.Nat.{ℕ, _*_}
 use native.Mathlib.Omega.{arith}
 use lib.ListN.{length}
 use Rattle.wave_plan.proofs.Answers.{bank-small, few-clashes}
-use Rattle.wave_plan.proofs.Done.{clashes-short-tally, clashes-short-result, clashes-refused, clashes-found}
+use Rattle.wave_plan.specs.Calls.{clashesCall}
+use Rattle.wave_plan.proofs.Room.{short-tally, short-result}
+use Rattle.wave_plan.proofs.Done.{clashes-refused, clashes-found}
 use Rattle.wave_plan.proofs.wave_plan_clashes_of.Statement.{statement}
 use Rattle.wave_plan.proofs.wave_plan_clashes_of.Tie as tie
 
 returns : tie.Need-returns
-returns c = (clashes-short-tally _ _ _ _ (c .if1 .taken), λ h k. absurd (omega (arith, c .if1 .taken)))
+unfolding clashesCall
+returns c = (short-tally _ _ _ _ _ (c .if1 .taken), λ h k. absurd (omega (arith, c .if1 .taken)))
 
 returns-2 : tie.Need-returns-2
-returns-2 c = (clashes-short-result _ _ _ _ (c .before .if1 .left) (c .if2 .taken), λ h k. absurd (omega (arith, c .if2 .taken)))
+unfolding clashesCall
+returns-2 c = (short-result _ _ _ _ _ (c .before .if1 .left) (c .if2 .taken), λ h k. absurd (omega (arith, c .if2 .taken)))
 
 tally-in-requires : tie.Need-tally-in-requires
 tally-in-requires c κs = search needs

@@ -1,11 +1,14 @@
 -- `wave_plan::wave_plan_open` meets its contract.
 use borrow.Author.Needs.{needs}
-use Rattle.wave_plan.proofs.Done.{open-short, open-done}
+use Rattle.wave_plan.specs.Calls.{openCall}
+use Rattle.wave_plan.proofs.Room.{short-tally}
+use Rattle.wave_plan.proofs.Done.{open-done}
 use Rattle.wave_plan.proofs.wave_plan_open.Statement.{statement}
 use Rattle.wave_plan.proofs.wave_plan_open.Tie as tie
 
 returns : tie.Need-returns
-returns c = open-short _ _ _ (c .if1 .taken)
+unfolding openCall
+returns c = short-tally _ _ _ _ _ (c .if1 .taken)
 
 tally-in-requires : tie.Need-tally-in-requires
 tally-in-requires c κs = search needs

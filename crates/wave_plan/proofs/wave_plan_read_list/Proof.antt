@@ -1,14 +1,18 @@
 -- `wave_plan::wave_plan_read_list` meets its contract.
 use borrow.Author.Needs.{needs}
-use Rattle.wave_plan.proofs.Done.{list-short-tally, list-short-result, list-done}
+use Rattle.wave_plan.specs.Calls.{listCall}
+use Rattle.wave_plan.proofs.Room.{short-tally, short-result}
+use Rattle.wave_plan.proofs.Done.{list-done}
 use Rattle.wave_plan.proofs.wave_plan_read_list.Statement.{statement}
 use Rattle.wave_plan.proofs.wave_plan_read_list.Tie as tie
 
 returns : tie.Need-returns
-returns c = list-short-tally _ _ (c .if1 .taken)
+unfolding listCall
+returns c = short-tally _ _ _ _ _ (c .if1 .taken)
 
 returns-2 : tie.Need-returns-2
-returns-2 c = list-short-result _ _ (c .before .if1 .left) (c .if2 .taken)
+unfolding listCall
+returns-2 c = short-result _ _ _ _ _ (c .before .if1 .left) (c .if2 .taken)
 
 tally-in-requires : tie.Need-tally-in-requires
 tally-in-requires c κs = search needs

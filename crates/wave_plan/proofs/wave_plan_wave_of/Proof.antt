@@ -1,14 +1,18 @@
 -- `wave_plan::wave_plan_wave_of` meets its contract.
 use borrow.Author.Needs.{needs}
-use Rattle.wave_plan.proofs.Done.{wave-short-tally, wave-short-result, wave-done}
+use Rattle.wave_plan.specs.Calls.{waveCall}
+use Rattle.wave_plan.proofs.Room.{short-tally, short-result}
+use Rattle.wave_plan.proofs.Done.{wave-done}
 use Rattle.wave_plan.proofs.wave_plan_wave_of.Statement.{statement}
 use Rattle.wave_plan.proofs.wave_plan_wave_of.Tie as tie
 
 returns : tie.Need-returns
-returns c = wave-short-tally _ _ _ _ (c .if1 .taken)
+unfolding waveCall
+returns c = short-tally _ _ _ _ _ (c .if1 .taken)
 
 returns-2 : tie.Need-returns-2
-returns-2 c = wave-short-result _ _ _ _ (c .before .if1 .left) (c .if2 .taken)
+unfolding waveCall
+returns-2 c = short-result _ _ _ _ _ (c .before .if1 .left) (c .if2 .taken)
 
 tally-in-requires : tie.Need-tally-in-requires
 tally-in-requires c κs = search needs

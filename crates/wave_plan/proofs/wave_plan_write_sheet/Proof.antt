@@ -2,15 +2,19 @@
 use borrow.Author.Needs.{needs}
 use native.Mathlib.Omega.{arith}
 use Rattle.wave_plan.proofs.Answers.{sheet-short}
-use Rattle.wave_plan.proofs.Done.{sheet-short-tally, sheet-short-result, sheet-done}
+use Rattle.wave_plan.specs.Calls.{sheetCall}
+use Rattle.wave_plan.proofs.Room.{short-tally, short-result}
+use Rattle.wave_plan.proofs.Done.{sheet-done}
 use Rattle.wave_plan.proofs.wave_plan_write_sheet.Statement.{statement}
 use Rattle.wave_plan.proofs.wave_plan_write_sheet.Tie as tie
 
 returns : tie.Need-returns
-returns c = sheet-short-tally _ _ _ _ (c .if1 .taken)
+unfolding sheetCall
+returns c = short-tally _ _ _ _ _ (c .if1 .taken)
 
 returns-2 : tie.Need-returns-2
-returns-2 c = sheet-short-result _ _ _ _ (c .before .if1 .left) (c .if2 .taken)
+unfolding sheetCall
+returns-2 c = short-result _ _ _ _ _ (c .before .if1 .left) (c .if2 .taken)
 
 tally-in-requires : tie.Need-tally-in-requires
 tally-in-requires c κs = search needs

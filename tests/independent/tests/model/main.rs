@@ -1,5 +1,6 @@
 //! Tests of the model: the papers' examples, and the rule and demand 3 on random graphs.
 
+mod journal;
 mod marked;
 mod plan_cells;
 mod reach;

@@ -4,11 +4,13 @@ use crate::damage::DAMAGES;
 use crate::pair::{Call, Pair};
 use crate::plans::{bank_count, graph, memory_of, row, sheet_length, slices};
 use crate::{quick, rounds};
+use independent::journal::{journal_of, Entry};
 use independent::memory::Memory;
 use independent::random::Random;
+use independent::reach::Edit;
 
 /// How many calls got each number.
-type Numbers = [usize; 13];
+type Numbers = [usize; 16];
 
 #[test]
 fn calls_on_damaged_plans() {
@@ -20,7 +22,10 @@ fn calls_on_damaged_plans() {
     }
     if !quick() {
         assert!(numbers[1..=3].iter().sum::<usize>() > 20_000, "{numbers:?}");
-        assert!(numbers[1..=3].iter().all(|&times| times > 1000));
+        assert!(
+            numbers[1..=3].iter().all(|&times| times > 1000),
+            "{numbers:?}"
+        );
     }
 }
 
@@ -55,6 +60,8 @@ fn each_damage_is_seen_by_each_call() {
                 Call::WaveOf(1),
                 Call::ClashesOf(0),
                 Call::WriteSheet(5000),
+                Call::StartJournal(vec![0; 4000]),
+                Call::Record(any_entry(0, 1), any_journal(&memory), 5),
             ] {
                 Pair::new(memory.clone(), random.draw()).call(&call);
             }
@@ -67,13 +74,16 @@ fn each_damage_is_seen_by_each_call() {
 fn calls_on_any_memory() {
     let mut random = Random::new(74);
     let mut numbers = Numbers::default();
-    for _ in 0..rounds(6000) {
+    for _ in 0..rounds(12_000) {
         let memory = any_memory(&mut random);
         let call = any_call(&mut random, &memory);
         count(&mut numbers, memory, &call, &mut random);
     }
     if !quick() {
-        assert!(numbers[..=3].iter().all(|&times| times > 100));
+        assert!(
+            numbers[..=3].iter().all(|&times| times > 100),
+            "{numbers:?}"
+        );
     }
 }
 
@@ -141,7 +151,7 @@ fn any_call(random: &mut Random, memory: &Memory) -> Call {
         _ => random.below(n.max(1)) as u16,
     };
     let (a, b) = (any(random), any(random));
-    match random.below(30) {
+    match random.below(34) {
         0 => Call::Open(a),
         1 => Call::ReadList(any_list(random, a)),
         2..=9 => Call::Add(a, b),
@@ -152,12 +162,27 @@ fn any_call(random: &mut Random, memory: &Memory) -> Call {
         },
         18..=21 => Call::WaveOf(a),
         22..=25 => Call::ClashesOf(b),
+        26 | 27 => Call::StartJournal(vec![b'#'; random.below(2000)]),
+        28 | 29 => Call::Record(any_entry(a, b), any_journal(memory), 5),
         _ => {
             let enough = sheet_length(memory) + 2;
             let any = random.below(enough);
             Call::WriteSheet(*random.pick(&[any, enough, 5000]))
         }
     }
+}
+
+/// An edit of two banks: an add if the first is smaller, else a strike.
+fn any_entry(a: u16, b: u16) -> Entry {
+    let edit = if a < b { Edit::Add } else { Edit::Strike };
+    Entry { edit, a, b }
+}
+
+/// A journal of the memory's banks without an edit, five bytes, and space for one.
+fn any_journal(memory: &Memory) -> Vec<u8> {
+    let mut journal = journal_of(memory.tally.banks, &[]);
+    journal.resize(12, b'#');
+    journal
 }
 
 /// A short list for about n banks, with rows that are refused or not.

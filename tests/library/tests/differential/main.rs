@@ -6,8 +6,9 @@
 //! - `edits`: sequences of edits, accepted and refused.
 //! - `damage`, `damaged`: memory that holds no plan or is too short, and the calls on it.
 //! - `lists`, `sheets`: reading lists and writing sheets.
+//! - `journals`, `replays`: starting journals and recording edits; replaying journals.
 //! - `short`: tally and result slices that are too short.
-//! - `marked`: the paper's marked examples, through the wrapper that owns its memory.
+//! - `marked`: the paper's marked examples and a journal, through the wrapper that owns its memory.
 //!
 //! With WAVE_PLAN_QUICK set, each test makes fewer calls, for a run under a memory checker.
 
@@ -15,10 +16,12 @@ mod damage;
 mod damaged;
 mod edits;
 mod guarded;
+mod journals;
 mod lists;
 mod marked;
 mod pair;
 mod plans;
+mod replays;
 mod sheets;
 mod short;
 

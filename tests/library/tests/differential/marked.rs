@@ -1,4 +1,5 @@
-//! The paper's marked examples and its example sheet, through the wrapper that owns its memory.
+//! The paper's marked examples, its example sheet and a journal, through the wrapper that owns its
+//! memory.
 
 use library_tests::{Bank, Edit, Plan, Refused, Wave};
 
@@ -75,8 +76,37 @@ fn the_example_list() {
 }
 
 #[test]
+fn a_journal() {
+    let mut plan = opened(4, &[(2, 1)]);
+    let mut journal = plan.start_journal().expect("started");
+    reach(
+        plan.add_recorded(Bank(1), Bank(0), &mut journal),
+        &[1, 0],
+        &[0],
+    );
+    let refused = plan.add_recorded(Bank(0), Bank(1), &mut journal);
+    assert_eq!(refused.map_err(|refused| refused.number), Err(6));
+    assert!(plan.strike_recorded(Bank(1), Bank(2), &mut journal).is_ok());
+    let fields = [
+        &[0x4E, 2, 0, 4, 0][..],
+        &[0x2B, 4, 0, 1, 0, 2, 0],
+        &[0x2B, 4, 0, 1, 0, 0, 0],
+        &[0x2D, 4, 0, 1, 0, 2, 0],
+    ];
+    assert_eq!(journal, fields.concat());
+    let (mut again, left) = Plan::replay(&journal).expect("replayed");
+    assert_eq!((again.sheet(), left), (plan.sheet(), 0));
+    let (mut cut, left) = Plan::replay(&journal[..25]).expect("replayed");
+    assert_eq!((waves(&mut cut, 4), left), (vec![1, 0, 1, 0], 6));
+    journal[13] = 5;
+    let wrong = Plan::replay(&journal).err();
+    let (number, place) = (14, 3);
+    assert_eq!(wrong, Some(Refused { number, place }));
+}
+
+#[test]
 fn refusals() {
-    let refused = |number, row| Refused { number, row };
+    let refused = |number, place| Refused { number, place };
     assert_eq!(Plan::open(1025).err(), Some(refused(1, 0)));
     let mut plan = opened(2, &[(0, 1)]);
     assert_eq!(plan.add(Bank(0), Bank(2)), Err(refused(4, 0)));

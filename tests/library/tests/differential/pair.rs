@@ -1,12 +1,15 @@
 //! The library's memory beside the model's. A call is made on both, then everything is compared.
 
 use crate::guarded::{assert_same, Guarded, Slices};
+use independent::journal::Entry;
 use independent::memory::Memory;
 use independent::random::Random;
+use independent::reach::Edit;
 use independent::refusals::ACCEPTED;
 use std::fmt;
 
-/// A call with its arguments; a sheet's is the length of its output.
+/// A call with its arguments; a sheet's is the length of its output, and a journal is the slice that
+/// is lent, which may be longer than the journal.
 #[derive(Clone)]
 pub enum Call {
     Open(u16),
@@ -16,9 +19,12 @@ pub enum Call {
     ClashesOf(u16),
     ReadList(Vec<u8>),
     WriteSheet(usize),
+    StartJournal(Vec<u8>),
+    Record(Entry, Vec<u8>, usize),
+    Replay(Vec<u8>),
 }
 
-/// The call for a message; a list is cut short.
+/// The call for a message; a list or a journal is cut short.
 impl fmt::Display for Call {
     fn fmt(&self, f: &mut fmt::Formatter) -> fmt::Result {
         match self {
@@ -32,22 +38,44 @@ impl fmt::Display for Call {
                 write!(f, "list of {} bytes, {}", list.len(), front.escape_ascii())
             }
             Call::WriteSheet(length) => write!(f, "sheet into {length} bytes"),
+            Call::StartJournal(slice) => write!(f, "journal into {} bytes", slice.len()),
+            Call::Record(entry, slice, length) => {
+                let front = &slice[..slice.len().min(40)];
+                write!(f, "{entry:?} after {length} of {}, {front:?}", slice.len())
+            }
+            Call::Replay(journal) => {
+                let front = &journal[..journal.len().min(40)];
+                write!(f, "replay of {} bytes, {front:?}", journal.len())
+            }
         }
     }
 }
 
-/// The answer to a call: the number, and the cells of the result slice.
+/// The answer to a call: the number, the cells of the result slice, and the bytes of the output or
+/// the journal afterwards.
 pub struct Answer {
     pub number: u16,
     pub results: Vec<usize>,
+    pub output: Vec<u8>,
+}
+
+impl Call {
+    /// The output lent to the call: a sheet's, of any content, or the slice of a journal.
+    pub fn output(&self, random: &mut Random) -> Vec<u8> {
+        match self {
+            Call::WriteSheet(length) => (0..*length).map(|_| random.byte()).collect(),
+            Call::StartJournal(slice) | Call::Record(_, slice, _) => slice.clone(),
+            _ => Vec::new(),
+        }
+    }
 }
 
 impl Answer {
-    /// Whether the call is to leave everything as it was. A list refused at a later row leaves the
-    /// plan of the rows before.
+    /// Whether the call is to leave everything as it was. A list or a journal refused at a later row
+    /// or field leaves the plan of those before.
     fn changes_nothing(&self, call: &Call) -> bool {
         match call {
-            Call::ReadList(_) => self.number != ACCEPTED && self.results[0] < 2,
+            Call::ReadList(_) | Call::Replay(_) => self.number != ACCEPTED && self.results[0] < 2,
             _ => self.number != ACCEPTED,
         }
     }
@@ -66,7 +94,7 @@ impl Pair {
         let mut random = Random::new(seed);
         let spare_tally: Vec<u16> = (0..random.below(3)).map(|_| random.draw() as u16).collect();
         let tally = [&tally_cells(&model)[..], &spare_tally].concat();
-        let result = vec![0; random.between(2, 5)];
+        let result = vec![0; random.between(3, 6)];
         Pair {
             slices: Slices::new(&model, &tally, &result),
             model,
@@ -78,20 +106,21 @@ impl Pair {
     pub fn call(&mut self, call: &Call) -> Answer {
         self.scatter_result();
         let before = self.slices.clone();
-        let mut output = Guarded::new(&self.output(call), 0xC5);
-        let mut model_output = output.content().to_vec();
+        let lent = call.output(&mut self.random);
+        let mut output = Guarded::new(&lent, 0xC5);
         let number = make(call, &mut self.slices, output.lend());
-        let wanted = self.model_answer(call, &mut model_output);
+        let wanted = self.model_answer(call, lent.clone());
         let about = |what: &str| {
             let n = self.model.tally.banks;
             format!("{call}, at {n} banks: {what}")
         };
         assert_eq!(number, wanted.number, "{}", about("number"));
-        assert_same(output.content(), &model_output, &|| about("output"));
+        assert_same(output.content(), &wanted.output, &|| about("output"));
         assert!(output.guards_stand(), "{}", about("guards of the output"));
         self.compare(&wanted.results, &before, &about);
         if wanted.changes_nothing(call) {
             self.nothing_changed(&before, &about);
+            assert_same(output.content(), &lent, &|| about("output"));
         }
         wanted
     }
@@ -135,17 +164,8 @@ impl Pair {
         }
     }
 
-    /// The output lent to a call, of any content.
-    fn output(&mut self, call: &Call) -> Vec<u8> {
-        let length = match call {
-            Call::WriteSheet(length) => *length,
-            _ => 0,
-        };
-        (0..length).map(|_| self.random.byte()).collect()
-    }
-
     /// Makes the call on the model.
-    fn model_answer(&mut self, call: &Call, output: &mut [u8]) -> Answer {
+    fn model_answer(&mut self, call: &Call, mut output: Vec<u8>) -> Answer {
         let model = &mut self.model;
         let (number, results) = match call {
             Call::Open(n) => (model.open(*n), vec![]),
@@ -172,11 +192,28 @@ impl Pair {
                 (answer.number, vec![answer.row])
             }
             Call::WriteSheet(_) => {
-                let answer = model.write_sheet(output);
+                let answer = model.write_sheet(&mut output);
                 (answer.number, vec![answer.length])
             }
+            Call::StartJournal(_) => {
+                let answer = model.start_journal(&mut output);
+                (answer.number, vec![answer.length])
+            }
+            Call::Record(entry, _, length) => {
+                let answer = model.record(*entry, &mut output, *length);
+                let results = vec![answer.moved, answer.trail, answer.length];
+                (answer.number, results)
+            }
+            Call::Replay(journal) => {
+                let answer = model.replay(journal);
+                (answer.number, vec![answer.field, answer.left])
+            }
         };
-        Answer { number, results }
+        Answer {
+            number,
+            results,
+            output,
+        }
     }
 }
 
@@ -191,6 +228,12 @@ pub fn make(call: &Call, slices: &mut Slices, output: &mut [u8]) -> u16 {
         Call::ClashesOf(b) => lent.clashes_of(*b),
         Call::ReadList(list) => lent.read_list(list),
         Call::WriteSheet(_) => lent.write_sheet(output),
+        Call::StartJournal(_) => lent.start_journal(output),
+        Call::Record(entry, _, length) => match entry.edit {
+            Edit::Add => lent.add_recorded(entry.a, entry.b, output, *length),
+            Edit::Strike => lent.strike_recorded(entry.a, entry.b, output, *length),
+        },
+        Call::Replay(journal) => lent.replay(journal),
     }
 }
 

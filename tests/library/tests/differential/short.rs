@@ -5,8 +5,10 @@ use crate::guarded::{assert_same, Guarded, Slices};
 use crate::pair::{make, tally_cells, Call};
 use crate::plans::memory_of;
 use independent::graph::Graph;
+use independent::journal::{journal_of, Entry};
 use independent::memory::Memory;
 use independent::random::Random;
+use independent::reach::Edit;
 
 #[test]
 fn short_tally_or_result() {
@@ -18,6 +20,10 @@ fn short_tally_or_result() {
     no_plan.waves[0] += 1;
     let mut no_room = whole.clone();
     no_room.degrees.clear();
+    let entry = |edit| Entry { edit, a: 0, b: 2 };
+    let (add, strike) = (entry(Edit::Add), entry(Edit::Strike));
+    let mut journal = journal_of(4, &[]);
+    journal.resize(20, b'#');
     let calls = [
         (Call::Open(4), 0),
         (Call::Open(2000), 0),
@@ -35,6 +41,13 @@ fn short_tally_or_result() {
         (Call::ReadList(vec![b' '; 60_001]), 1),
         (Call::WriteSheet(100), 1),
         (Call::WriteSheet(0), 1),
+        (Call::StartJournal(vec![b'#'; 30]), 1),
+        (Call::StartJournal(vec![]), 1),
+        (Call::Record(add, journal.clone(), 5), 3),
+        (Call::Record(add, journal.clone(), 4), 3),
+        (Call::Record(strike, journal.clone(), 70_000), 3),
+        (Call::Replay(journal.clone()), 2),
+        (Call::Replay(vec![]), 2),
     ];
     for memory in [&whole, &too_many_banks, &no_plan, &no_room] {
         for (call, results) in &calls {
@@ -55,11 +68,8 @@ fn refused(memory: &Memory, call: &Call, tally: usize, result: usize) {
     cells.resize(tally, 7);
     let mut slices = Slices::new(memory, &cells, &vec![7777; result]);
     let before = slices.clone();
-    let length = match call {
-        Call::WriteSheet(length) => *length,
-        _ => 0,
-    };
-    let mut output = Guarded::new(&vec![b'#'; length], b'!');
+    let lent = call.output(&mut Random::new(96));
+    let mut output = Guarded::new(&lent, b'!');
     let about = || format!("{call}, tally of {tally} cells, result of {result}");
     let number = make(call, &mut slices, output.lend());
     assert_eq!(number, 2, "{}", about());
@@ -69,6 +79,6 @@ fn refused(memory: &Memory, call: &Call, tally: usize, result: usize) {
         });
         assert!(slice.guards_stand(), "{}: {name}", about());
     }
-    let untouched = output.content().iter().all(|&byte| byte == b'#');
+    let untouched = output.content() == lent;
     assert!(untouched && output.guards_stand(), "{}: output", about());
 }

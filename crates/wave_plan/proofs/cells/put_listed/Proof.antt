@@ -17,7 +17,7 @@ same-length-2 : tie.Need-same-length-2
 same-length-2 c = search needs
 
 returns : tie.Need-returns
-returns c = record { number = refl; row = c .before .before .put-one .ensures; after = c .before .before .before .before .before .before .before .put-tally .ensures }
+returns c = record { answered = refl; tallied = c .before .before .before .before .before .before .before .put-tally .ensures; told = c .before .before .put-one .ensures }
 
 pub put-listed-spec : {M : Type 1} → statement M
 put-listed-spec =

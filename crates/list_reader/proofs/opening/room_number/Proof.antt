@@ -1,9 +1,9 @@
 -- `room_number` meets its contract, test by test.
-use Rattle.list_reader.proofs.Opening.{room-many, room-trail, room-moved, room-none}
+use Rattle.list_reader.proofs.Beginning.{room-many, room-trail, room-moved, room-none}
 use borrow.Author.Needs.{needs}
 use native.Mathlib.Omega.{arith}
-use Rattle.list_reader.proofs.pass.room_number.Statement.{statement}
-use Rattle.list_reader.proofs.pass.room_number.Tie as tie
+use Rattle.list_reader.proofs.opening.room_number.Statement.{statement}
+use Rattle.list_reader.proofs.opening.room_number.Tie as tie
 
 wide-requires : tie.Need-wide-requires
 wide-requires c κs = search needs

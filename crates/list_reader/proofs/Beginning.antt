@@ -12,6 +12,7 @@ use lib.ListN.{length, take, drop}
 use lib.Seq.{take-nil}
 use borrow.Author.Tests.{le-leb, lt-leb, leb-true}
 use Rattle.rule.specs.Graph.{Graph, empty}
+use Rattle.memory.specs.declared.Tally.{Tally}
 use Rattle.memory.specs.Plan.{Slices, longEnough}
 use Rattle.planner.specs.declared.Opened.{Opened}
 use Rattle.planner.specs.Questions.{firstNo}
@@ -26,7 +27,7 @@ use Rattle.list_rows.specs.Inner.{Finds}
 use Rattle.list_rows.proofs.Theorems.{rows-at}
 use Rattle.list_rows.proofs.row.Row.{the-type}
 use Rattle.list_reader.specs.Pass.{ListResult, listResult, reading, pass, begin, beginNumber, beginBy, fromFirst, fromRows, readList}
-use Rattle.list_reader.specs.Steps.{at, roomNumber}
+use Rattle.list_reader.specs.Steps.{at, Stands, OpensAll, roomNumber}
 
 -- question 1
 pub too-long : (list : List ℕ) (m : Memory) → 60000 < length list → listResult (reading 9 0) m ≡ readList list m
@@ -131,46 +132,53 @@ module _ (n : ℕ) (m : Memory) where
 abbrev after : Memory → OpenResult → Memory
 after m p = record { slices = p .slices; tally = p .tally; trail = m .trail; moved = m .moved }
 
-module _ (n : ℕ) (rs : List (List ℕ)) (m : Memory) where
+module _ (n : ℕ) (m : Memory) where
+  -- trail or moved is too short, or there are too many banks
+  pub room-refused : (r : Opened) → r .number ≡ roomNumber n (length (m .trail)) (length (m .moved)) → (r .number ≡ 0 → ⊥) → r .tally ≡ m .tally
+      → OpensAll n m r (after m (openResult (r .number) (m .slices) (r .tally)))
+  room-refused r e z t = record {
+    number = e ∙ sym (number-no n m (λ q. z (e ∙ q)));
+    refused = λ f. ap (λ (x : Tally). after m (openResult (r .number) (m .slices) x)) t;
+    opened = λ q. absurd (z q);
+  }
+
+  by-opening : (k : ℕ) (p : OpenResult) → p ≡ openedBy k n (m .slices) (m .tally) → (p .number ≡ k) × ((k ≡ 0 → ⊥) → after m p ≡ m) × (k ≡ 0 → after m p ≡ begin n m .memory)
+  unfolding openedBy begin
+  by-opening zero p q = (ap (λ (x : OpenResult). x .number) q, λ f. absurd (f refl), λ z. ap (after m) q)
+  by-opening (suc c) p q = (ap (λ (x : OpenResult). x .number) q, λ f. ap (after m) q, λ z. absurd (omega arith))
+
+  -- they are long enough: what opening the four plan slices does
+  pub room-opened : (k : ℕ) → k ≡ roomNumber n (length (m .trail)) (length (m .moved)) → k ≡ 0 → (r : Opened) (s′ : Slices)
+      → openResult (r .number) s′ (r .tally) ≡ opened n (m .slices) (m .tally) → OpensAll n m r (after m (openResult (r .number) s′ (r .tally)))
+  unfolding opened begin
+  room-opened k room none r s′ o =
+      let b = by-opening (openNumber n (m .slices)) (openResult (r .number) s′ (r .tally)) o in
+      let p = room-yes n (length (m .trail)) (length (m .moved)) (sym room ∙ none) in
+      record {
+        number = b .0 ∙ sym (number-rest n m (sym room ∙ none));
+        refused = λ f. b .1 (λ q. f (b .0 ∙ q));
+        opened = λ q. record {
+          memory = b .2 (sym (b .0) ∙ q);
+          ready = record { plan = opened-plan n (m .slices) (m .tally) (rw q at o); trailRoom = p .0; movedRoom = p .1 };
+        };
+      }
+
+-- the first row, by what opening did
+module _ (n : ℕ) (rs : List (List ℕ)) (m : Memory) (r : Opened) (m′ : Memory) (o : OpensAll n m r m′) where
   refused-by : (k : ℕ) → (k ≡ 0 → ⊥) → listResult (reading k 1) m ≡ beginBy k n rs m
   unfolding beginBy
   refused-by zero z = absurd (z refl)
   refused-by (suc c) z = refl
 
-  -- what opening left, by its number
-  refused-open : (k : ℕ) (p : OpenResult) → p ≡ openedBy k n (m .slices) (m .tally) → (p .number ≡ 0 → ⊥) → listResult (reading (p .number) 1) (after m p) ≡ beginBy k n rs m
-  unfolding openedBy beginBy
-  refused-open zero p q z = absurd (z (ap (λ (x : OpenResult). x .number) q))
-  refused-open (suc c) p q z = ap (λ (x : OpenResult). listResult (reading (x .number) 1) (after m x)) q
+  opened-by : (k : ℕ) → k ≡ 0 → pass 2 rs (begin n m) ≡ beginBy k n rs m
+  unfolding beginBy
+  opened-by zero z = refl
+  opened-by (suc c) z = absurd (omega arith)
 
-  open-done : (k : ℕ) (p : OpenResult) → p ≡ openedBy k n (m .slices) (m .tally) → p .number ≡ 0 → pass 2 rs (at (empty n) (after m p)) ≡ beginBy k n rs m
-  unfolding openedBy beginBy begin
-  open-done zero p q z = ap (λ (x : OpenResult). pass 2 rs (at (empty n) (after m x))) q
-  open-done (suc c) p q z = absurd (omega (arith, ap (λ (x : OpenResult). x .number) q))
+  pub begin-refused : (r .number ≡ 0 → ⊥) → listResult (reading (r .number) 1) m′ ≡ beginBy (beginNumber n m) n rs m
+  begin-refused z = ap (listResult (reading (r .number) 1)) (o .refused z) ∙ refused-by (r .number) z ∙ ap (λ (k : ℕ). beginBy k n rs m) (o .number)
 
-  module _ (k : ℕ) (room : k ≡ roomNumber n (length (m .trail)) (length (m .moved))) where
-    pub begin-refused : (k ≡ 0 → ⊥) → listResult (reading k 1) m ≡ beginBy (beginNumber n m) n rs m
-    begin-refused z =
-        let some : roomNumber n (length (m .trail)) (length (m .moved)) ≡ 0 → ⊥ = λ q. z (room ∙ q) in
-        refused-by k z ∙ ap (λ (x : ℕ). beginBy x n rs m) (room ∙ sym (number-no n m some))
-
-    module _ (zero : k ≡ 0) (r : Opened) (s′ : Slices) (o : openResult (r .number) s′ (r .tally) ≡ opened n (m .slices) (m .tally)) where
-      as-open : beginBy (openNumber n (m .slices)) n rs m ≡ beginBy (beginNumber n m) n rs m
-      as-open = ap (λ (x : ℕ). beginBy x n rs m) (sym (number-rest n m (sym room ∙ zero)))
-
-      by-opening : openResult (r .number) s′ (r .tally) ≡ openedBy (openNumber n (m .slices)) n (m .slices) (m .tally)
-      unfolding opened
-      by-opening = o
-
-      pub open-refused : (r .number ≡ 0 → ⊥) → listResult (reading (r .number) 1) (after m (openResult (r .number) s′ (r .tally))) ≡ beginBy (beginNumber n m) n rs m
-      open-refused z = refused-open (openNumber n (m .slices)) (openResult (r .number) s′ (r .tally)) by-opening z ∙ as-open
-
-      pub open-ready : r .number ≡ 0 → Ready (empty n) (after m (openResult (r .number) s′ (r .tally)))
-      open-ready z =
-          let p = room-yes n (length (m .trail)) (length (m .moved)) (sym room ∙ zero) in
-          record { plan = opened-plan n (m .slices) (m .tally) (rw z at o); trailRoom = p .0; movedRoom = p .1 }
-
-      pub open-passed : r .number ≡ 0 → (e : ListResult) → ((G : Graph) → Ready G (after m (openResult (r .number) s′ (r .tally)))
-          → e ≡ pass 2 rs (at G (after m (openResult (r .number) s′ (r .tally))))) → e ≡ beginBy (beginNumber n m) n rs m
-      open-passed z e f =
-          f (empty n) (open-ready z) ∙ open-done (openNumber n (m .slices)) (openResult (r .number) s′ (r .tally)) by-opening z ∙ as-open
+  pub begin-passed : r .number ≡ 0 → (e : ListResult) → ((G : Graph) → Ready G m′ → e ≡ pass 2 rs (at G m′)) → e ≡ beginBy (beginNumber n m) n rs m
+  begin-passed z e f =
+      let s = o .opened z in
+      f (begin n m .graph) (s .ready) ∙ ap (λ (x : Memory). pass 2 rs (at (begin n m .graph) x)) (s .memory) ∙ opened-by (beginNumber n m) (sym (o .number) ∙ z)

@@ -1,0 +1,10 @@
+-- Theorems: what to cite. The others: its proofs, and laws for the functions' proofs.
+pub mod Adds
+pub mod Starting
+pub mod Recording
+pub mod Turns
+pub mod AddsInTurn
+pub mod Present
+pub mod NewJournals
+pub mod RecordedEdits
+pub mod Theorems

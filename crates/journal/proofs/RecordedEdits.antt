@@ -1,0 +1,273 @@
+-- A journal that replays to the present plan does so after an edit that is recorded.
+use mathlib.Core.Bool.{Bool, true, false, _&&_, _||_, not}
+use mathlib.Core.List.{List, [], _∷_, _++_, append-nil}
+use mathlib.Core.Path.{_≡_, refl, sym, ap, _∙_}
+use Prim.Native.Nat.{ℕ, zero, suc, _+_, _*_, _≤_, _<_}
+use native.Mathlib.Omega.{arith}
+use lib.Dec.{leb, eqb}
+use lib.ListN.{length, take, drop, length-append, length-drop, take-append-drop, List·getD-append}
+use lib.Seq.{take-at, take-append-add, take-append-le, drop-append-le, length-take-le}
+use borrow.Author.Tests.{leb-true, eqb-true, not-true}
+use Rattle.rule.specs.Lists.{memb}
+use Rattle.rule.specs.Graph.{Graph, empty, pair}
+use Rattle.rule.specs.Reach.{Kind, adding, striking, edited}
+use Rattle.rule.proofs.Booleans.{both-true, is-true, is-false}
+use Rattle.rule.proofs.Agree.{degree-agree}
+use Rattle.rule.proofs.Reaches.{Same}
+use Rattle.memory.specs.declared.Tally.{Tally}
+use Rattle.memory.specs.Cells.{over}
+use Rattle.memory.specs.Plan.{Slices, longEnough, graphIn, PlanOf}
+use Rattle.memory.proofs.Agree.{PlanCells, planCells}
+use Rattle.memory.proofs.Theorems.{rows-give-clashes, long}
+use Rattle.memory.proofs.Views.{tally-banks}
+use Rattle.planner.specs.Calls.{Memory, memoryNumber, editNumber}
+use Rattle.planner.specs.Held.{Ready}
+use Rattle.planner.proofs.Numbers.{none, memory-passed, number-ready, add-fine, strike-fine}
+use Rattle.planner.proofs.Outcomes.{acceptable}
+use Rattle.planner.proofs.After.{plan-in}
+use Rattle.planner.proofs.Theorems.{after-plan}
+use Rattle.list_reader.specs.Pass.{begin, beginNumber}
+use Rattle.sheet_writer.specs.Put.{put}
+use Rattle.journal_fields.specs.declared.field.Entry.{Entry}
+use Rattle.journal_fields.specs.Fields.{entryBytes, entriesBytes, hasFirst, banksIn, Fields, fields, areWhole}
+use Rattle.journal_fields.specs.Numbers.{spaceNumber, headNumber, fieldsNumber}
+use Rattle.journal.specs.Calls.{recordNumber, RecordResult, entryFor, recordedAs, recordedBy, recorded}
+use Rattle.journal_replay.specs.Replay.{ReplayResult, replayAnswer, entryNumber, replayed}
+use Rattle.journal_fields.proofs.Numbers.{first-zero, space-room}
+use Rattle.journal_fields.proofs.Entries.{length-entry}
+use Rattle.journal_fields.proofs.Entries.{whole, following, fields-written}
+use Rattle.journal_fields.proofs.Bytes.{first-long, first-same, fields-more}
+use Rattle.journal_replay.proofs.Replaying.{begin-passed, replayFrom, Reads, replay-is}
+use Rattle.journal.proofs.Turns.{no-clashes, entryGraph, graphAfter, NoneRefused, after-banks, after-clashes, after-append, none-append, Ends, enter-passed}
+use Rattle.journal.proofs.Present.{ReplaysTo, reads-ends, ends-same, ends-replay}
+
+-- equal plan cells have equal rows
+front-part : (i k n : ℕ) (l : List ℕ) → i + k ≤ n → n ≤ length l → take k (drop i l) ≡ take k (drop i (take n l))
+front-part i k n l h w =
+    let t = length-take-le n l w in
+    ap (λ (x : List ℕ). take k (drop i x)) (sym (take-append-drop n l))
+    ∙ ap (take k) (drop-append-le i (take n l) (drop n l) (omega arith))
+    ∙ take-append-le k (drop i (take n l)) (drop n l) (omega (arith, length-drop i (take n l)))
+
+same-rows : (n : ℕ) (s s′ : Slices) → planCells n s ≡ planCells n s′ → longEnough n s ≡ true → longEnough n s′ ≡ true
+    → (x y : ℕ) → x < n → graphIn n s .clash x y ≡ graphIn n s′ .clash x y
+unfolding graphIn
+same-rows n s s′ e l l′ x y h =
+    ap (memb y) (front-part (23 * x) 23 (23 * n) (s .neighbours) (omega arith) (long n s l .neighbours)
+    ∙ ap (λ (c : PlanCells). take 23 (drop (23 * x) (c .neighbours))) e
+    ∙ sym (front-part (23 * x) 23 (23 * n) (s′ .neighbours) (omega arith) (long n s′ l′ .neighbours)))
+
+-- so two plans with equal cells and tallies have the same clashes
+plans-same : (H G : Graph) (s s′ : Slices) (t : Tally) → PlanOf H s t → PlanOf G s′ t → planCells (t .banks) s ≡ planCells (t .banks) s′ → Same H G
+unfolding graphIn
+plans-same H G s s′ t p q e =
+    let b = tally-banks t H (p .tally) in
+    let b′ = tally-banks t G (q .tally) in
+    record {
+      banks = sym b ∙ b′;
+      clash = λ x y hx hy.
+          sym (rows-give-clashes s t H p x y (omega arith) (omega arith))
+          ∙ same-rows (t .banks) s s′ e (rw b (p .long)) (rw b′ (q .long)) x y (omega arith)
+          ∙ rows-give-clashes s′ t G q x y hx hy;
+    }
+
+-- the same clashes: the same edit is due no refusal, and leaves the same clashes
+module _ {H G : Graph} (q : Same H G) (a b : ℕ) where
+  due-same : (k : Kind) → editNumber k G a b ≡ 0 → editNumber k H a b ≡ 0
+  due-same adding z =
+      let ok = acceptable G a b adding z in
+      add-fine H a b (omega (arith, q .banks, ok .bankA)) (omega (arith, q .banks, ok .bankB)) (ok .differ)
+      (q .clash a b (ok .bankA) (ok .bankB) ∙ is-false (G .clash a b) (ok .allowed))
+      (rw (degree-agree H G (q .banks) (q .clash) a (ok .bankA)) (ok .room .0))
+      (rw (degree-agree H G (q .banks) (q .clash) b (ok .bankB)) (ok .room .1))
+  due-same striking z =
+      let ok = acceptable G a b striking z in
+      strike-fine H a b (omega (arith, q .banks, ok .bankA)) (omega (arith, q .banks, ok .bankB)) (ok .differ)
+      (q .clash a b (ok .bankA) (ok .bankB) ∙ is-true (G .clash a b) (ok .allowed))
+
+  edited-same : (k : Kind) → Same (edited k H a b) (edited k G a b)
+  unfolding edited
+  edited-same adding = record { banks = q .banks; clash = λ x y hx hy. ap (λ (t : Bool). t || pair a b x y) (q .clash x y hx hy) }
+  edited-same striking = record { banks = q .banks; clash = λ x y hx hy. ap (λ (t : Bool). t && not (pair a b x y)) (q .clash x y hx hy) }
+
+-- the entry of an edit
+entry-number : (k : Kind) (a b : ℕ) (G : Graph) → entryNumber (entryFor k a b) G ≡ editNumber k G a b
+unfolding entryNumber entryFor
+entry-number adding a b G = refl
+entry-number striking a b G = refl
+
+entry-graph : (k : Kind) (a b : ℕ) (G : Graph) → entryGraph (entryFor k a b) G ≡ edited k G a b
+unfolding entryGraph entryFor
+entry-graph adding a b G = refl
+entry-graph striking a b G = refl
+
+-- whole fields are those of entries
+are-whole : (f : Fields) → areWhole f ≡ true → f ≡ whole (f .entries)
+unfolding areWhole
+are-whole f e =
+    let p = both-true (not (f .wrong)) (eqb (f .left) 0) e in
+    let w = not-true (f .wrong) (p .0) in
+    let l = eqb-true (f .left) 0 (p .1) in
+    λ i. record { entries = f .entries; wrong = w i; left = l i }
+
+-- a journal of whole fields, and one entry more
+module _ {bytes : List ℕ} {n : ℕ} {es : List Entry} (r : Reads bytes n (whole es)) (e : Entry) (space : length bytes + 7 ≤ 60000) where
+  five : 5 ≤ length bytes
+  five = first-long bytes (r .first)
+
+  same-first : (hasFirst (bytes ++ entryBytes e) ≡ hasFirst bytes) × (banksIn (bytes ++ entryBytes e) ≡ banksIn bytes)
+  same-first =
+      first-same (bytes ++ entryBytes e) bytes (omega (arith, length-append bytes (entryBytes e), five)) five (λ i h.
+      List·getD-append bytes (entryBytes e) 0 i (omega (arith, five)))
+
+  more-reads : Reads (bytes ++ entryBytes e) n (whole (es ++ (e ∷ [])))
+  unfolding entriesBytes
+  more-reads = record {
+    within = omega (arith, length-append bytes (entryBytes e), length-entry e);
+    first = same-first .0 ∙ r .first;
+    banks = same-first .1 ∙ r .banks;
+    fields-are =
+        ap fields (drop-append-le 5 bytes (entryBytes e) five)
+        ∙ fields-more es (drop 5 bytes) (entryBytes e) (r .fields-are)
+        ∙ ap (following es) (ap fields (sym (append-nil (entryBytes e))) ∙ fields-written (e ∷ []));
+  }
+
+-- what the number 0 of a replay says: its plan was opened, and none of its entries was refused
+replay-passed : {bytes : List ℕ} {n : ℕ} {es : List Entry} (m : Memory) → Reads bytes n (whole es) → replayed bytes m .answer .number ≡ 0
+    → (beginNumber n m ≡ 0) × NoneRefused es (empty n)
+unfolding replayFrom begin
+replay-passed {bytes} {n} {es} m r z = by (beginNumber n m) refl (ap (λ (x : ReplayResult). x .answer .number) (sym (replay-is r m)) ∙ z)
+  where
+    by : (c : ℕ) → beginNumber n m ≡ c → replayFrom c n (whole es) m .answer .number ≡ 0 → (beginNumber n m ≡ 0) × NoneRefused es (empty n)
+    by zero e z = (e, enter-passed 2 es false 0 (begin n m) z)
+    by (suc c) e z = absurd (omega arith)
+
+-- a journal of whole fields that replays to the present plan, and the entry of an edit of it
+module _ {bytes : List ℕ} {n : ℕ} {es : List Entry} (r : Reads bytes n (whole es)) (space : length bytes + 7 ≤ 60000)
+    (k : Kind) (G : Graph) (a b : ℕ) (m m₀ : Memory) (ready : Ready G m) (due : editNumber k G a b ≡ 0)
+    (before : ReplaysTo bytes m₀ (m .slices) (m .tally)) where
+  abbrev H : Graph
+  H = graphAfter es (empty n)
+
+  opened : beginNumber n m₀ ≡ 0
+  opened = replay-passed m₀ r (before .number) .0
+
+  passed : NoneRefused es (empty n)
+  passed = replay-passed m₀ r (before .number) .1
+
+  ends-before : Ends (m₀ .slices) H 0 (replayed bytes m₀)
+  ends-before = reads-ends m₀ r opened passed
+
+  plan-before : PlanOf H (replayed bytes m₀ .memory .slices) (m .tally)
+  plan-before =
+      let o = begin-passed n m₀ opened in
+      rw (ends-before .over .slices, ← (before .tally), ends-before .over .tally)
+      (plan-in H (m₀ .slices) (after-clashes es (empty n) passed (no-clashes n (o .0))) (rw (after-banks es (empty n)) (o .1)))
+
+  same-before : Same H G
+  same-before = plans-same H G (replayed bytes m₀ .memory .slices) (m .slices) (m .tally) plan-before (ready .plan) (before .cells)
+
+  abbrev e : Entry
+  e = entryFor k a b
+
+  due-after : NoneRefused (e ∷ []) H
+  due-after = (entry-number k a b H ∙ due-same same-before a b k due, tt)
+
+  entry-ends : Ends (m₀ .slices) (edited k G a b) 0 (replayed (bytes ++ entryBytes e) m₀)
+  unfolding graphAfter
+  entry-ends =
+      let g : graphAfter (es ++ (e ∷ [])) (empty n) ≡ edited k H a b = after-append es (e ∷ []) (empty n) ∙ entry-graph k a b H in
+      ends-same (edited-same same-before a b k)
+      (rw g at (reads-ends m₀ (more-reads r e space) opened (none-append es (e ∷ []) (empty n) passed due-after)))
+
+-- the call: what the number 0 says, and what it leaves
+pub record Passes (k : Kind) (a b : ℕ) (m : Memory) (size : ℕ) (journal : List ℕ) : Type 0 where
+  pub inside : size ≤ length journal
+  pub first : hasFirst (take size journal) ≡ true
+  pub whole-fields : areWhole (fields (drop 5 (take size journal))) ≡ true
+  pub ready : Ready (graphIn (m .tally .banks) (m .slices)) m
+  pub due : editNumber k (graphIn (m .tally .banks) (m .slices)) a b ≡ 0
+  pub space : size + 7 ≤ 60000
+
+module _ (k : Kind) (a b : ℕ) (m : Memory) (size : ℕ) (journal : List ℕ) where
+  head-passed : headNumber size journal ≡ 0 → (size ≤ length journal) × (hasFirst (take size journal) ≡ true)
+  unfolding headNumber
+  head-passed z =
+      let inside = leb size (length journal) && hasFirst (take size journal) in
+      let p = none (leb size 60000) 8 (record { holds = inside; number = 13 } ∷ []) z in
+      let q = both-true (leb size (length journal)) (hasFirst (take size journal)) (none inside 12 [] (p .1) .0) in
+      (leb-true size (length journal) (q .0), q .1)
+
+  fields-passed : fieldsNumber size journal ≡ 0 → areWhole (fields (drop 5 (take size journal))) ≡ true
+  unfolding fieldsNumber
+  fields-passed z = none (areWhole (fields (drop 5 (take size journal)))) 13 [] z .0
+
+  memory-ready : memoryNumber m ≡ 0 → Ready (graphIn (m .tally .banks) (m .slices)) m
+  memory-ready z = let p = memory-passed m z in number-ready m (p .0) (p .1) (p .2)
+
+  record-passed : recordNumber k a b m size journal ≡ 0 → Passes k a b m size journal
+  unfolding recordNumber
+  record-passed z =
+      let p = first-zero (headNumber size journal) _ z in
+      let q = first-zero (memoryNumber m) _ (p .1) in
+      let r = first-zero (fieldsNumber size journal) _ (q .1) in
+      let u = first-zero (editNumber k (graphIn (m .tally .banks) (m .slices)) a b) _ (r .1) in
+      let v = first-zero (spaceNumber (size + 7) journal) [] (u .1) in
+      let h = head-passed (p .0) in
+      record {
+        inside = h .0;
+        first = h .1;
+        whole-fields = fields-passed (r .0);
+        ready = memory-ready (q .0);
+        due = u .0;
+        space = space-room (size + 7) journal (v .0) .1;
+      }
+
+  by-recorded : (c : ℕ) → recordedBy c k a b m size journal .answer .number ≡ 0 → (c ≡ 0) × (recordedBy c k a b m size journal ≡ recordedAs k a b m size journal)
+  unfolding recordedBy
+  by-recorded zero z = (refl, refl)
+  by-recorded (suc c) z = absurd (omega arith)
+
+  -- the bytes left: those before, and the entry's
+  put-bytes : (e : Entry) → size ≤ length journal → take (size + 7) (put (entryBytes e) size journal) ≡ take size journal ++ entryBytes e
+  unfolding put
+  put-bytes e h =
+      let n = length-take-le size journal h in
+      let rest = drop (size + length (entryBytes e)) journal in
+      ap (λ (x : ℕ). take (x + 7) (take size journal ++ (entryBytes e ++ rest))) (sym n)
+      ∙ take-append-add (take size journal) (entryBytes e ++ rest) 7
+      ∙ ap (λ (l : List ℕ). take size journal ++ l) (take-at (entryBytes e) rest 7 (length-entry e))
+
+  -- an edit that is recorded
+  module _ (yes : recorded k a b m size journal .answer .number ≡ 0) (m₀ : Memory) (before : ReplaysTo (take size journal) m₀ (m .slices) (m .tally)) where
+    abbrev after : RecordResult
+    after = recorded k a b m size journal
+
+    abbrev bytes : List ℕ
+    bytes = take (after .answer .length) (after .journal)
+
+    is-as : after ≡ recordedAs k a b m size journal
+    unfolding recorded
+    is-as = by-recorded (recordNumber k a b m size journal) yes .1
+
+    passes : Passes k a b m size journal
+    passes = record-passed (unfold recorded in by-recorded (recordNumber k a b m size journal) yes .0)
+
+    is-bytes : bytes ≡ take size journal ++ entryBytes (entryFor k a b)
+    unfolding recordedAs
+    is-bytes = rw is-as (put-bytes (entryFor k a b) (passes .inside))
+
+    recorded-ends : Ends (m₀ .slices) (edited k (graphIn (m .tally .banks) (m .slices)) a b) 0 (replayed bytes m₀)
+    recorded-ends =
+        let n = length-take-le size journal (passes .inside) in
+        rw is-bytes
+        (entry-ends (record { within = omega (arith, passes .space); first = passes .first; banks = refl; fields-are = are-whole (fields (drop 5 (take size journal))) (passes .whole-fields) })
+        (omega (arith, passes .space)) k (graphIn (m .tally .banks) (m .slices)) a b m m₀ (passes .ready) (passes .due) before)
+
+    pub recorded-answer : replayed bytes m₀ .answer ≡ replayAnswer 0 0 0
+    recorded-answer = recorded-ends .answer
+
+    pub recorded-replays : ReplaysTo bytes m₀ (after .memory .slices) (after .memory .tally)
+    unfolding recordedAs
+    recorded-replays =
+        ends-replay (rw is-as (after-plan k (graphIn (m .tally .banks) (m .slices)) a b m (passes .ready) (passes .due))) recorded-ends

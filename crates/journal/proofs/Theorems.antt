@@ -1,0 +1,48 @@
+-- Theorems on starting a journal and recording in it, each restated: what to cite. Their proofs are in the files beside this one.
+use mathlib.Core.Bool.{true}
+use mathlib.Core.List.{List}
+use mathlib.Core.Path.{_≡_}
+use Prim.Native.Nat.{ℕ, _≤_}
+use lib.ListN.{length, take}
+use Rattle.rule.specs.Graph.{Graph}
+use Rattle.rule.specs.Reach.{Kind}
+use Rattle.memory.specs.declared.Tally.{Tally}
+use Rattle.memory.specs.Plan.{Slices, planIn, tallyOf, graphIn, Clashes}
+use Rattle.planner.specs.Calls.{Memory, allLong}
+use Rattle.journal.specs.Calls.{startBytes, started, RecordResult, recorded}
+use Rattle.journal_replay.specs.Replay.{replayAnswer, replayed}
+use Rattle.journal.proofs.Present.{ReplaysTo}
+use Rattle.journal.proofs.NewJournals as NewJournals
+use Rattle.journal.proofs.RecordedEdits as RecordedEdits
+
+-- 1. a new journal of the clashes of G replays with nothing refused or left over, to the plan of G and its tally
+module _ (G : Graph) (clashes : Clashes G) (m : Memory) (room : allLong (G .banks) m ≡ true) (within : length (startBytes G) ≤ 60000) where
+  pub start-answer : replayed (startBytes G) m .answer ≡ replayAnswer 0 0 0
+  start-answer = NewJournals.start-ends G clashes m room within .answer
+
+  pub start-slices : replayed (startBytes G) m .memory .slices ≡ planIn G (m .slices)
+  start-slices = NewJournals.start-ends G clashes m room within .over .slices
+
+  pub start-tally : replayed (startBytes G) m .memory .tally ≡ tallyOf G
+  start-tally = NewJournals.start-ends G clashes m room within .over .tally
+
+-- and so does the one that the call leaves: to the plan cells and the tally of which it was started
+module _ (s : Slices) (t : Tally) (journal : List ℕ) (yes : started s t journal .answer .number ≡ 0) where
+  pub started-bytes : take (started s t journal .answer .length) (started s t journal .journal) ≡ startBytes (graphIn (t .banks) s)
+  started-bytes = NewJournals.started-bytes s t journal yes
+
+  pub started-replays : (m : Memory) → allLong (t .banks) m ≡ true
+      → ReplaysTo (take (started s t journal .answer .length) (started s t journal .journal)) m s t
+  started-replays = NewJournals.started-replays s t journal yes
+
+-- 2. a journal that replayed with no refusal to the present plan does so after an edit that is recorded, with nothing left over
+module _ (k : Kind) (a b : ℕ) (m : Memory) (size : ℕ) (journal : List ℕ) (yes : recorded k a b m size journal .answer .number ≡ 0)
+    (m₀ : Memory) (before : ReplaysTo (take size journal) m₀ (m .slices) (m .tally)) where
+  abbrev after : RecordResult
+  after = recorded k a b m size journal
+
+  pub recorded-replays : ReplaysTo (take (after .answer .length) (after .journal)) m₀ (after .memory .slices) (after .memory .tally)
+  recorded-replays = RecordedEdits.recorded-replays k a b m size journal yes m₀ before
+
+  pub recorded-answer : replayed (take (after .answer .length) (after .journal)) m₀ .answer ≡ replayAnswer 0 0 0
+  recorded-answer = RecordedEdits.recorded-answer k a b m size journal yes m₀ before

@@ -1,0 +1,22 @@
+use Rattle.journal_fields.proofs.Entries.{length-entry}
+use Rattle.journal.proofs.Recording.{recorded-of}
+use borrow.Author.Needs.{needs}
+use native.Mathlib.Omega.{arith}
+use borrow.Author.Needs.{needs}
+use Rattle.journal.proofs.record.record_entry.Statement.{statement}
+use Rattle.journal.proofs.record.record_entry.Tie as tie
+
+put-entry-requires : tie.Need-put-entry-requires
+put-entry-requires c κs = search needs
+
+cast-t8 : tie.Need-cast-t8
+cast-t8 c = omega (arith, c .before .before .put-entry .ensures .next, length-entry (c .before .before .before .before .before .args .entry), c .before .before .before .before .before .pre .1)
+
+same-length : tie.Need-same-length
+same-length c = search needs
+
+returns : tie.Need-returns
+returns c = recorded-of _ _ _ _ _ _ (c .before .before .put-entry .ensures)
+
+pub record-entry-spec : {M : Type 1} → statement M
+record-entry-spec = tie.close (tie.spec put-entry-requires cast-t8 same-length returns)

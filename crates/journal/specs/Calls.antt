@@ -1,0 +1,101 @@
+-- What starting a journal, and an edit that is recorded, answer and leave, of what they are lent (02, N2).
+use mathlib.Core.List.{List, [], _∷_, _++_, map}
+use Prim.Native.Nat.{ℕ, zero, suc, _+_}
+use lib.Dec.{ltb}
+use lib.ListN.{length}
+use Rattle.rule.specs.Lists.{filter}
+use Rattle.rule.specs.Graph.{Graph, neighbours}
+use Rattle.rule.specs.Reach.{Kind, adding, striking}
+use Rattle.memory.specs.declared.Tally.{Tally}
+use Rattle.memory.specs.Cells.{over}
+use Rattle.memory.specs.Plan.{Slices, graphIn}
+use Rattle.planner.specs.Calls.{Memory, planNumber, memoryNumber, editNumber, accepted}
+use Rattle.list_rows.specs.Rows.{bank}
+use Rattle.sheet_writer.specs.Put.{put}
+use Rattle.journal_fields.specs.declared.field.Entry.{Entry}
+use Rattle.journal_fields.specs.declared.field.Entry.the-variants.{Add, Strike}
+use Rattle.journal.specs.declared.start.Started.{Started}
+use Rattle.journal.specs.declared.record.Recorded.{Recorded}
+use Rattle.journal_fields.specs.Fields.{entryBytes, journalBytes}
+use Rattle.journal_fields.specs.Numbers.{firstOf, spaceNumber, headNumber, fieldsNumber}
+
+-- the clashes of a with those of these banks that are larger, as adds
+unfoldable pub addsOf : ℕ → List ℕ → List Entry
+addsOf a banks = map (λ b. Add (bank a) (bank b)) (filter (ltb a) banks)
+
+-- the clashes of all banks below k with larger ones, the lowest pair first
+unfoldable pub addsBelow : Graph → ℕ → List Entry
+addsBelow G zero = []
+addsBelow G (suc a) = addsBelow G a ++ addsOf a (neighbours G a)
+
+-- a new journal: the first field, then the clashes now listed as adds
+unfoldable pub startBytes : Graph → List ℕ
+startBytes G = journalBytes (G .banks) (addsBelow G (G .banks))
+
+-- questions 3 to 5, then 15
+unfoldable pub startNumber : Slices → Tally → List ℕ → ℕ
+startNumber s t journal = firstOf (planNumber s t ∷ spaceNumber (length (startBytes (graphIn (t .banks) s))) journal ∷ [])
+
+-- what starting leaves
+pub record StartResult : Type 0 where
+  pub answer : Started
+  pub journal : List ℕ
+
+abbrev pub startResult : Started → List ℕ → StartResult
+startResult answer journal = record { answer = answer; journal = journal }
+
+-- by the number of the first no: the bytes at the front, and their length; or the number, and the journal as it was
+unfoldable pub startBy : ℕ → List ℕ → List ℕ → StartResult
+startBy zero bytes journal = startResult (record { number = 0; length = length bytes }) (over bytes journal)
+startBy (suc c) bytes journal = startResult (record { number = suc c; length = 0 }) journal
+
+-- the call that starts a journal
+unfoldable pub started : Slices → Tally → List ℕ → StartResult
+started s t journal = startBy (startNumber s t journal) (startBytes (graphIn (t .banks) s)) journal
+
+-- all questions of an edit that is recorded
+unfoldable pub recordNumber : Kind → ℕ → ℕ → Memory → ℕ → List ℕ → ℕ
+recordNumber k a b m size journal =
+    firstOf
+    (headNumber size journal
+    ∷ memoryNumber m
+    ∷ fieldsNumber size journal
+    ∷ editNumber k (graphIn (m .tally .banks) (m .slices)) a b
+    ∷ spaceNumber (size + 7) journal
+    ∷ [])
+
+-- what it leaves
+pub record RecordResult : Type 0 where
+  pub answer : Recorded
+  pub memory : Memory
+  pub journal : List ℕ
+
+abbrev pub recordResult : Recorded → Memory → List ℕ → RecordResult
+recordResult answer memory journal = record { answer = answer; memory = memory; journal = journal }
+
+-- the answer where it is refused: the number, and 0
+abbrev pub noRecord : ℕ → Recorded
+noRecord c = record { number = c; moved = 0; trail = 0; length = 0 }
+
+-- the entry of an edit
+unfoldable pub entryFor : Kind → ℕ → ℕ → Entry
+entryFor adding a b = Add (bank a) (bank b)
+entryFor striking a b = Strike (bank a) (bank b)
+
+-- accepted: what the edit leaves, and its entry after the last field
+unfoldable pub recordedAs : Kind → ℕ → ℕ → Memory → ℕ → List ℕ → RecordResult
+recordedAs k a b m size journal =
+    let e = accepted k (graphIn (m .tally .banks) (m .slices)) a b m in
+    recordResult
+    (record { number = 0; moved = e .answer .moved; trail = e .answer .trail; length = size + 7 })
+    (e .memory)
+    (put (entryBytes (entryFor k a b)) size journal)
+
+-- by the number of the first no
+unfoldable pub recordedBy : ℕ → Kind → ℕ → ℕ → Memory → ℕ → List ℕ → RecordResult
+recordedBy zero k a b m size journal = recordedAs k a b m size journal
+recordedBy (suc c) k a b m size journal = recordResult (noRecord (suc c)) m journal
+
+-- the calls that make an edit and record it, of a journal of `size` bytes
+unfoldable pub recorded : Kind → ℕ → ℕ → Memory → ℕ → List ℕ → RecordResult
+recorded k a b m size journal = recordedBy (recordNumber k a b m size journal) k a b m size journal

@@ -1,0 +1,79 @@
+// The calls that make an edit and record it, as a caller makes them: the tally is lent, and left as the call leaves it.
+use crate::record::Recorded;
+use crate::record::add_recorded_core;
+use crate::record::strike_recorded_core;
+use memory::Tally;
+use rule::Bank;
+ghost use mathlib.Core.Path.{_≡_};
+ghost use Rattle.rule.specs.Reach.{Kind.adding, Kind.striking};
+ghost use Rattle.planner.specs.Calls.{memoryOf};
+ghost use Rattle.journal.specs.Calls.{recordResult, recorded};
+
+// Adds the clash of a and b to the plan in memory and records it in the journal, whose first `size` bytes are written; or changes nothing and
+// answers the number of the first no with counts and length 0.
+pub fn add_recorded(
+    neighbours: &mut [u16],
+    degrees: &mut [u16],
+    waves: &mut [u16],
+    counts: &mut [u16],
+    trail: &mut [u16],
+    moved: &mut [u16],
+    tally: &mut Tally,
+    a: Bank,
+    b: Bank,
+    journal: &mut [u8],
+    size: usize,
+) -> Recorded
+    ensures { λ r. ⌜ recordResult r (memoryOf (now (neighbours .exit)) (now (degrees .exit)) (now (waves .exit)) (now (counts .exit)) (now (trail .exit)) (now (moved .exit)) (now (tally .exit))) (now (journal .exit)) ≡ recorded adding (a .0) (b .0) (memoryOf (now (neighbours .entry)) (now (degrees .entry)) (now (waves .entry)) (now (counts .entry)) (now (trail .entry)) (now (moved .entry)) (now (tally .entry))) size (now (journal .entry)) ⌝ }
+{
+    let t = *tally;
+    let r = add_recorded_core(
+        neighbours,
+        degrees,
+        waves,
+        counts,
+        trail,
+        moved,
+        t,
+        a,
+        b,
+        journal,
+        size,
+    );
+    *tally = r.tally;
+    r.answer
+}
+
+// Strikes the clash of a and b from the plan in memory and records it, or changes nothing, like add_recorded.
+pub fn strike_recorded(
+    neighbours: &mut [u16],
+    degrees: &mut [u16],
+    waves: &mut [u16],
+    counts: &mut [u16],
+    trail: &mut [u16],
+    moved: &mut [u16],
+    tally: &mut Tally,
+    a: Bank,
+    b: Bank,
+    journal: &mut [u8],
+    size: usize,
+) -> Recorded
+    ensures { λ r. ⌜ recordResult r (memoryOf (now (neighbours .exit)) (now (degrees .exit)) (now (waves .exit)) (now (counts .exit)) (now (trail .exit)) (now (moved .exit)) (now (tally .exit))) (now (journal .exit)) ≡ recorded striking (a .0) (b .0) (memoryOf (now (neighbours .entry)) (now (degrees .entry)) (now (waves .entry)) (now (counts .entry)) (now (trail .entry)) (now (moved .entry)) (now (tally .entry))) size (now (journal .entry)) ⌝ }
+{
+    let t = *tally;
+    let r = strike_recorded_core(
+        neighbours,
+        degrees,
+        waves,
+        counts,
+        trail,
+        moved,
+        t,
+        a,
+        b,
+        journal,
+        size,
+    );
+    *tally = r.tally;
+    r.answer
+}

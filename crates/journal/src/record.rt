@@ -1,0 +1,270 @@
+// The calls that make an edit and record it.
+use journal_fields::ENTRY_BYTES;
+use journal_fields::Entry;
+use journal_fields::FIRST_BYTES;
+use journal_fields::head_number;
+use journal_fields::put_entry;
+use journal_fields::space_number;
+use journal_fields::whole_fields;
+use memory::Tally;
+use planner::Answer;
+use planner::add_held;
+use planner::add_number;
+use planner::check_memory;
+use planner::strike_held;
+use planner::strike_number;
+use rule::Bank;
+ghost use mathlib.Core.Path.{_≡_};
+ghost use Prim.Native.Nat.{_+_, _≤_};
+ghost use lib.ListN.{length};
+ghost use Rattle.rule.specs.Reach.{Kind.adding, Kind.striking};
+ghost use Rattle.planner.specs.Calls.{memoryOf};
+ghost use Rattle.journal.specs.Calls.{noRecord, recordResult, recorded};
+ghost use Rattle.journal.specs.Recording.{Checked, Accepts, RecordedOf};
+
+// The answer of an edit that is recorded: that of the edit, and the journal's new length, at most 60,000.
+pub struct Recorded {
+    pub number: u16,
+    pub moved: u16,
+    pub trail: u16,
+    pub length: u16,
+}
+
+// What it leaves beside its slices.
+pub struct RecordedEdit {
+    pub answer: Recorded,
+    pub tally: Tally,
+}
+
+// The questions about the journal and the memory: 0, or the number of the first no.
+fn check_record(
+    neighbours: &[u16],
+    degrees: &[u16],
+    waves: &[u16],
+    counts: &[u16],
+    trail: &[u16],
+    moved: &[u16],
+    tally: Tally,
+    journal: &[u8],
+    size: usize,
+) -> u16
+    ensures { λ r. ⌜ Checked (memoryOf (now (neighbours .entry)) (now (degrees .entry)) (now (waves .entry)) (now (counts .entry)) (now (trail .entry)) (now (moved .entry)) tally) size (now (journal .entry)) r ⌝ }
+{
+    let head = head_number(journal, size);
+    if head != 0 {
+        return head;
+    }
+    let memory = check_memory(neighbours, degrees, waves, counts, trail, moved, tally);
+    if memory != 0 {
+        return memory;
+    }
+    if !whole_fields(&journal[FIRST_BYTES..size]) {
+        return 14;
+    }
+    0
+}
+
+// All questions of an add that is recorded: 0, or the number of the first no.
+fn check_add(
+    neighbours: &[u16],
+    degrees: &[u16],
+    waves: &[u16],
+    counts: &[u16],
+    trail: &[u16],
+    moved: &[u16],
+    tally: Tally,
+    a: Bank,
+    b: Bank,
+    journal: &[u8],
+    size: usize,
+) -> u16
+    ensures { λ r. ⌜ Accepts adding (a .0) (b .0) (memoryOf (now (neighbours .entry)) (now (degrees .entry)) (now (waves .entry)) (now (counts .entry)) (now (trail .entry)) (now (moved .entry)) tally) size (now (journal .entry)) r ⌝ }
+{
+    let checked = check_record(
+        neighbours,
+        degrees,
+        waves,
+        counts,
+        trail,
+        moved,
+        tally,
+        journal,
+        size,
+    );
+    if checked != 0 {
+        return checked;
+    }
+    let number = add_number(neighbours, degrees, waves, counts, tally, a, b);
+    if number != 0 {
+        return number;
+    }
+    space_number(journal, size + ENTRY_BYTES)
+}
+
+// All questions of a strike that is recorded: 0, or the number of the first no.
+fn check_strike(
+    neighbours: &[u16],
+    degrees: &[u16],
+    waves: &[u16],
+    counts: &[u16],
+    trail: &[u16],
+    moved: &[u16],
+    tally: Tally,
+    a: Bank,
+    b: Bank,
+    journal: &[u8],
+    size: usize,
+) -> u16
+    ensures { λ r. ⌜ Accepts striking (a .0) (b .0) (memoryOf (now (neighbours .entry)) (now (degrees .entry)) (now (waves .entry)) (now (counts .entry)) (now (trail .entry)) (now (moved .entry)) tally) size (now (journal .entry)) r ⌝ }
+{
+    let checked = check_record(
+        neighbours,
+        degrees,
+        waves,
+        counts,
+        trail,
+        moved,
+        tally,
+        journal,
+        size,
+    );
+    if checked != 0 {
+        return checked;
+    }
+    let number = strike_number(neighbours, degrees, waves, counts, tally, a, b);
+    if number != 0 {
+        return number;
+    }
+    space_number(journal, size + ENTRY_BYTES)
+}
+
+// A refused call: the number, counts and length 0, the tally as it was.
+fn refuse(number: u16, tally: Tally) -> RecordedEdit
+    ensures { λ r. ⌜ (r .answer ≡ noRecord number) × (r .tally ≡ tally) ⌝ }
+{
+    RecordedEdit {
+        answer: Recorded {
+            number: number,
+            moved: 0,
+            trail: 0,
+            length: 0,
+        },
+        tally: tally,
+    }
+}
+
+// Writes the entry of an accepted edit after the journal's first `size` bytes. The answer is that of the edit, and the new length.
+fn record_entry(journal: &mut [u8], size: usize, entry: Entry, answer: Answer) -> Recorded
+    requires { ⌜ (size + 7 ≤ length (now journal)) × (size + 7 ≤ 60000) ⌝ }
+    ensures { λ r. ⌜ RecordedOf entry answer size (now (journal .entry)) r (now (journal .exit)) ⌝ }
+{
+    let next = put_entry(journal, size, entry);
+    Recorded {
+        number: 0,
+        moved: answer.moved,
+        trail: answer.trail,
+        length: next as u16,
+    }
+}
+
+// The call add_recorded with the tally by value: the core of `add_recorded`, for programs and other crates.
+pub fn add_recorded_core(
+    neighbours: &mut [u16],
+    degrees: &mut [u16],
+    waves: &mut [u16],
+    counts: &mut [u16],
+    trail: &mut [u16],
+    moved: &mut [u16],
+    tally: Tally,
+    a: Bank,
+    b: Bank,
+    journal: &mut [u8],
+    size: usize,
+) -> RecordedEdit
+    ensures { λ r. ⌜ recordResult (r .answer) (memoryOf (now (neighbours .exit)) (now (degrees .exit)) (now (waves .exit)) (now (counts .exit)) (now (trail .exit)) (now (moved .exit)) (r .tally)) (now (journal .exit)) ≡ recorded adding (a .0) (b .0) (memoryOf (now (neighbours .entry)) (now (degrees .entry)) (now (waves .entry)) (now (counts .entry)) (now (trail .entry)) (now (moved .entry)) tally) size (now (journal .entry)) ⌝ }
+{
+    let number = check_add(
+        neighbours,
+        degrees,
+        waves,
+        counts,
+        trail,
+        moved,
+        tally,
+        a,
+        b,
+        journal,
+        size,
+    );
+    if number != 0 {
+        return refuse(number, tally);
+    }
+    let done = add_held(
+        neighbours,
+        degrees,
+        waves,
+        counts,
+        trail,
+        moved,
+        tally,
+        a,
+        b,
+    );
+    let after = done.tally;
+    let answer = record_entry(journal, size, Entry::Add(a, b), done.answer);
+    RecordedEdit {
+        answer: answer,
+        tally: after,
+    }
+}
+
+// The call strike_recorded with the tally by value: the core of `strike_recorded`, for programs and other crates.
+pub fn strike_recorded_core(
+    neighbours: &mut [u16],
+    degrees: &mut [u16],
+    waves: &mut [u16],
+    counts: &mut [u16],
+    trail: &mut [u16],
+    moved: &mut [u16],
+    tally: Tally,
+    a: Bank,
+    b: Bank,
+    journal: &mut [u8],
+    size: usize,
+) -> RecordedEdit
+    ensures { λ r. ⌜ recordResult (r .answer) (memoryOf (now (neighbours .exit)) (now (degrees .exit)) (now (waves .exit)) (now (counts .exit)) (now (trail .exit)) (now (moved .exit)) (r .tally)) (now (journal .exit)) ≡ recorded striking (a .0) (b .0) (memoryOf (now (neighbours .entry)) (now (degrees .entry)) (now (waves .entry)) (now (counts .entry)) (now (trail .entry)) (now (moved .entry)) tally) size (now (journal .entry)) ⌝ }
+{
+    let number = check_strike(
+        neighbours,
+        degrees,
+        waves,
+        counts,
+        trail,
+        moved,
+        tally,
+        a,
+        b,
+        journal,
+        size,
+    );
+    if number != 0 {
+        return refuse(number, tally);
+    }
+    let done = strike_held(
+        neighbours,
+        degrees,
+        waves,
+        counts,
+        trail,
+        moved,
+        tally,
+        a,
+        b,
+    );
+    let after = done.tally;
+    let answer = record_entry(journal, size, Entry::Strike(a, b), done.answer);
+    RecordedEdit {
+        answer: answer,
+        tally: after,
+    }
+}

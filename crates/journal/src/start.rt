@@ -1,0 +1,152 @@
+// The call that starts a journal.
+use journal_fields::ENTRY_BYTES;
+use journal_fields::Entry;
+use journal_fields::FIRST_BYTES;
+use journal_fields::put_entry;
+use journal_fields::put_first;
+use journal_fields::space_number;
+use memory::Tally;
+use planner::check_plan;
+use planner::clashes_held;
+use rule::Bank;
+ghost use mathlib.Core.List.{[], _∷_};
+ghost use mathlib.Core.Path.{_≡_};
+ghost use Prim.Native.Nat.{_+_, _*_, _≤_};
+ghost use lib.ListN.{length};
+ghost use Rattle.rule.specs.Graph.{Graph};
+ghost use Rattle.memory.specs.Plan.{slicesOf, PlanOf};
+ghost use Rattle.sheet_writer.specs.Put.{Puts};
+ghost use Rattle.journal_fields.specs.Fields.{entriesBytes};
+ghost use Rattle.journal.specs.Calls.{addsOf, addsBelow, startResult, started};
+
+// The answer of start_journal: the number, and the journal's length, at most 60,000.
+pub struct Started {
+    pub number: u16,
+    pub length: u16,
+}
+
+// How many of these banks are larger than a.
+fn count_larger(row: &[u16], a: Bank) -> usize
+    ensures { λ r. ⌜ (r ≡ length (addsOf (a .0) (now (row .entry)))) × (r ≤ length (now (row .entry))) ⌝ }
+{
+    let mut count = 0;
+    let mut i = 0;
+    while i < row.len() {
+        count += larger(a, Bank(row[i]));
+        i += 1;
+    }
+    count
+}
+
+// 1 if b is larger than a, else 0.
+fn larger(a: Bank, b: Bank) -> usize
+    ensures { λ r. ⌜ (r ≡ length (addsOf (a .0) (b .0 ∷ []))) × (r ≤ 1) ⌝ }
+{
+    if b.0 <= a.0 {
+        return 0;
+    }
+    1
+}
+
+// The number of clashes of a plan, each counted at its smaller bank.
+fn count_adds(
+    neighbours: &[u16],
+    degrees: &[u16],
+    waves: &[u16],
+    counts: &[u16],
+    tally: Tally,
+) -> usize
+    requires { ⌜ ((G : Graph) × PlanOf G (slicesOf (now neighbours) (now degrees) (now waves) (now counts)) tally) ⌝ }
+    ensures { λ r. ⌜ ((G : Graph) → PlanOf G (slicesOf (now (neighbours .entry)) (now (degrees .entry)) (now (waves .entry)) (now (counts .entry))) tally → (r ≡ length (addsBelow G (G .banks))) × (r ≤ 23552)) ⌝ }
+{
+    let mut count = 0;
+    let mut a: u16 = 0;
+    while a < tally.banks {
+        let row = clashes_held(neighbours, degrees, waves, counts, tally, Bank(a));
+        count += count_larger(row, Bank(a));
+        a += 1;
+    }
+    count
+}
+
+// Writes the clash of a and b as an add at `at`, if b is larger, and answers the place after it.
+fn put_add(journal: &mut [u8], at: usize, a: Bank, b: Bank) -> usize
+    requires { ⌜ at + length (entriesBytes (addsOf (a .0) (b .0 ∷ []))) ≤ length (now journal) ⌝ }
+    ensures { λ r. ⌜ Puts (entriesBytes (addsOf (a .0) (b .0 ∷ []))) at (now (journal .entry)) r (now (journal .exit)) ⌝ }
+{
+    if b.0 <= a.0 {
+        return at;
+    }
+    put_entry(journal, at, Entry::Add(a, b))
+}
+
+// Writes the clashes of a with the larger of these banks as adds at `at`, and answers the place after them.
+fn put_adds_of(journal: &mut [u8], at: usize, row: &[u16], a: Bank) -> usize
+    requires { ⌜ at + length (entriesBytes (addsOf (a .0) (now row))) ≤ length (now journal) ⌝ }
+    ensures { λ r. ⌜ Puts (entriesBytes (addsOf (a .0) (now (row .entry)))) at (now (journal .entry)) r (now (journal .exit)) ⌝ }
+{
+    let mut next = at;
+    let mut i = 0;
+    while i < row.len() {
+        next = put_add(journal, next, a, Bank(row[i]));
+        i += 1;
+    }
+    next
+}
+
+// Writes the clashes of a plan as adds at `at`, the lowest pair first.
+fn put_adds(
+    journal: &mut [u8],
+    at: usize,
+    neighbours: &[u16],
+    degrees: &[u16],
+    waves: &[u16],
+    counts: &[u16],
+    tally: Tally,
+) -> usize
+    requires { ⌜ ((G : Graph) × PlanOf G (slicesOf (now neighbours) (now degrees) (now waves) (now counts)) tally × (at + length (entriesBytes (addsBelow G (G .banks))) ≤ length (now journal))) ⌝ }
+    ensures { λ r. ⌜ ((G : Graph) → PlanOf G (slicesOf (now (neighbours .entry)) (now (degrees .entry)) (now (waves .entry)) (now (counts .entry))) tally → at + length (entriesBytes (addsBelow G (G .banks))) ≤ length (now (journal .entry)) → Puts (entriesBytes (addsBelow G (G .banks))) at (now (journal .entry)) r (now (journal .exit))) ⌝ }
+{
+    let mut next = at;
+    let mut a: u16 = 0;
+    while a < tally.banks {
+        let row = clashes_held(neighbours, degrees, waves, counts, tally, Bank(a));
+        next = put_adds_of(journal, next, row, Bank(a));
+        a += 1;
+    }
+    next
+}
+
+// Starts a journal: writes its first field and the clashes now listed to the front of `journal`.
+pub fn start_journal(
+    neighbours: &[u16],
+    degrees: &[u16],
+    waves: &[u16],
+    counts: &[u16],
+    tally: Tally,
+    journal: &mut [u8],
+) -> Started
+    ensures { λ r. ⌜ startResult r (now (journal .exit)) ≡ started (slicesOf (now (neighbours .entry)) (now (degrees .entry)) (now (waves .entry)) (now (counts .entry))) tally (now (journal .entry)) ⌝ }
+{
+    let number = check_plan(neighbours, degrees, waves, counts, tally);
+    if number != 0 {
+        return Started {
+            number: number,
+            length: 0,
+        };
+    }
+    let size = FIRST_BYTES + ENTRY_BYTES * count_adds(neighbours, degrees, waves, counts, tally);
+    let space = space_number(journal, size);
+    if space != 0 {
+        return Started {
+            number: space,
+            length: 0,
+        };
+    }
+    let next = put_first(journal, tally.banks);
+    put_adds(journal, next, neighbours, degrees, waves, counts, tally);
+    Started {
+        number: 0,
+        length: size as u16,
+    }
+}

@@ -1,0 +1,79 @@
+-- The numbers of the questions about a journal, answer by answer.
+use mathlib.Core.Bool.{Bool, true, false, cond, _&&_}
+use mathlib.Core.List.{List, [], _∷_}
+use mathlib.Core.Path.{_≡_, refl, sym, ap, _∙_}
+use Prim.Native.Nat.{ℕ, zero, suc, _-_, _≤_, _<_}
+use native.Mathlib.Omega.{arith}
+use lib.Dec.{leb}
+use lib.ListN.{length, take}
+use borrow.Author.Tests.{le-leb, lt-leb, leb-true}
+use Rattle.rule.proofs.Booleans.{both-true}
+use Rattle.planner.specs.Questions.{firstNo}
+use Rattle.journal_fields.specs.Fields.{hasFirst}
+use Rattle.journal_fields.specs.Numbers.{firstOf, spaceNumber, headNumber}
+
+-- the first number that is not 0
+pub first-none : (c : ℕ) (cs : List ℕ) → c ≡ 0 → firstOf (c ∷ cs) ≡ firstOf cs
+unfolding firstOf
+first-none zero cs z = refl
+first-none (suc c) cs z = absurd (omega arith)
+
+pub first-some : (c : ℕ) (cs : List ℕ) → (c ≡ 0 → ⊥) → firstOf (c ∷ cs) ≡ c
+unfolding firstOf
+first-some zero cs z = absurd (z refl)
+first-some (suc c) cs z = refl
+
+pub first-last : (c : ℕ) → firstOf (c ∷ []) ≡ c
+unfolding firstOf
+first-last zero = refl
+first-last (suc c) = refl
+
+pub first-zero : (c : ℕ) (cs : List ℕ) → firstOf (c ∷ cs) ≡ 0 → (c ≡ 0) × (firstOf cs ≡ 0)
+unfolding firstOf
+first-zero zero cs z = (refl, z)
+first-zero (suc c) cs z = absurd (omega arith)
+
+-- the answer to the last question is yes if it does not refuse
+pub yes : (q : Bool) (c : ℕ) → _≡_ {A = ℕ} (cond q 0 (suc c)) 0 → q ≡ true
+yes true c z = refl
+yes false c z = absurd (omega arith)
+
+module _ (size : ℕ) (journal : List ℕ) where
+  -- space for `size` bytes
+  pub space-slice : length journal < size → 15 ≡ spaceNumber size journal
+  unfolding spaceNumber firstNo
+  space-slice h = rw (lt-leb size (length journal) h)
+
+  pub space-most : size ≤ length journal → 60000 < size → 15 ≡ spaceNumber size journal
+  unfolding spaceNumber firstNo
+  space-most h k = rw (le-leb size (length journal) h, lt-leb size 60000 k)
+
+  pub space-yes : size ≤ length journal → size ≤ 60000 → 0 ≡ spaceNumber size journal
+  unfolding spaceNumber firstNo
+  space-yes h k = rw (le-leb size (length journal) h, le-leb size 60000 k)
+
+  pub space-room : spaceNumber size journal ≡ 0 → (size ≤ length journal) × (size ≤ 60000)
+  unfolding spaceNumber firstNo
+  space-room z =
+      let p = both-true (leb size (length journal)) (leb size 60000) (yes (leb size (length journal) && leb size 60000) 14 z) in
+      (leb-true size (length journal) (p .0), leb-true size 60000 (p .1))
+
+  -- the first bytes
+  whole : hasFirst (take (size - 0) journal) ≡ hasFirst (take size journal)
+  whole = let e : size - 0 ≡ size = omega arith in ap (λ (n : ℕ). hasFirst (take n journal)) e
+
+  pub head-long : 60000 < size → 9 ≡ headNumber size journal
+  unfolding headNumber firstNo
+  head-long h = rw (lt-leb size 60000 h)
+
+  pub head-beyond : size ≤ 60000 → length journal < size → 13 ≡ headNumber size journal
+  unfolding headNumber firstNo
+  head-beyond h k = rw (le-leb size 60000 h, lt-leb size (length journal) k)
+
+  pub head-first : size ≤ 60000 → size ≤ length journal → hasFirst (take (size - 0) journal) ≡ false → 13 ≡ headNumber size journal
+  unfolding headNumber firstNo
+  head-first h k e = rw (le-leb size 60000 h, le-leb size (length journal) k, sym whole ∙ e)
+
+  pub head-yes : size ≤ 60000 → size ≤ length journal → hasFirst (take (size - 0) journal) ≡ true → 0 ≡ headNumber size journal
+  unfolding headNumber firstNo
+  head-yes h k e = rw (le-leb size 60000 h, le-leb size (length journal) k, sym whole ∙ e)

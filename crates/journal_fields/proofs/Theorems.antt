@@ -1,0 +1,39 @@
+-- Theorems on a journal's bytes, each restated: what to cite. Their proofs are in the files beside this one.
+use mathlib.Core.Bool.{true, false}
+use mathlib.Core.List.{List}
+use mathlib.Core.Path.{_≡_}
+use Prim.Native.Nat.{ℕ, _*_, _/_, _%_, _≤_, _<_}
+use lib.ListN.{length, take, drop}
+use Rattle.journal_fields.specs.declared.field.Entry.{Entry}
+use Rattle.journal_fields.specs.Fields.{entriesBytes, journalBytes, hasFirst, banksIn, fields}
+use Rattle.journal_fields.proofs.Entries as Entries
+use Rattle.journal_fields.proofs.Bytes as Bytes
+use Rattle.journal_fields.proofs.Bytes.{AreBytes, AllBelow}
+
+-- 1. a journal that was written reads as its bank count and its entries, with no wrong field and nothing left over
+pub fields-back : (es : List Entry) → fields (entriesBytes es) ≡ record { entries = es; wrong = false; left = 0 }
+fields-back = Entries.fields-written
+
+module _ (n : ℕ) (es : List Entry) where
+  pub journal-first : hasFirst (journalBytes n es) ≡ true
+  journal-first = Bytes.journal-has n es
+
+  pub journal-banks : banksIn (journalBytes n es) ≡ n
+  journal-banks = Bytes.journal-banks n es
+
+  pub journal-fields : fields (drop 5 (journalBytes n es)) ≡ record { entries = es; wrong = false; left = 0 }
+  journal-fields = Bytes.journal-fields n es
+
+  -- numbers below 65,536 are written as bytes,
+  pub journal-bytes : n < 65536 → AllBelow 65536 es → AreBytes (journalBytes n es)
+  journal-bytes = Bytes.journal-bytes n es
+
+  -- and no other bytes read so
+  pub journal-only : (bytes : List ℕ) → AreBytes bytes → hasFirst bytes ≡ true → banksIn bytes ≡ n
+      → fields (drop 5 bytes) ≡ record { entries = es; wrong = false; left = 0 } → bytes ≡ journalBytes n es
+  journal-only bytes = Bytes.journal-only bytes n es
+
+-- 2. cut at byte i after its first field, it reads as its whole fields and the bytes left over
+pub cut-fields : (es : List Entry) (i : ℕ) → i ≤ 7 * length es
+    → fields (take i (entriesBytes es)) ≡ record { entries = take (i / 7) es; wrong = false; left = i % 7 }
+cut-fields = Entries.fields-cut

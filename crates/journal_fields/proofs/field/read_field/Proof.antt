@@ -1,0 +1,30 @@
+-- `read_field` meets its contract, test by test.
+use borrow.Author.Tests.{not-true, not-false}
+use borrow.Author.Needs.{needs}
+use mathlib.Core.Path.{sym, ap, _∙_}
+use Rattle.journal_fields.specs.declared.field.Field.the-variants.{Edit}
+use Rattle.journal_fields.proofs.Forms.{field-head, field-wrong, field-short, field-entry}
+use Rattle.journal_fields.proofs.field.read_field.Statement.{statement}
+use Rattle.journal_fields.proofs.field.read_field.Tie as tie
+
+returns : tie.Need-returns
+returns c = field-head _ (c .if1 .taken)
+
+is-entry-requires : tie.Need-is-entry-requires
+is-entry-requires c κs = search needs
+
+returns-2 : tie.Need-returns-2
+returns-2 c = field-wrong _ (c .before .before .if1 .left) (sym (c .before .is-entry .ensures) ∙ not-true _ (c .if2 .taken))
+
+returns-3 : tie.Need-returns-3
+returns-3 c = field-short _ (c .before .before .before .if1 .left) (sym (c .before .before .is-entry .ensures) ∙ not-false _ (c .before .if2 .left)) (c .if3 .taken)
+
+entry-in-requires : tie.Need-entry-in-requires
+entry-in-requires c κs = search needs
+
+returns-4 : tie.Need-returns-4
+returns-4 c = ap Edit (c .entry-in .ensures) ∙ field-entry _ (c .before .before .before .before .if1 .left) (sym (c .before .before .before .is-entry .ensures) ∙ not-false _ (c .before .before .if2 .left)) (c .before .if3 .left)
+
+pub read-field-spec : {M : Type 1} → statement M
+read-field-spec =
+    tie.close (tie.spec returns is-entry-requires returns-2 returns-3 entry-in-requires returns-4)

@@ -1,0 +1,8 @@
+-- Theorems: what to cite. The others: its proofs, and laws for the functions' proofs.
+pub mod Passing
+pub mod FirstField
+pub mod Replaying
+pub mod Decimals
+pub mod SameEdits
+pub mod Refusals
+pub mod Theorems

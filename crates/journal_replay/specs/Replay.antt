@@ -1,0 +1,72 @@
+-- What a replay answers and leaves, of what it is lent (02, N2).
+use mathlib.Core.Bool.{Bool, true, false, cond}
+use mathlib.Core.List.{List, [], _∷_}
+use Prim.Native.Nat.{ℕ, zero, suc}
+use lib.Dec.{leb, eqb}
+use lib.ListN.{length, drop}
+use Rattle.rule.specs.Graph.{Graph}
+use Rattle.rule.specs.Reach.{adding, striking}
+use Rattle.planner.specs.Questions.{_else_, firstNo}
+use Rattle.planner.specs.Calls.{Memory, allLong, editNumber}
+use Rattle.list_reader.specs.Pass.{State, make, begin}
+use Rattle.journal_fields.specs.declared.field.Entry.{Entry}
+use Rattle.journal_fields.specs.declared.field.Entry.the-variants.{Add, Strike}
+use Rattle.journal_fields.specs.Fields.{hasFirst, banksIn, fields}
+use Rattle.journal_replay.specs.declared.rerun.Replayed.{Replayed}
+
+-- what a replay leaves: the number, the field that got it, the bytes left over, and the memory
+pub record ReplayResult : Type 0 where
+  pub answer : Replayed
+  pub memory : Memory
+
+abbrev pub replayResult : Replayed → Memory → ReplayResult
+replayResult answer memory = record { answer = answer; memory = memory }
+
+abbrev pub replayAnswer : ℕ → ℕ → ℕ → Replayed
+replayAnswer number field left = record { number = number; field = field; left = left }
+
+-- questions 7 to 11 of an entry
+unfoldable pub entryNumber : Entry → Graph → ℕ
+entryNumber (Add a b) G = editNumber adding G (a .0) (b .0)
+entryNumber (Strike a b) G = editNumber striking G (a .0) (b .0)
+
+-- an entry's edit, to which no refusal is due
+unfoldable pub enter : Entry → State → State
+enter (Add a b) s = make adding (a .0) (b .0) s
+enter (Strike a b) s = make striking (a .0) (b .0) s
+
+-- after the last entry: a wrong field i gets 14, else the bytes left over are reported
+unfoldable pub ended : Bool → ℕ → ℕ → Memory → ReplayResult
+ended true i left m = replayResult (replayAnswer 14 i 0) m
+ended false i left m = replayResult (replayAnswer 0 0 left) m
+
+-- by the number of field i: on to the rest, or the refusal
+unfoldable pub enterBy : ℕ → ℕ → State → ReplayResult → ReplayResult
+enterBy zero i s rest = rest
+enterBy (suc c) i s rest = replayResult (replayAnswer (suc c) i 0) (s .memory)
+
+-- the entries from field i on, in turn, and what ends them
+unfoldable pub enterAll : ℕ → List Entry → Bool → ℕ → State → ReplayResult
+enterAll i [] wrong left s = ended wrong i left (s .memory)
+enterAll i (e ∷ es) wrong left s = enterBy (entryNumber e (s .graph)) i s (enterAll (suc i) es wrong left (enter e s))
+
+-- the questions before the entries
+unfoldable pub replayNumber : List ℕ → Memory → ℕ
+replayNumber bytes m =
+    firstNo
+    ((leb (length bytes) 60000 else 9)
+    ∷ (hasFirst bytes else 13)
+    ∷ (leb (banksIn bytes) 1024 else 1)
+    ∷ (allLong (banksIn bytes) m else 2)
+    ∷ [])
+
+-- by their number: open the plan and make the edits in turn, or the number with field 1, and field 0 for 9
+unfoldable pub replayBy : ℕ → List ℕ → Memory → ReplayResult
+replayBy zero bytes m =
+    let f = fields (drop 5 bytes) in
+    enterAll 2 (f .entries) (f .wrong) (f .left) (begin (banksIn bytes) m)
+replayBy (suc c) bytes m = replayResult (replayAnswer (suc c) (cond (eqb (suc c) 9) 0 1) 0) m
+
+-- the call that replays a journal
+unfoldable pub replayed : List ℕ → Memory → ReplayResult
+replayed bytes m = replayBy (replayNumber bytes m) bytes m

@@ -1,0 +1,27 @@
+// The call that replays a journal as a caller makes it: the tally is lent, and left as the call leaves it.
+use crate::rerun::Replayed;
+use crate::rerun::replay_core;
+use memory::Tally;
+ghost use mathlib.Core.Path.{_≡_};
+ghost use Rattle.planner.specs.Calls.{memoryOf};
+ghost use Rattle.journal_replay.specs.Replay.{replayResult, replayed};
+
+// Replays a journal: opens the plan of its first field, then makes the edits of the others. Answers 0 and the bytes left over, or the number
+// of the first no and its field.
+pub fn replay(
+    journal: &[u8],
+    neighbours: &mut [u16],
+    degrees: &mut [u16],
+    waves: &mut [u16],
+    counts: &mut [u16],
+    trail: &mut [u16],
+    moved: &mut [u16],
+    tally: &mut Tally,
+) -> Replayed
+    ensures { λ r. ⌜ replayResult r (memoryOf (now (neighbours .exit)) (now (degrees .exit)) (now (waves .exit)) (now (counts .exit)) (now (trail .exit)) (now (moved .exit)) (now (tally .exit))) ≡ replayed (now (journal .entry)) (memoryOf (now (neighbours .entry)) (now (degrees .entry)) (now (waves .entry)) (now (counts .entry)) (now (trail .entry)) (now (moved .entry)) (now (tally .entry))) ⌝ }
+{
+    let t = *tally;
+    let r = replay_core(journal, neighbours, degrees, waves, counts, trail, moved, t);
+    *tally = r.tally;
+    r.answer
+}

@@ -1,0 +1,44 @@
+use mathlib.Core.Path.{refl}
+use Rattle.list_reader.proofs.Beginning.{room-refused, room-opened}
+use borrow.Author.Needs.{needs}
+use native.Mathlib.Omega.{arith}
+use borrow.Author.Needs.{needs}
+use Rattle.list_reader.proofs.opening.open_all.Statement.{statement}
+use Rattle.list_reader.proofs.opening.open_all.Tie as tie
+
+room-number-requires : tie.Need-room-number-requires
+room-number-requires c κs = search needs
+
+returns : tie.Need-returns
+returns c = room-refused _ _ _ (c .before .room-number .ensures) (c .if1 .taken) refl
+
+open-core-requires : tie.Need-open-core-requires
+open-core-requires c κs = search needs
+
+same-length : tie.Need-same-length
+same-length c = c .before .before .before .before .before .before .before .before .open-core .kept .0
+
+same-length-2 : tie.Need-same-length-2
+same-length-2 c = c .before .before .before .before .before .before .before .before .open-core .kept .1 .0
+
+same-length-3 : tie.Need-same-length-3
+same-length-3 c = c .before .before .before .before .before .before .before .before .open-core .kept .1 .1 .0
+
+same-length-4 : tie.Need-same-length-4
+same-length-4 c = c .before .before .before .before .before .before .before .before .open-core .kept .1 .1 .1 .0
+
+returns-2 : tie.Need-returns-2
+returns-2 c = room-opened _ _ _ (c .before .before .before .before .before .before .before .before .before .before .before .before .before .before .room-number .ensures) (c .before .before .before .before .before .before .before .before .before .before .before .before .before .if1 .left) _ _ (c .before .before .before .before .before .before .before .before .open-core .ensures)
+
+pub open-all-spec : {M : Type 1} → statement M
+open-all-spec =
+    tie.close
+    (tie.spec
+    room-number-requires
+    returns
+    open-core-requires
+    same-length
+    same-length-2
+    same-length-3
+    same-length-4
+    returns-2)

@@ -1,0 +1,76 @@
+-- `wave_plan::wave_plan_replay` meets its contract.
+use borrow.Author.Needs.{needs}
+use Rattle.wave_plan.specs.Journals.{replayCall}
+use Rattle.wave_plan.proofs.Room.{short-tally, short-result}
+use Rattle.wave_plan.proofs.Done.{replay-done}
+use Rattle.wave_plan.proofs.wave_plan_replay.Statement.{statement}
+use Rattle.wave_plan.proofs.wave_plan_replay.Tie as tie
+
+returns : tie.Need-returns
+unfolding replayCall
+returns c = short-tally _ _ _ _ _ (c .if1 .taken)
+
+returns-2 : tie.Need-returns-2
+unfolding replayCall
+returns-2 c = short-result _ _ _ _ _ (c .before .if1 .left) (c .if2 .taken)
+
+tally-in-requires : tie.Need-tally-in-requires
+tally-in-requires c κs = search needs
+
+replay-core-requires : tie.Need-replay-core-requires
+replay-core-requires c κs = search needs
+
+put-replayed-requires : tie.Need-put-replayed-requires
+put-replayed-requires c κs = search needs
+
+same-length : tie.Need-same-length
+same-length c = search needs
+
+same-length-2 : tie.Need-same-length-2
+same-length-2 c = search needs
+
+same-length-3 : tie.Need-same-length-3
+same-length-3 c = search needs
+
+same-length-4 : tie.Need-same-length-4
+same-length-4 c = search needs
+
+same-length-5 : tie.Need-same-length-5
+same-length-5 c = search needs
+
+same-length-6 : tie.Need-same-length-6
+same-length-6 c = search needs
+
+same-length-7 : tie.Need-same-length-7
+same-length-7 c = search needs
+
+same-length-8 : tie.Need-same-length-8
+same-length-8 c = search needs
+
+returns-3 : tie.Need-returns-3
+returns-3 c =
+    replay-done _ _ _ _ _ _ _ _ _ _
+    (c .before .before .before .before .before .before .before .before .before .before .before .before .before .before .before .before .before .before .before .before .before .before .before .before .before .before .before .before .before .if1 .left)
+    (c .before .before .before .before .before .before .before .before .before .before .before .before .before .before .before .before .before .before .before .before .before .before .before .before .before .before .before .before .if2 .left)
+    (c .before .before .before .before .before .before .before .before .before .before .before .before .before .before .before .before .before .before .before .before .before .before .before .before .before .before .tally-in .ensures)
+    (c .before .before .before .before .before .before .before .before .before .before .before .before .before .before .before .before .before .before .before .replay-core .ensures)
+    (c .before .before .before .before .put-replayed .ensures)
+
+pub wave-plan-replay-spec : {M : Type 1} → statement M
+wave-plan-replay-spec =
+    tie.close
+    (tie.spec
+    returns
+    returns-2
+    tally-in-requires
+    replay-core-requires
+    put-replayed-requires
+    same-length
+    same-length-2
+    same-length-3
+    same-length-4
+    same-length-5
+    same-length-6
+    same-length-7
+    same-length-8
+    returns-3)

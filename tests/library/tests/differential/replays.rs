@@ -1,0 +1,154 @@
+//! Replays: every cell after the pass, whether it was accepted or refused, of random journals, cut
+//! and damaged ones, and the list of the same edits.
+
+use crate::pair::{Answer, Call, Pair};
+use crate::plans::{any_memory, slices};
+use crate::{quick, rounds};
+use independent::journal::journal_of;
+use independent::journals::{drawn_entries, random_journal, same_list};
+use independent::random::Random;
+use std::collections::BTreeSet;
+
+/// Replays the journal into memory of any content, as a rule with room for its banks.
+fn replay(random: &mut Random, journal: &[u8]) -> Answer {
+    let n = match journal {
+        [_, _, _, low, high, ..] => usize::from(u16::from_le_bytes([*low, *high])),
+        _ => 4,
+    };
+    let n = if n > 1024 { 4 } else { n };
+    let mut memory = any_memory(random, n);
+    if random.one_in(12) && n > 0 {
+        let slice = random.below(6);
+        slices(&mut memory)[slice].truncate(n - 1);
+    }
+    Pair::new(memory, random.draw()).call(&Call::Replay(journal.to_vec()))
+}
+
+#[test]
+fn random_journals() {
+    let mut random = Random::new(111);
+    let mut numbers = BTreeSet::new();
+    for _ in 0..rounds(1000) {
+        let journal = random_journal(&mut random);
+        numbers.insert(replay(&mut random, &journal).number);
+    }
+    if !quick() {
+        assert_eq!(numbers, BTreeSet::from([0, 1, 2, 4, 5, 6, 7, 8, 13, 14]));
+    }
+}
+
+/// Before the end of the first field 13; after it the whole fields, and the bytes left over.
+#[test]
+fn journals_cut_at_each_byte() {
+    let mut random = Random::new(112);
+    for _ in 0..rounds(8) {
+        let n = random.between(2, 30);
+        let entries = drawn_entries(&mut random, n, 10, 40);
+        let journal = journal_of(n as u16, &entries);
+        for length in 0..=journal.len() {
+            let mut pair = Pair::new(any_memory(&mut random, n), random.draw());
+            let answer = pair.call(&Call::Replay(journal[..length].to_vec()));
+            let wanted = match length.checked_sub(5) {
+                None => (13, vec![1, 0]),
+                Some(after) => (0, vec![0, after % 7]),
+            };
+            assert_eq!((answer.number, answer.results), wanted);
+        }
+    }
+}
+
+/// Each tag but the right ones and each length but the right one, of the first field and of a later
+/// one, the value whole, short, or with bytes after it.
+#[test]
+fn each_wrong_tag_and_length() {
+    let mut random = Random::new(113);
+    let entries = drawn_entries(&mut random, 3, 3, 4);
+    let whole = journal_of(3, &entries);
+    let memory = any_memory(&mut random, 3);
+    let mut refused = |head: &[u8], value: &[u8], number: u16| {
+        let field = if number == 13 { 1 } else { entries.len() + 2 };
+        let before = if number == 13 { &[][..] } else { &whole };
+        let mut pair = Pair::new(memory.clone(), random.draw());
+        let answer = pair.call(&Call::Replay([before, head, value].concat()));
+        assert_eq!((answer.number, answer.results), (number, vec![field, 0]));
+    };
+    let step = if quick() { 1000 } else { 1 };
+    for value in [&[][..], &[1], &[1, 0, 2, 0], &[1, 0, 2, 0, 0x2B, 4]] {
+        for tag in 0..=255 {
+            if tag != 0x4E {
+                refused(&[tag, 2, 0], value, 13);
+            }
+            if tag != 0x2B && tag != 0x2D {
+                refused(&[tag, 4, 0], value, 14);
+            }
+        }
+        for length in (0..=65_535u16).step_by(step) {
+            let [low, high] = length.to_le_bytes();
+            if length != 2 {
+                refused(&[0x4E, low, high], value, 13);
+            }
+            if length != 4 {
+                refused(&[0x2B, low, high], value, 14);
+                refused(&[0x2D, low, high], value, 14);
+            }
+        }
+    }
+}
+
+/// Bank counts around 1,024 and around the room for them.
+#[test]
+fn bank_counts() {
+    let mut random = Random::new(114);
+    for n in [0, 1, 5, 6, 255, 256, 1023, 1024, 1025, 1280, 65_535] {
+        for room in [5, 1024] {
+            let mut pair = Pair::new(any_memory(&mut random, room), random.draw());
+            let answer = pair.call(&Call::Replay(journal_of(n, &[])));
+            let fits = pair.model.all_fit(n.into());
+            let wanted = match n {
+                1025.. => (1, vec![1, 0]),
+                _ if !fits => (2, vec![1, 0]),
+                _ => (0, vec![0, 0]),
+            };
+            assert_eq!((answer.number, answer.results), wanted, "{n} banks");
+        }
+    }
+}
+
+/// The same edits by a journal and by a list leave the same, cell by cell.
+#[test]
+fn the_list_of_the_same_edits() {
+    let mut random = Random::new(115);
+    for _ in 0..rounds(80) {
+        let n = random.between(2, 60);
+        let draws = random.below(300);
+        let entries = drawn_entries(&mut random, n, 20, draws);
+        let memory = any_memory(&mut random, n);
+        let mut by_journal = Pair::new(memory.clone(), random.draw());
+        let mut by_list = Pair::new(memory, random.draw());
+        let journal = journal_of(n as u16, &entries);
+        let list = same_list(n as u16, &entries);
+        assert_eq!(by_journal.call(&Call::Replay(journal)).number, 0);
+        assert_eq!(by_list.call(&Call::ReadList(list)).number, 0);
+        assert!(by_journal.model == by_list.model);
+    }
+}
+
+/// 8,570 edits and 5 bytes of the next fill 60,000 bytes. One byte more gets 9, and so does any
+/// longer slice.
+#[test]
+fn long_journals() {
+    let mut random = Random::new(116);
+    let mut entries = drawn_entries(&mut random, 9, 9, 40_000);
+    entries.truncate(if quick() { 100 } else { 8571 });
+    let mut journal = journal_of(9, &entries);
+    if !quick() {
+        journal.truncate(60_000);
+        let answer = replay(&mut random, &journal);
+        assert_eq!((answer.number, answer.results), (0, vec![0, 5]));
+    }
+    for length in [60_001, 60_002, 65_536, 131_077] {
+        journal.resize(length, 0);
+        let answer = replay(&mut random, &journal);
+        assert_eq!((answer.number, answer.results), (9, vec![0, 0]));
+    }
+}
