@@ -47,11 +47,13 @@ extern "C" {
 #define WAVE_PLAN_START_RESULTS 1
 #define WAVE_PLAN_RECORD_RESULTS 3
 #define WAVE_PLAN_REPLAY_RESULTS 2
+#define WAVE_PLAN_POSTER_RESULTS 1
 
-/* The most bytes of a list, of a sheet, and of a journal. */
+/* The most bytes of a list, of a sheet, of a journal, and of a poster. */
 #define WAVE_PLAN_MOST_LIST_BYTES 60000
 #define WAVE_PLAN_MOST_SHEET_BYTES 4067
 #define WAVE_PLAN_MOST_JOURNAL_BYTES 60000
+#define WAVE_PLAN_MOST_POSTER_BYTES 8200
 
 /* A journal is a row of fields: a one-byte tag, a two-byte length and the value, low byte first. The first field has the bank count
  * as its value, two bytes; each other one an edit's two banks in the order given, four bytes. */
@@ -74,7 +76,7 @@ extern "C" {
 #define WAVE_PLAN_LONG_LIST 9       /* (list, journal) Has it at most 60000 bytes? */
 #define WAVE_PLAN_NO_FIRST_ROW 10   /* (list) Is row 1 an N row of the stated form? */
 #define WAVE_PLAN_UNREADABLE_ROW 11 /* (list, each further row in turn) Is it one of the three forms? */
-#define WAVE_PLAN_SHORT_OUTPUT 12   /* (sheet) Is the output at least as long as the sheet? */
+#define WAVE_PLAN_SHORT_OUTPUT 12   /* (sheet, poster) Is the output at least as long as it? */
 #define WAVE_PLAN_NO_FIRST_FIELD 13 /* (journal) Is it within the slice, and its first field whole and of the stated form? */
 #define WAVE_PLAN_WRONG_FIELD 14    /* (journal, each further field in turn) Are tag and length of the stated form? */
 #define WAVE_PLAN_NO_SPACE 15       /* (start, record) Is there space in the slice, and in 60000 bytes, for what is to be written? */
@@ -152,6 +154,13 @@ uint16_t wave_plan_replay(const uint8_t *journal, size_t journal_bytes, uint16_t
                           uint16_t *counts, size_t counts_cells, uint16_t *trail, size_t trail_cells,
                           uint16_t *moved, size_t moved_cells, uint16_t *tally, size_t tally_cells,
                           uint16_t *result, size_t result_cells);
+
+/* Writes the gate poster of the plan to the front of `out`: pages of 50 lines of 40 characters and a line feed. result[0]: its
+ * number of bytes, 2050 for each page; 0 for a plan without banks. */
+uint16_t wave_plan_write_poster(const uint16_t *neighbours, size_t neighbours_cells, const uint16_t *degrees, size_t degrees_cells,
+                                const uint16_t *waves, size_t waves_cells, const uint16_t *counts, size_t counts_cells,
+                                const uint16_t *tally, size_t tally_cells, uint8_t *out, size_t out_bytes,
+                                uint16_t *result, size_t result_cells);
 
 #ifdef __cplusplus
 }

@@ -1,3 +1,2 @@
--- Theorems: what to cite. Answering: what the functions' proofs cite.
-pub mod Answering
+-- Theorems: what to cite.
 pub mod Theorems

@@ -9,12 +9,12 @@ use Rattle.list_reader.specs.Ends.{endOf}
 use Rattle.list_reader.proofs.Theorems.{accepted-holds}
 use Rattle.sheet_writer.specs.Sheet.{sheet}
 use Rattle.sheet_writer.proofs.Theorems.{never-short}
-use Rattle.sheet.specs.Answers.{blank, answerResult, answerOf}
-use Rattle.sheet.proofs.Answering.{answer-sheet}
+use Rattle.list_program.specs.Answers.{blank, answerResult, answerOf}
+use Rattle.list_program.proofs.Answering.{answer-text}
 
 -- an accepted list is answered by the sheet of the clashes in which it ends, in any output of 4,067 bytes
 pub accepted-sheet : (list out : List ℕ) → readList list blank .answer .number ≡ 0 → 4067 ≤ length out
-    → answerOf list out ≡ answerResult (length (sheet (endOf list blank .graph))) (over (sheet (endOf list blank .graph)) out)
+    → answerOf sheet list out ≡ answerResult (length (sheet (endOf list blank .graph))) (over (sheet (endOf list blank .graph)) out)
 accepted-sheet list out z room =
     let l : ListResult = readList list blank in
-    sym (answer-sheet list out l (λ i. l) z _ (never-short (endOf list blank .graph) (l .memory .slices) (l .memory .tally) out (accepted-holds list blank z) room))
+    sym (answer-text sheet list out l (λ i. l) z _ (never-short (endOf list blank .graph) (l .memory .slices) (l .memory .tally) out (accepted-holds list blank z) room))

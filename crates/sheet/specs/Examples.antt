@@ -16,8 +16,8 @@ use Rattle.list_rows.specs.Text.{onto, rows, parts, digits, isNumber, valueFrom
 use Rattle.list_rows.specs.Rows.{isByte, twoParts, threeParts, fromParts, rowOf}
 use Rattle.list_reader.specs.Pass.{make, strikeEach, change, changeNumber, rowNumber, step, passBy, pass, begin, beginNumber, beginBy, fromFirst, fromRows, readList}
 use Rattle.sheet_writer.specs.Sheet.{letters, banksOf, linesOf, joined, decimalIn, decimal, bankText, lineText, headText, sheet}
-use Rattle.sheet_writer.specs.Calls.{sheetNumber, sheetBy, writeSheet}
-use Rattle.sheet.specs.Answers.{refusalText, AnswerResult, answerResult, answerBy}
+use Rattle.sheet_writer.specs.Calls.{textNumber, textBy, writeText}
+use Rattle.list_program.specs.Answers.{refusalText, AnswerResult, answerResult, answerBy}
 
 -- memory for four banks, whatever it held before
 pub four : Memory
@@ -25,7 +25,7 @@ four = memoryOf (replicate 92 7) (replicate 4 7) (replicate 4 7) (replicate 96 7
 
 -- the answer to a list, in an output of dots
 pub answered : List ℕ → AnswerResult
-answered list = answerBy (readList list four .answer .number) (readList list four) (replicate 22 46)
+answered list = answerBy sheet (readList list four .answer .number) (readList list four) (replicate 22 46)
 
 -- `N 4`, `+ 0 1`, `+ 1 2`, `+ 2 3`, `+ 0 3`, the last with no line feed: `WAVES 2`, `A 0 2`, `B 1 3`; the bytes beyond stay
 pub example : answered
@@ -38,7 +38,7 @@ pub example : answered
     (87 ∷ 65 ∷ 86 ∷ 69 ∷ 83 ∷ 32 ∷ 50 ∷ 10
     ∷ 65 ∷ 32 ∷ 48 ∷ 32 ∷ 50 ∷ 10
     ∷ 66 ∷ 32 ∷ 49 ∷ 32 ∷ 51 ∷ 10 ∷ 46 ∷ 46 ∷ [])
-unfolding four answered upto filter some memb insertBy sortBy earlierBy neighbours degree earlier later earlierNeighbours order pair lowestFrom lowestFree waveIn wave waves waveCount edited changed isNamed isTurned isReached onTrail trail moved cells over starts longEnough neighbourCells degreeCells countCells clashCount tallyOf planIn graphIn proper holds firstNo allLong clashQuestions editNumber accepted onto rows parts digits isNumber valueFrom number isByte twoParts threeParts fromParts rowOf make strikeEach change changeNumber rowNumber step passBy pass begin beginNumber beginBy fromFirst fromRows readList letters banksOf linesOf joined decimalIn decimal bankText lineText headText sheet sheetNumber sheetBy writeSheet refusalText answerBy
+unfolding four answered upto filter some memb insertBy sortBy earlierBy neighbours degree earlier later earlierNeighbours order pair lowestFrom lowestFree waveIn wave waves waveCount edited changed isNamed isTurned isReached onTrail trail moved cells over starts longEnough neighbourCells degreeCells countCells clashCount tallyOf planIn graphIn proper holds firstNo allLong clashQuestions editNumber accepted onto rows parts digits isNumber valueFrom number isByte twoParts threeParts fromParts rowOf make strikeEach change changeNumber rowNumber step passBy pass begin beginNumber beginBy fromFirst fromRows readList letters banksOf linesOf joined decimalIn decimal bankText lineText headText sheet textNumber textBy writeText refusalText answerBy
 example = refl
 
 -- no bytes: `REFUSED 10 ROW 1`

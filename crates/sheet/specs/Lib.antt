@@ -1,3 +1,2 @@
--- What a reader must believe of the program: Answers. Examples tests it.
-pub mod Answers
+-- Examples tests what the program writes for a list (list_program/Answers).
 pub mod Examples

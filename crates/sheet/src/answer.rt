@@ -1,40 +1,21 @@
 // The answer to a list: its sheet, or its refusal.
+use list_program::NEIGHBOUR_CELLS;
+use list_program::WAVE_COUNT_CELLS;
+use list_program::put_refusal;
 use list_reader::read_list_core;
 use memory::Tally;
-use rule::COUNT_CELLS;
 use rule::MOST_BANKS;
-use rule::ROW_CELLS;
-use sheet_writer::put_byte;
-use sheet_writer::put_number;
-use sheet_writer::put_text;
 use sheet_writer::write_sheet;
 ghost use mathlib.Core.Path.{_≡_};
 ghost use Prim.Native.Nat.{_≤_};
 ghost use lib.ListN.{length};
-ghost use Rattle.sheet_writer.specs.Put.{Puts};
-ghost use Rattle.sheet.specs.Answers.{refusalText, answerResult, answerOf};
-
-// The cells of Neighbours and of Counts for the most banks.
-const NEIGHBOUR_CELLS: usize = ROW_CELLS * MOST_BANKS;
-
-const WAVE_COUNT_CELLS: usize = COUNT_CELLS * MOST_BANKS;
-
-// Writes `REFUSED c ROW r` to the front of out.
-fn put_refusal(out: &mut [u8], number: u16, row: u16) -> usize
-    requires { ⌜ 24 ≤ length (now out) ⌝ }
-    ensures { λ r. ⌜ Puts (refusalText number row) 0 (now (out .entry)) r (now (out .exit)) × (r ≤ length (now (out .exit))) ⌝ }
-{
-    let c = put_text(out, 0, b"REFUSED ");
-    let middle = put_number(out, c, number);
-    let r = put_text(out, middle, b" ROW ");
-    let end = put_number(out, r, row);
-    put_byte(out, end, b'\n')
-}
+ghost use Rattle.list_program.specs.Answers.{answerResult, answerOf};
+ghost use Rattle.sheet_writer.specs.Sheet.{sheet};
 
 // Writes the answer to a list to the front of out, and answers its length.
 pub fn answer_list(list: &[u8], out: &mut [u8]) -> usize
     requires { ⌜ 24 ≤ length (now out) ⌝ }
-    ensures { λ r. ⌜ (answerResult r (now (out .exit)) ≡ answerOf (now (list .entry)) (now (out .entry))) × (r ≤ length (now (out .exit))) ⌝ }
+    ensures { λ r. ⌜ (answerResult r (now (out .exit)) ≡ answerOf sheet (now (list .entry)) (now (out .entry))) × (r ≤ length (now (out .exit))) ⌝ }
 {
     let mut neighbours = [0u16; NEIGHBOUR_CELLS];
     let mut degrees = [0u16; MOST_BANKS];

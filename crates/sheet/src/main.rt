@@ -1,13 +1,10 @@
 // Reads a list from standard input, and writes its sheet or its refusal to standard output.
 mod answer;
-mod input;
 
 use answer::answer_list;
-use input::read_input;
+use list_program::LIST_BYTES;
+use list_program::read_input;
 use sheet_writer::LONGEST_SHEET;
-
-// One byte more than a list may have, so that question 1 sees a longer one.
-const LIST_BYTES: usize = 60001;
 
 fn main() {
     let mut list = [0u8; LIST_BYTES];

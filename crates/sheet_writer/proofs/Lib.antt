@@ -7,4 +7,5 @@ pub mod Texts
 pub mod Shown
 pub mod Lengths
 pub mod Plans
+pub mod Writing
 pub mod Theorems

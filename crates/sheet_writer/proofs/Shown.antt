@@ -31,6 +31,11 @@ unfolding total
 total-append m [] ys = omega arith
 total-append m (x ∷ xs) ys = omega (arith, total-append m xs ys)
 
+total-ones : (xs : List ℕ) → length xs ≡ total (λ x. 1) xs
+unfolding total
+total-ones [] = refl
+total-ones (x ∷ xs) = omega (arith, total-ones xs)
+
 -- by waves w: those below k and those of k are those below k + 1
 module _ (m w : ℕ → ℕ) (k : ℕ) where
   one-more : (xs : List ℕ) → total m (filter (λ b. ltb (w b) k) xs) + total m (filter (λ b. eqb (w b) k) xs) ≡ total m (filter (λ b. ltb (w b) (suc k)) xs)
@@ -156,6 +161,11 @@ module _ (G : Graph) where
       go : (cs : List ℕ) → map (λ (l : Line). l .banks) (map (lineOf G) cs) ≡ map (banksOf G) cs
       go [] = refl
       go (c ∷ cs) = ap (_∷_ (banksOf G c)) (go cs)
+
+  -- as many banks as the plan has
+  pub shown-count : length (banksShown G) ≡ G .banks
+  shown-count =
+      total-ones (banksShown G) ∙ ap (total (λ b. 1)) shown-is ∙ shown-total (λ b. 1) ∙ sym (total-ones (upto (G .banks))) ∙ length-upto (G .banks)
 
   pub bank-once : (b : ℕ) → times b (banksShown G) ≡ cond (ltb b (G .banks)) 1 0
   bank-once b = times-is b (banksShown G) ∙ ap (total (one b)) shown-is ∙ shown-total (one b) ∙ upto-once b (G .banks)

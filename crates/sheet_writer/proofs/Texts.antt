@@ -14,13 +14,13 @@ use Rattle.sheet_writer.specs.Sheet.{joined, decimal, bankText, headText
 use Rattle.sheet_writer.specs.Put.{memberText, membersText, waveText, wavesText}
 use Rattle.sheet_writer.proofs.Lists.{map-append, filter-append}
 
-joined-append : (ts us : List (List ℕ)) → joined (ts ++ us) ≡ joined ts ++ joined us
+pub joined-append : (ts us : List (List ℕ)) → joined (ts ++ us) ≡ joined ts ++ joined us
 unfolding joined
 joined-append [] us = refl
 joined-append (t ∷ ts) us = ap (λ (l : List ℕ). t ++ l) (joined-append ts us) ∙ sym (append-assoc t (joined ts) (joined us))
 
 -- the texts of some numbers, then of others
-texts-append : (f : ℕ → List ℕ) (xs ys : List ℕ) → joined (map f (xs ++ ys)) ≡ joined (map f xs) ++ joined (map f ys)
+pub texts-append : (f : ℕ → List ℕ) (xs ys : List ℕ) → joined (map f (xs ++ ys)) ≡ joined (map f xs) ++ joined (map f ys)
 texts-append f xs ys = ap joined (map-append f xs ys) ∙ joined-append (map f xs) (map f ys)
 
 -- the texts of the numbers below n, and one more
@@ -38,6 +38,14 @@ texts-le f m n h = rw e at (more (n - m))
     more : (d : ℕ) → length (joined (map f (upto m))) ≤ length (joined (map f (upto (m + d))))
     more zero = rw (add-zero m) (omega arith)
     more (suc d) = rw (add-suc m d) (omega (arith, more d, ap length (texts-next f (m + d)), length-append (joined (map f (upto (m + d)))) (f (m + d))))
+
+-- the same by c + 1, and room for one more where there is room for k
+module _ (f : ℕ → List ℕ) (c : ℕ) where
+  pub texts-more : joined (map f (upto (c + 1))) ≡ joined (map f (upto c)) ++ f c
+  texts-more = ap (λ (k : ℕ). joined (map f (upto k))) (add-one c) ∙ texts-next f c
+
+  pub texts-room : (k : ℕ) → c < k → length (joined (map f (upto c))) + length (f c) ≤ length (joined (map f (upto k)))
+  texts-room k h = omega (arith, texts-le f (c + 1) k (omega arith), ap length texts-more, length-append (joined (map f (upto c))) (f c))
 
 -- bank b on the line of wave c, or not
 module _ (w c b : ℕ) where
@@ -70,18 +78,15 @@ members-are ws c (suc n) =
     ∙ sym (texts-next (λ b. memberText (getD ws b 0) c b) n)
 
 module _ (ws : List ℕ) (c b : ℕ) where
+  abbrev text : ℕ → List ℕ
+  text b = memberText (getD ws b 0) c b
+
   pub members-next : membersText ws c (b + 1) ≡ membersText ws c b ++ memberText (getD ws b 0) c b
-  members-next =
-      ap (membersText ws c) (add-one b)
-      ∙ members-are ws c (suc b)
-      ∙ texts-next (λ b. memberText (getD ws b 0) c b) b
-      ∙ ap (λ (l : List ℕ). l ++ memberText (getD ws b 0) c b) (sym (members-are ws c b))
+  members-next = members-are ws c (b + 1) ∙ texts-more text b ∙ ap (λ (l : List ℕ). l ++ text b) (sym (members-are ws c b))
 
   -- where there is room for n banks, there is for the next
   pub members-room : (n : ℕ) → b < n → length (membersText ws c b) + length (memberText (getD ws b 0) c b) ≤ length (membersText ws c n)
-  members-room n h =
-      let text : ℕ → List ℕ = λ b. memberText (getD ws b 0) c b in
-      omega (arith, texts-le text (b + 1) n (omega arith), ap length (members-are ws c (b + 1)), ap length (members-are ws c n), ap length members-next, length-append (membersText ws c b) (memberText (getD ws b 0) c b))
+  members-room n h = omega (arith, texts-room text b n h, ap length (members-are ws c b), ap length (members-are ws c n))
 
 pub members-none : (ws : List ℕ) (c : ℕ) → membersText ws c 0 ≡ []
 unfolding membersText upto filter joined
@@ -90,12 +95,11 @@ members-none ws c = refl
 module _ (ws : List ℕ) (n c : ℕ) where
   pub waves-next : wavesText ws n (c + 1) ≡ wavesText ws n c ++ waveText ws n c
   unfolding wavesText
-  waves-next = ap (λ (k : ℕ). joined (map (waveText ws n) (upto k))) (add-one c) ∙ texts-next (waveText ws n) c
+  waves-next = texts-more (waveText ws n) c
 
   pub waves-room : (k : ℕ) → c < k → length (wavesText ws n c) + length (waveText ws n c) ≤ length (wavesText ws n k)
-  waves-room k h =
-      let le : length (wavesText ws n (c + 1)) ≤ length (wavesText ws n k) = unfold wavesText in texts-le (waveText ws n) (c + 1) k (omega arith) in
-      omega (arith, ap length waves-next, length-append (wavesText ws n c) (waveText ws n c))
+  unfolding wavesText
+  waves-room k h = texts-room (waveText ws n) c k h
 
 pub waves-none : (ws : List ℕ) (n : ℕ) → wavesText ws n 0 ≡ []
 unfolding wavesText upto joined

@@ -3,6 +3,7 @@ use mathlib.Core.Bool.{cond, _&&_}
 use mathlib.Core.List.{List, [], _∷_, map}
 use mathlib.Core.Path.{_≡_, sym, _∙_}
 use Prim.Native.Nat.{ℕ, _+_, _*_, _≤_, _<_}
+use native.Mathlib.Omega.{arith}
 use lib.Dec.{T, ltb, eqb}
 use lib.ListN.{length, getD}
 use Rattle.rule.specs.Lists.{upto, memb, Sorted}
@@ -13,13 +14,14 @@ use Rattle.memory.specs.Cells.{over}
 use Rattle.memory.specs.Plan.{Slices, graphIn, Clashes, PlanOf}
 use Rattle.planner.proofs.Numbers.{held-number, number-plan}
 use Rattle.sheet_writer.specs.Sheet.{letters, Line, lineOf, linesOf, joined, banksShown, times, bankText, headText, sheet}
-use Rattle.sheet_writer.specs.Calls.{sheetResult, writeSheet}
+use Rattle.sheet_writer.specs.Calls.{textResult, writeSheet}
 use Rattle.sheet_writer.specs.Examples
 use Rattle.sheet_writer.specs.Examples.{square}
 use Rattle.sheet_writer.proofs.Letters
 use Rattle.sheet_writer.proofs.Shown
 use Rattle.sheet_writer.proofs.Lengths
 use Rattle.sheet_writer.proofs.Plans
+use Rattle.sheet_writer.proofs.Writing
 
 -- 1. the 24 wave letters, one by one, and that they are all different
 pub letters-are : letters
@@ -64,11 +66,12 @@ one-sheet G H s t p q = sym (Plans.sheet-is G s t p) ∙ Plans.sheet-is H s t q
 
 -- 7. an output of 4,067 bytes is never too short: memory that holds the plan of G gives its sheet
 pub never-short : (G : Graph) (s : Slices) (t : Tally) (out : List ℕ) → PlanOf G s t → 4067 ≤ length out
-    → sheetResult (record { number = 0; length = length (sheet G) }) (over (sheet G) out) ≡ writeSheet s t out
+    → textResult (record { number = 0; length = length (sheet G) }) (over (sheet G) out) ≡ writeSheet s t out
 never-short G s t out held room =
     let checked = held-number G s t held in
     let plan = number-plan s t checked in
-    Plans.never-short s t out (sym checked) plan room (sheet G) (one-sheet G (graphIn (t .banks) s) s t held plan)
+    let fits = Lengths.sheet-fits (graphIn (t .banks) s) (plan .clashes) in
+    Writing.text-fits sheet s t out (sym checked) (omega (arith, fits)) (sheet G) (one-sheet G (graphIn (t .banks) s) s t held plan)
 
 -- 8. M1's sheet is `WAVES 0`; that of four banks with the clashes 0-1, 1-2, 2-3, 0-3 is `WAVES 2`, `A 0 2`, `B 1 3`
 pub sheet-M1 : sheet (empty 0) ≡ 87 ∷ 65 ∷ 86 ∷ 69 ∷ 83 ∷ 32 ∷ 48 ∷ 10 ∷ []
@@ -82,4 +85,4 @@ sheet-square = Examples.sheet-square
 
 -- 9. the length that is answered is one of bytes in the output
 pub written-within : (s : Slices) (t : Tally) (out : List ℕ) → writeSheet s t out .answer .length ≤ length (writeSheet s t out .out)
-written-within = Plans.written-within
+written-within = Writing.written-within sheet

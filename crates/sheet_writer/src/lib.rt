@@ -1,8 +1,10 @@
-// The sheet writer: the waves of a plan as text. `write_sheet` is the call; the `put_` functions write text for a program's own lines.
+// The sheet writer: the waves of a plan as text. `write_sheet` is the call; `letter` and the `put_` functions serve other texts: the poster, and
+// a program's own lines.
 mod lines;
 mod sheet;
 mod text;
 
+pub use lines::letter;
 pub use sheet::LONGEST_SHEET;
 pub use sheet::Written;
 pub use sheet::write_sheet;

@@ -39,7 +39,7 @@ const LETTERS: [u8; 24] = [
 ];
 
 // The letter of a wave.
-fn letter(c: Wave) -> u8
+pub fn letter(c: Wave) -> u8
     requires { ⌜ c .0 < 24 ⌝ }
     ensures { λ r. ⌜ r ≡ getD letters (c .0) 0 ⌝ }
 {

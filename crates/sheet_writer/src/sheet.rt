@@ -11,7 +11,7 @@ ghost use lib.ListN.{length};
 ghost use Rattle.rule.specs.Lists.{upto};
 ghost use Rattle.memory.specs.Plan.{slicesOf};
 ghost use Rattle.sheet_writer.specs.Sheet.{joined, bankText, headText};
-ghost use Rattle.sheet_writer.specs.Calls.{sheetResult, writeSheet};
+ghost use Rattle.sheet_writer.specs.Calls.{textResult, writeSheet};
 
 // The bytes of the longest sheet, that of 1,024 banks in 24 waves: 9 of `WAVES 24`, 2 for each line, and 4,010 of the banks.
 pub const LONGEST_SHEET: usize = 4067;
@@ -61,7 +61,7 @@ pub fn write_sheet(
     tally: Tally,
     out: &mut [u8],
 ) -> Written
-    ensures { λ r. ⌜ sheetResult r (now (out .exit)) ≡ writeSheet (slicesOf (now (neighbours .entry)) (now (degrees .entry)) (now (waves .entry)) (now (counts .entry))) tally (now (out .entry)) ⌝ }
+    ensures { λ r. ⌜ textResult r (now (out .exit)) ≡ writeSheet (slicesOf (now (neighbours .entry)) (now (degrees .entry)) (now (waves .entry)) (now (counts .entry))) tally (now (out .entry)) ⌝ }
 {
     let number = check_plan(neighbours, degrees, waves, counts, tally);
     if number != 0 {

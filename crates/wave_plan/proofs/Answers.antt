@@ -1,5 +1,4 @@
--- What the calls that read answer: where the clashes of a bank stand, and how long a sheet is.
-use mathlib.Core.List.{List}
+-- Where the clashes of a bank stand.
 use mathlib.Core.Path.{_≡_, refl, sym, ap, ap₂, _∙_}
 use Prim.Native.Nat.{ℕ, zero, suc, _+_, _*_, _-_, _≤_, _<_}
 use native.Mathlib.Omega.{arith}
@@ -14,10 +13,6 @@ use Rattle.memory.proofs.Theorems.{holds-plan}
 use Rattle.planner.specs.Calls.{bankNumber, clashesOf}
 use Rattle.planner.proofs.Numbers as Numbers
 use Rattle.planner.proofs.Rows as Rows
-use Rattle.sheet_writer.specs.declared.sheet.Written.{Written}
-use Rattle.sheet_writer.specs.Sheet.{sheet}
-use Rattle.sheet_writer.specs.Calls.{SheetResult, sheetResult, sheetNumber, sheetBy, writeSheet}
-use Rattle.sheet_writer.proofs.Theorems.{sheet-fits}
 use Rattle.wave_plan.specs.Calls.{startBy}
 
 module _ (b : ℕ) (s : Slices) (t : Tally) where
@@ -68,24 +63,3 @@ module _ (b : ℕ) (s : Slices) (t : Tally) where
         let l : length (clashesOf b s t) ≡ b * 23 + d - b * 23 = omega (arith, counted) in
         let k : 23 * b ≡ b * 23 = omega arith in
         ap₂ (λ (x y : ℕ). take x (drop y (s .neighbours))) l k ∙ Rows.row-part plan below b d refl refl ∙ sym found
-
-module _ (s : Slices) (t : Tally) (out : List ℕ) where
-  text-short : sheetNumber s t out ≡ 0 → length (sheet (graphIn (t .banks) s)) ≤ 4067
-  unfolding sheetNumber
-  text-short none =
-      let few : t .banks ≤ 1024 = leb-true (t .banks) 1024 (Numbers.none _ 0 _ none .0) in
-      let held = Numbers.none _ 2 _ (Numbers.none _ 1 _ (Numbers.none _ 0 _ none .1) .1) .0 in
-      sheet-fits (graphIn (t .banks) s) (holds-plan s t few (T-along (sym held) tt) .clashes)
-
-  by-number : (c : ℕ) → sheetNumber s t out ≡ c → sheetBy c (sheet (graphIn (t .banks) s)) out .answer .length ≤ 4067
-  unfolding sheetBy
-  by-number zero e = text-short e
-  by-number (suc c) e = omega arith
-
-  -- a sheet that is written has at most 4,067 bytes
-  pub written-short : writeSheet s t out .answer .length ≤ 4067
-  unfolding writeSheet
-  written-short = by-number (sheetNumber s t out) refl
-
-  pub sheet-short : (answer : Written) (out′ : List ℕ) → sheetResult answer out′ ≡ writeSheet s t out → answer .length ≤ 4067
-  sheet-short answer out′ e = omega (arith, ap (λ (x : SheetResult). x .answer .length) e, written-short)

@@ -4,6 +4,7 @@ use mathlib.Core.Path.{_≡_, refl, sym, ap, ap₂, _∙_}
 use Prim.Native.Nat.{ℕ, _*_, _≤_}
 use native.Mathlib.Omega.{arith}
 use lib.ListN.{length, getD, take, drop}
+use Rattle.rule.specs.Graph.{Graph}
 use Rattle.rule.specs.Reach.{Kind}
 use Rattle.memory.specs.declared.Tally.{Tally}
 use Rattle.memory.specs.Cells.{over}
@@ -14,14 +15,14 @@ use Rattle.planner.proofs.Rows as Rows
 use Rattle.list_reader.specs.declared.pass.Listed.{Listed}
 use Rattle.list_reader.specs.Pass.{ListResult, listResult, readList}
 use Rattle.sheet_writer.specs.declared.sheet.Written.{Written}
-use Rattle.sheet_writer.specs.Calls.{SheetResult, sheetResult, writeSheet}
+use Rattle.sheet_writer.specs.Calls.{TextResult, textResult, writeText}
 use Rattle.journal.specs.declared.start.Started.{Started}
 use Rattle.journal.specs.declared.record.RecordedEdit.{RecordedEdit}
 use Rattle.journal_replay.specs.declared.rerun.ReplayedPlan.{ReplayedPlan}
 use Rattle.journal.specs.Calls.{StartResult, startResult, started, RecordResult, recordResult, recorded}
 use Rattle.journal_replay.specs.Replay.{ReplayResult, replayResult, replayed}
 use Rattle.wave_plan.specs.Lent.{tallyIn, tallyCells, Lent, memoryIn, leaving}
-use Rattle.wave_plan.specs.Calls.{openLeft, openDone, openCall, Left, left, editDone, editCall, listDone, listCall, told, waveDone, waveCall, startBy, clashesDone, clashesCall, partNamed, sheetLeft, sheetDone, sheetCall}
+use Rattle.wave_plan.specs.Calls.{openLeft, openDone, openCall, Left, left, editDone, editCall, listDone, listCall, told, waveDone, waveCall, startBy, clashesDone, clashesCall, partNamed, textLeft, textDone, textCall}
 use Rattle.wave_plan.specs.Journals.{startLeft, startDone, startCall, recordLeft, recordDone, recordCall, replayDone, replayCall}
 use Rattle.wave_plan.specs.Put.{AnswerPut}
 use Rattle.wave_plan.proofs.Answers.{refused-start, found-start, row-part}
@@ -173,19 +174,19 @@ module _ (b : ℕ) (s : Slices) (tally result : List ℕ) where
           part-as start part result′ stands call put,
         )
 
-module _ (s : Slices) (tally out result : List ℕ) where
-  pub sheet-done : (t : Tally) (answer : Written) (out′ result′ : List ℕ)
+module _ (text : Graph → List ℕ) (s : Slices) (tally out result : List ℕ) where
+  pub text-done : (t : Tally) (answer : Written) (out′ result′ : List ℕ)
       → 3 ≤ length tally
       → 1 ≤ length result
       → t ≡ tallyIn tally
-      → sheetResult answer out′ ≡ writeSheet s t out
+      → textResult answer out′ ≡ writeText text s t out
       → result′ ≡ over (answer .length ∷ []) result
-      → sheetLeft (answer .number) out′ result′ ≡ sheetCall s tally out result
-  unfolding sheetCall sheetDone
-  sheet-done t answer out′ result′ h i is call put =
-      ap (sheetLeft (answer .number) out′) put
-      ∙ ap (λ (x : SheetResult). sheetDone x result) (call ∙ ap (λ (u : Tally). writeSheet s u out) is)
-      ∙ room 1 tally result (λ c. sheetLeft c out result) _ h i
+      → textLeft (answer .number) out′ result′ ≡ textCall text s tally out result
+  unfolding textCall textDone
+  text-done t answer out′ result′ h i is call put =
+      ap (textLeft (answer .number) out′) put
+      ∙ ap (λ (x : TextResult). textDone x result) (call ∙ ap (λ (u : Tally). writeText text s u out) is)
+      ∙ room 1 tally result (λ c. textLeft c out result) _ h i
 
 module _ (s : Slices) (tally journal result : List ℕ) where
   pub start-done : (t : Tally) (answer : Started) (journal′ result′ : List ℕ)

@@ -1,7 +1,7 @@
 -- What follows from the contracts of this crate, each restated in full.
 -- 1. a refused edit, recorded or not, changes no slice but the front cells of the result, which are 0; a refused opening changes nothing
 -- 2. the part that wave_plan_clashes_of names is the filled part of the bank's row
--- 3. the length of a sheet fits the result cell
+-- 3. the length of a sheet and that of a poster fit the result cell
 use mathlib.Core.List.{List, [], _∷_}
 use mathlib.Core.Path.{_≡_, ap}
 use Prim.Native.Nat.{ℕ, _*_, _≤_}
@@ -10,8 +10,14 @@ use Rattle.memory.specs.declared.Tally.{Tally}
 use Rattle.memory.specs.Cells.{over}
 use Rattle.memory.specs.Plan.{Slices}
 use Rattle.planner.specs.Calls.{openResult, refused, bankNumber, clashesOf}
+use Rattle.sheet_writer.specs.Sheet.{sheet}
 use Rattle.sheet_writer.specs.Calls.{writeSheet}
 use Rattle.journal.specs.Calls.{recordResult, noRecord}
+use Rattle.sheet_writer.proofs.Theorems.{sheet-fits}
+use Rattle.sheet_writer.proofs.Writing.{written-most}
+use Rattle.poster_writer.specs.Poster.{poster}
+use Rattle.poster_writer.specs.Calls.{writePoster}
+use Rattle.poster_writer.proofs.Theorems.{poster-fits}
 use Rattle.wave_plan.specs.Lent.{tallyIn, Lent, memoryIn, leaving}
 use Rattle.wave_plan.specs.Calls.{openLeft, openDone, left, editDone}
 use Rattle.wave_plan.specs.Journals.{recordLeft, recordDone}
@@ -53,4 +59,7 @@ pub row-part : (b : ℕ) (s : Slices) (t : Tally) → bankNumber b s t ≡ 0
 row-part = Answers.row-part
 
 pub sheet-short : (s : Slices) (t : Tally) (out : List ℕ) → writeSheet s t out .answer .length ≤ 4067
-sheet-short = Answers.written-short
+sheet-short s t out = written-most sheet s t out 4067 sheet-fits
+
+pub poster-short : (s : Slices) (t : Tally) (out : List ℕ) → writePoster s t out .answer .length ≤ 8200
+poster-short s t out = written-most poster s t out 8200 poster-fits

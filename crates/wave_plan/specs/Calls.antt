@@ -2,13 +2,16 @@
 use mathlib.Core.List.{List, [], _∷_}
 use Prim.Native.Nat.{ℕ, zero, suc, _*_}
 use lib.ListN.{length, getD, take, drop}
+use Rattle.rule.specs.Graph.{Graph}
 use Rattle.rule.specs.Reach.{Kind}
 use Rattle.memory.specs.declared.Tally.{Tally}
 use Rattle.memory.specs.Cells.{over}
 use Rattle.memory.specs.Plan.{Slices}
 use Rattle.planner.specs.Calls.{OpenResult, opened, EditResult, edit, bankNumber, waveOf, clashesOf}
 use Rattle.list_reader.specs.Pass.{ListResult, readList}
-use Rattle.sheet_writer.specs.Calls.{SheetResult, writeSheet}
+use Rattle.sheet_writer.specs.Sheet.{sheet}
+use Rattle.sheet_writer.specs.Calls.{TextResult, writeText}
+use Rattle.poster_writer.specs.Poster.{poster}
 use Rattle.wave_plan.specs.Lent.{tallyIn, tallyCells, roomNumber, roomed, Lent, memoryIn, leaving}
 
 -- what opening answers and leaves
@@ -85,19 +88,28 @@ clashesCall b s tally result = roomed (roomNumber 2 tally result) (λ c. told c 
 unfoldable pub partNamed : List ℕ → List ℕ → List ℕ
 partNamed cells slice = take (getD cells 1 0) (drop (getD cells 0 0) slice)
 
--- what writing a sheet answers and leaves
-pub record SheetLeft : Type 0 where
+-- what writing a text of the plan answers and leaves
+pub record TextLeft : Type 0 where
   pub number : ℕ
   pub out : List ℕ
   pub result : List ℕ
 
-abbrev pub sheetLeft : ℕ → List ℕ → List ℕ → SheetLeft
-sheetLeft number out result = record { number = number; out = out; result = result }
+abbrev pub textLeft : ℕ → List ℕ → List ℕ → TextLeft
+textLeft number out result = record { number = number; out = out; result = result }
 
 -- the length is the result
-unfoldable pub sheetDone : SheetResult → List ℕ → SheetLeft
-sheetDone x result = sheetLeft (x .answer .number) (x .out) (over (x .answer .length ∷ []) result)
+unfoldable pub textDone : TextResult → List ℕ → TextLeft
+textDone x result = textLeft (x .answer .number) (x .out) (over (x .answer .length ∷ []) result)
+
+-- of a call that writes this text
+unfoldable pub textCall : (Graph → List ℕ) → Slices → List ℕ → List ℕ → List ℕ → TextLeft
+textCall text s tally out result =
+    roomed (roomNumber 1 tally result) (λ c. textLeft c out result) (textDone (writeText text s (tallyIn tally) out) result)
 
 -- wave_plan_write_sheet
-unfoldable pub sheetCall : Slices → List ℕ → List ℕ → List ℕ → SheetLeft
-sheetCall s tally out result = roomed (roomNumber 1 tally result) (λ c. sheetLeft c out result) (sheetDone (writeSheet s (tallyIn tally) out) result)
+abbrev pub sheetCall : Slices → List ℕ → List ℕ → List ℕ → TextLeft
+sheetCall s tally out result = textCall sheet s tally out result
+
+-- wave_plan_write_poster
+abbrev pub posterCall : Slices → List ℕ → List ℕ → List ℕ → TextLeft
+posterCall s tally out result = textCall poster s tally out result

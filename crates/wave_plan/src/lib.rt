@@ -1,5 +1,5 @@
-// The C library: each call of the planner, the list reader, the sheet writer and the journal on numbers and slices. It decides nothing itself
-// but that a tally slice of fewer than three cells, or a result slice that is too short, gets 2 with nothing changed.
+// The C library: each call of the planner, the list reader, the sheet writer, the poster writer and the journal on numbers and slices. It decides
+// nothing itself but that a tally slice of fewer than three cells, or a result slice that is too short, gets 2 with nothing changed.
 mod cells;
 
 use cells::put_edited;
@@ -20,6 +20,7 @@ use planner::clashes_of;
 use planner::open_core;
 use planner::strike_core;
 use planner::wave_of;
+use poster_writer::write_poster;
 use rule::Bank;
 use rule::ROW_CELLS;
 use rule::wide;
@@ -31,7 +32,7 @@ ghost use Rattle.rule.specs.Reach.{Kind.adding, Kind.striking};
 ghost use Rattle.memory.specs.Plan.{slicesOf};
 ghost use Rattle.planner.specs.Calls.{clashesOf};
 ghost use Rattle.wave_plan.specs.Lent.{tallyIn, lentOf};
-ghost use Rattle.wave_plan.specs.Calls.{openLeft, openCall, left, editCall, listCall, told, waveCall, clashesCall, partNamed, sheetLeft, sheetCall};
+ghost use Rattle.wave_plan.specs.Calls.{openLeft, openCall, left, editCall, listCall, told, waveCall, clashesCall, partNamed, textLeft, sheetCall, posterCall};
 ghost use Rattle.wave_plan.specs.Journals.{startLeft, startCall, recordLeft, recordCall, replayCall};
 
 // The cells of a tally slice: banks, clashes, waves.
@@ -46,7 +47,7 @@ const CLASHES_RESULTS: usize = 2;
 
 const LIST_RESULTS: usize = 1;
 
-const SHEET_RESULTS: usize = 1;
+const TEXT_RESULTS: usize = 1;
 
 const START_RESULTS: usize = 1;
 
@@ -246,16 +247,41 @@ pub extern "C" fn wave_plan_write_sheet(
     out: &mut [u8],
     result: &mut [u16],
 ) -> u16
-    ensures { λ r. ⌜ sheetLeft r (now (out .exit)) (now (result .exit)) ≡ sheetCall (slicesOf (now (neighbours .entry)) (now (degrees .entry)) (now (waves .entry)) (now (counts .entry))) (now (tally .entry)) (now (out .entry)) (now (result .entry)) ⌝ }
+    ensures { λ r. ⌜ textLeft r (now (out .exit)) (now (result .exit)) ≡ sheetCall (slicesOf (now (neighbours .entry)) (now (degrees .entry)) (now (waves .entry)) (now (counts .entry))) (now (tally .entry)) (now (out .entry)) (now (result .entry)) ⌝ }
 {
     if tally.len() < TALLY_CELLS {
         return 2;
     }
-    if result.len() < SHEET_RESULTS {
+    if result.len() < TEXT_RESULTS {
         return 2;
     }
     let t = tally_in(tally);
     let r = write_sheet(neighbours, degrees, waves, counts, t, out);
+    put_one(result, r.length as u16);
+    r.number
+}
+
+// Writes the poster to the front of `out`. The result is its length.
+#[no_mangle]
+pub extern "C" fn wave_plan_write_poster(
+    neighbours: &[u16],
+    degrees: &[u16],
+    waves: &[u16],
+    counts: &[u16],
+    tally: &[u16],
+    out: &mut [u8],
+    result: &mut [u16],
+) -> u16
+    ensures { λ r. ⌜ textLeft r (now (out .exit)) (now (result .exit)) ≡ posterCall (slicesOf (now (neighbours .entry)) (now (degrees .entry)) (now (waves .entry)) (now (counts .entry))) (now (tally .entry)) (now (out .entry)) (now (result .entry)) ⌝ }
+{
+    if tally.len() < TALLY_CELLS {
+        return 2;
+    }
+    if result.len() < TEXT_RESULTS {
+        return 2;
+    }
+    let t = tally_in(tally);
+    let r = write_poster(neighbours, degrees, waves, counts, t, out);
     put_one(result, r.length as u16);
     r.number
 }

@@ -11,7 +11,7 @@
 //! - `calls`: open, add, strike, wave of a bank, clashes of a bank.
 //! - `list`: the list's rows and the call that reads a list.
 //! - `journal`: a journal's fields, and the calls that start, record and replay.
-//! - `sheet`: the sheet's text, the call that writes it, and the output of the program.
+//! - `sheet`, `poster`: their texts, the calls that write them, and the outputs of the programs.
 //! - `random`, `lists`, `journals`: inputs for the tests.
 
 pub mod calls;
@@ -22,6 +22,7 @@ pub mod list;
 pub mod lists;
 pub mod memory;
 pub mod plan;
+pub mod poster;
 pub mod random;
 pub mod reach;
 pub mod refusals;

@@ -1,4 +1,4 @@
-//! The sheet's text, the call that writes a sheet, and the output of the program *sheet*.
+//! The sheet's text, the calls that write a text of the plan, and the outputs of the programs.
 
 use crate::graph::{number_of_waves, Wave};
 use crate::memory::Memory;
@@ -8,9 +8,12 @@ use crate::refusals::*;
 /// The wave letters: A to Z without I and O.
 pub const LETTERS: &str = "ABCDEFGHJKLMNPQRSTUVWXYZ";
 
-/// The answer to write a sheet: the number and the sheet's length.
+/// A text made of the waves by bank number.
+pub(crate) type Text = fn(&[Wave]) -> String;
+
+/// The answer to a call that writes a text: the number and the text's length.
 #[derive(Clone, Copy, Debug, PartialEq, Eq)]
-pub struct SheetAnswer {
+pub struct TextAnswer {
     pub number: u16,
     pub length: usize,
 }
@@ -34,23 +37,28 @@ fn wave_line(letter: char, w: Wave, waves: &[Wave]) -> String {
 
 impl Memory {
     /// Write a sheet to the front of the output. Bytes beyond its length stay.
-    pub fn write_sheet(&self, output: &mut [u8]) -> SheetAnswer {
-        match self.sheet_questions(output.len()) {
+    pub fn write_sheet(&self, output: &mut [u8]) -> TextAnswer {
+        self.write_text(sheet_text, output)
+    }
+
+    /// Write a text of the plan to the front of the output. Bytes beyond its length stay.
+    pub(crate) fn write_text(&self, text: Text, output: &mut [u8]) -> TextAnswer {
+        match self.text_questions(text, output.len()) {
             Ok(text) => {
                 output[..text.len()].copy_from_slice(text.as_bytes());
-                SheetAnswer {
+                TextAnswer {
                     number: ACCEPTED,
                     length: text.len(),
                 }
             }
-            Err(number) => SheetAnswer { number, length: 0 },
+            Err(number) => TextAnswer { number, length: 0 },
         }
     }
 
-    /// All questions of write a sheet. The answer is the sheet.
-    fn sheet_questions(&self, space: usize) -> Result<String, u16> {
+    /// All questions of a call that writes a text. The answer is the text.
+    fn text_questions(&self, text: Text, space: usize) -> Result<String, u16> {
         let graph = self.plan_questions()?;
-        let text = sheet_text(&graph.waves());
+        let text = text(&graph.waves());
         ask(text.len() <= space, OUTPUT_TOO_SHORT)?;
         Ok(text)
     }
@@ -58,11 +66,16 @@ impl Memory {
 
 /// What the program *sheet* prints for a list on standard input.
 pub fn program_output(list: &[u8]) -> Vec<u8> {
+    printed(sheet_text, list)
+}
+
+/// What a program prints for a list: a text of its plan, or the refusal.
+pub(crate) fn printed(text: Text, list: &[u8]) -> Vec<u8> {
     let mut memory = Memory::filled(MAX_BANKS, 0);
     let read = memory.read_list(list);
     if read.number != ACCEPTED {
         return format!("REFUSED {} ROW {}\n", read.number, read.row).into_bytes();
     }
     let graph = memory.held_graph().expect("an accepted list leaves a plan");
-    sheet_text(&graph.waves()).into_bytes()
+    text(&graph.waves()).into_bytes()
 }

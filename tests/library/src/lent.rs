@@ -105,4 +105,10 @@ impl Lent<'_> {
             self.neighbours, self.degrees, self.waves, self.counts, self.trail, self.moved,
             self.tally, self.result;))
     }
+
+    /// Write a poster to the front of the output. Result: its length.
+    pub fn write_poster(&mut self, out: &mut [u8]) -> u16 {
+        call!(wave_plan_write_poster(;
+            self.neighbours, self.degrees, self.waves, self.counts, self.tally, out, self.result;))
+    }
 }

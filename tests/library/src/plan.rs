@@ -36,6 +36,9 @@ const SHEET_BYTES: usize = 4067;
 const JOURNAL_BYTES: usize = 60_000;
 const ENTRY_BYTES: usize = 7;
 
+/// The bytes of the longest poster: four pages.
+const POSTER_BYTES: usize = 8200;
+
 /// A plan and the memory that it stands in.
 #[derive(Clone, Debug)]
 pub struct Plan {
@@ -157,6 +160,14 @@ impl Plan {
         answer(self.lent().write_sheet(&mut out))?;
         out.truncate(usize::from(self.result[0]));
         Ok(String::from_utf8(out).expect("a sheet is ASCII"))
+    }
+
+    /// The gate poster.
+    pub fn poster(&mut self) -> Result<String, Refused> {
+        let mut out = vec![0; POSTER_BYTES];
+        answer(self.lent().write_poster(&mut out))?;
+        out.truncate(usize::from(self.result[0]));
+        Ok(String::from_utf8(out).expect("a poster is ASCII"))
     }
 
     /// Memory for a plan of n banks, all cells 0.

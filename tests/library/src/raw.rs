@@ -214,4 +214,21 @@ extern "C" {
         result: *mut u16,
         result_length: usize,
     ) -> u16;
+
+    pub fn wave_plan_write_poster(
+        neighbours: *const u16,
+        neighbours_length: usize,
+        degrees: *const u16,
+        degrees_length: usize,
+        waves: *const u16,
+        waves_length: usize,
+        counts: *const u16,
+        counts_length: usize,
+        tally: *const u16,
+        tally_length: usize,
+        out: *mut u8,
+        out_length: usize,
+        result: *mut u16,
+        result_length: usize,
+    ) -> u16;
 }

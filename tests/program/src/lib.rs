@@ -1,18 +1,33 @@
-//! Runs the program *sheet* on a list and judges what it prints.
+//! Runs the programs *sheet* and *poster* on a list and judges what they print.
 //!
-//! - `run`: starts the program.
-//! - `read_back`: reads the waves off a printed sheet and holds them against the rule, bank by
-//!   bank, without the model.
+//! - `run`: starts a program.
+//! - `read_back`: reads the waves off a printed sheet or poster and holds them against the rule,
+//!   bank by bank, without the model.
 
 pub mod read_back;
 pub mod run;
 
-use independent::sheet::program_output;
+use independent::{poster, sheet};
 
-/// The program prints for this list what the model does; a sheet also follows the rule.
+/// The program *sheet* prints for this list what the model does; a sheet also follows the rule.
 pub fn agrees_with_model(list: &[u8]) {
     let printed = run::sheet_program(list);
-    let wanted = program_output(list);
+    same(list, &printed, &sheet::program_output(list));
+    if !printed.starts_with(b"REFUSED") {
+        read_back::sheet_follows_rule(list, &printed);
+    }
+}
+
+/// The program *poster* prints for this list what the model does; a poster also follows the rule.
+pub fn poster_agrees_with_model(list: &[u8]) {
+    let printed = run::poster_program(list);
+    same(list, &printed, &poster::program_output(list));
+    if !printed.starts_with(b"REFUSED") {
+        read_back::poster_follows_rule(list, &printed);
+    }
+}
+
+fn same(list: &[u8], printed: &[u8], wanted: &[u8]) {
     assert!(
         printed == wanted,
         "list: {}\nprinted: {}\nwanted: {}",
@@ -20,7 +35,4 @@ pub fn agrees_with_model(list: &[u8]) {
         printed.escape_ascii(),
         wanted.escape_ascii()
     );
-    if printed.starts_with(b"WAVES") {
-        read_back::follows_rule(list, &printed);
-    }
 }

@@ -1,14 +1,24 @@
-//! Reads the waves off a printed sheet and holds them against the rule, bank by bank. The clashes
-//! come straight from the rows of the accepted list; nothing of the model is used.
+//! Reads the waves off a printed sheet or poster and holds them against the rule, bank by bank. The
+//! clashes come straight from the rows of the accepted list; nothing of the model is used.
 
 use std::collections::BTreeSet;
 
 const LETTERS: &[u8; 24] = b"ABCDEFGHJKLMNPQRSTUVWXYZ";
 
 /// The sheet printed for an accepted list shows the rule wave of each bank.
-pub fn follows_rule(list: &[u8], sheet: &[u8]) {
+pub fn sheet_follows_rule(list: &[u8], sheet: &[u8]) {
+    follows_rule(list, &lines_of_sheet(text(sheet)));
+}
+
+/// The poster printed for an accepted list shows the rule wave of each bank.
+pub fn poster_follows_rule(list: &[u8], poster: &[u8]) {
+    follows_rule(list, &lines_of_poster(text(poster)));
+}
+
+/// The banks by wave are the rule's.
+fn follows_rule(list: &[u8], banks: &[Vec<usize>]) {
     let (n, clashes) = clashes_of(text(list));
-    let waves = waves_on(text(sheet), n);
+    let waves = waves_of(banks, n);
     let near: Vec<BTreeSet<usize>> = (0..n).map(|b| near(b, &clashes)).collect();
     for b in 0..n {
         let earlier = |&&q: &&usize| {
@@ -61,18 +71,13 @@ fn near(b: usize, clashes: &BTreeSet<(usize, usize)>) -> BTreeSet<usize> {
     clashes.iter().filter_map(other).collect()
 }
 
-/// The waves by bank number that a sheet of n banks shows. Checks the sheet's form: each bank
-/// once, ascending in its line, one space before each, a line for each wave.
-fn waves_on(sheet: &str, n: usize) -> Vec<usize> {
-    assert!(sheet.ends_with('\n'));
-    let lines: Vec<&str> = sheet.split_terminator('\n').collect();
-    assert_eq!(lines[0], format!("WAVES {}", lines.len() - 1));
+/// The waves by bank number, of the banks by wave: each of n banks once, ascending in its wave.
+fn waves_of(banks: &[Vec<usize>], n: usize) -> Vec<usize> {
     let mut waves = vec![None; n];
-    for (wave, line) in lines[1..].iter().enumerate() {
-        let banks = banks_on(line, LETTERS[wave]);
+    for (wave, banks) in banks.iter().enumerate() {
         assert!(!banks.is_empty(), "an empty wave");
         assert!(banks.windows(2).all(|pair| pair[0] < pair[1]), "ascending");
-        for b in banks {
+        for &b in banks {
             assert_eq!(waves[b].replace(wave), None, "bank {b} stands once");
         }
     }
@@ -80,6 +85,61 @@ fn waves_on(sheet: &str, n: usize) -> Vec<usize> {
         .into_iter()
         .map(|wave| wave.expect("each bank stands"))
         .collect()
+}
+
+/// The banks by wave that a sheet shows. Checks its form: one space before each bank, a line for
+/// each wave.
+fn lines_of_sheet(sheet: &str) -> Vec<Vec<usize>> {
+    assert!(sheet.ends_with('\n'));
+    let lines: Vec<&str> = sheet.split_terminator('\n').collect();
+    assert_eq!(lines[0], format!("WAVES {}", lines.len() - 1));
+    let lines = lines[1..].iter().zip(LETTERS);
+    lines
+        .map(|(line, &letter)| banks_on(line, letter))
+        .collect()
+}
+
+/// The banks by wave that a poster shows. Checks its form: pages of 50 lines of 40 characters, each
+/// with a letter or a space, a space, up to seven banks right-aligned in five columns and spaces.
+fn lines_of_poster(poster: &str) -> Vec<Vec<usize>> {
+    assert_eq!(poster.len() % (50 * 41), 0, "whole pages");
+    let lines: Vec<&str> = poster.split_terminator('\n').collect();
+    assert_eq!(41 * lines.len(), poster.len());
+    let mut waves: Vec<Vec<usize>> = Vec::new();
+    let mut blank = 0;
+    for line in lines {
+        assert_eq!(line.len(), 40);
+        let banks = columns(line);
+        blank = if banks.is_empty() { blank + 1 } else { 0 };
+        match line.as_bytes()[0] {
+            b' ' => waves.last_mut().expect("a wave before it").extend(banks),
+            letter => {
+                assert_eq!(letter, LETTERS[waves.len()]);
+                waves.push(banks);
+            }
+        }
+    }
+    assert!(blank < 50, "a page without a bank");
+    waves
+}
+
+/// The banks in the columns of a poster's line. Only the last ones may be empty.
+fn columns(line: &str) -> Vec<usize> {
+    let banks = line[2..].trim_end();
+    assert_eq!(&line[1..2], " ");
+    assert_eq!(banks.len() % 5, 0);
+    assert!(banks.len() <= 35);
+    let bank = |columns: &[u8]| {
+        let columns = text(columns);
+        let bank: usize = columns.trim_start().parse().expect("a bank number");
+        assert_eq!(
+            format!("{bank:5}"),
+            columns,
+            "right-aligned, no zeros in front"
+        );
+        bank
+    };
+    banks.as_bytes().chunks(5).map(bank).collect()
 }
 
 /// The banks on the line of a wave, in their order.

@@ -1,4 +1,4 @@
-//! The built program against the model and against the rule: edges, malformed rows, rows one byte
+//! The built program *sheet* against the model and against the rule: edges, malformed rows, rows one byte
 //! away from a good one, random lists and a list of nearly 60,000 bytes.
 
 use independent::lists;

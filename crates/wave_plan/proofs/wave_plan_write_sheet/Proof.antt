@@ -1,19 +1,21 @@
 -- `wave_plan::wave_plan_write_sheet` meets its contract.
 use borrow.Author.Needs.{needs}
 use native.Mathlib.Omega.{arith}
-use Rattle.wave_plan.proofs.Answers.{sheet-short}
-use Rattle.wave_plan.specs.Calls.{sheetCall}
+use Rattle.sheet_writer.specs.Sheet.{sheet}
+use Rattle.sheet_writer.proofs.Theorems.{sheet-fits}
+use Rattle.sheet_writer.proofs.Writing.{answer-most}
+use Rattle.wave_plan.specs.Calls.{textCall}
 use Rattle.wave_plan.proofs.Room.{short-tally, short-result}
-use Rattle.wave_plan.proofs.Done.{sheet-done}
+use Rattle.wave_plan.proofs.Done.{text-done}
 use Rattle.wave_plan.proofs.wave_plan_write_sheet.Statement.{statement}
 use Rattle.wave_plan.proofs.wave_plan_write_sheet.Tie as tie
 
 returns : tie.Need-returns
-unfolding sheetCall
+unfolding textCall
 returns c = short-tally _ _ _ _ _ (c .if1 .taken)
 
 returns-2 : tie.Need-returns-2
-unfolding sheetCall
+unfolding textCall
 returns-2 c = short-result _ _ _ _ _ (c .before .if1 .left) (c .if2 .taken)
 
 tally-in-requires : tie.Need-tally-in-requires
@@ -23,7 +25,7 @@ write-sheet-requires : tie.Need-write-sheet-requires
 write-sheet-requires c κs = search needs
 
 cast-put-one : tie.Need-cast-put-one
-cast-put-one c = omega (arith, sheet-short _ _ _ _ _ (c .before .before .before .before .write-sheet .ensures))
+cast-put-one c = omega (arith, answer-most sheet _ _ _ 4067 sheet-fits _ _ (c .before .before .before .before .write-sheet .ensures))
 
 put-one-requires : tie.Need-put-one-requires
 put-one-requires c κs = search needs
@@ -36,7 +38,7 @@ same-length-2 c = search needs
 
 returns-3 : tie.Need-returns-3
 returns-3 c =
-    sheet-done _ _ _ _ _ _ _ _
+    text-done sheet _ _ _ _ _ _ _ _
     (c .before .before .before .before .before .before .before .before .before .before .before .if1 .left)
     (c .before .before .before .before .before .before .before .before .before .before .if2 .left)
     (c .before .before .before .before .before .before .before .before .before .tally-in .ensures)

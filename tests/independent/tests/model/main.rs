@@ -3,6 +3,7 @@
 mod journal;
 mod marked;
 mod plan_cells;
+mod poster;
 mod reach;
 mod read_list;
 mod refusals;

@@ -62,6 +62,7 @@ fn each_damage_is_seen_by_each_call() {
                 Call::WriteSheet(5000),
                 Call::StartJournal(vec![0; 4000]),
                 Call::Record(any_entry(0, 1), any_journal(&memory), 5),
+                Call::WritePoster(8200),
             ] {
                 Pair::new(memory.clone(), random.draw()).call(&call);
             }
@@ -102,7 +103,11 @@ fn calls_on_damaged_copies(random: &mut Random, n: usize, calls: usize, numbers:
     }
 }
 
+/// Makes the call, and for a sheet also that for the poster, and counts the call's number.
 fn count(numbers: &mut Numbers, memory: Memory, call: &Call, random: &mut Random) {
+    if let Call::WriteSheet(space) = call {
+        Pair::new(memory.clone(), 75).call(&Call::WritePoster(*space));
+    }
     let answer = Pair::new(memory, random.draw()).call(call);
     numbers[usize::from(answer.number)] += 1;
 }

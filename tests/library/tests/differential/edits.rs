@@ -2,7 +2,7 @@
 
 use crate::damage;
 use crate::pair::{Call, Pair};
-use crate::plans::{any_memory, bank_count, graph, row, sheet_length, slices};
+use crate::plans::{any_memory, bank_count, graph, poster_length, row, sheet_length, slices};
 use crate::{quick, rounds};
 use independent::plan::MAX_DEGREE;
 use independent::random::Random;
@@ -219,6 +219,7 @@ fn question(random: &mut Random, pair: &mut Pair) {
         0 => Call::WaveOf(b),
         1 => Call::ClashesOf(b),
         _ => {
+            pair.call(&Call::WritePoster(poster_length(&pair.model)));
             let length = sheet_length(&pair.model);
             Call::WriteSheet(random.between(length - 1, length + 20))
         }

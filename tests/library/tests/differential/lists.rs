@@ -67,7 +67,7 @@ fn long_lists() {
 }
 
 /// Reads the list into memory of any content, as a rule with room for its banks; then writes the
-/// sheet.
+/// sheet and the poster.
 fn read(random: &mut Random, list: &[u8]) {
     let first = rows(list).first().and_then(|row| n_row(row));
     let n = first.unwrap_or(4).min(1024);
@@ -79,4 +79,5 @@ fn read(random: &mut Random, list: &[u8]) {
     let mut pair = Pair::new(memory, random.draw());
     pair.call(&Call::ReadList(list.to_vec()));
     pair.call(&Call::WriteSheet(5000));
+    pair.call(&Call::WritePoster(8200));
 }

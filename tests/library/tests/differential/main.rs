@@ -5,7 +5,7 @@
 //! - `plans`: random plans of all sizes and degrees.
 //! - `edits`: sequences of edits, accepted and refused.
 //! - `damage`, `damaged`: memory that holds no plan or is too short, and the calls on it.
-//! - `lists`, `sheets`: reading lists and writing sheets.
+//! - `lists`, `sheets`, `posters`: reading lists, writing sheets and posters.
 //! - `journals`, `replays`: starting journals and recording edits; replaying journals.
 //! - `short`: tally and result slices that are too short.
 //! - `marked`: the paper's marked examples and a journal, through the wrapper that owns its memory.
@@ -21,6 +21,7 @@ mod lists;
 mod marked;
 mod pair;
 mod plans;
+mod posters;
 mod replays;
 mod sheets;
 mod short;

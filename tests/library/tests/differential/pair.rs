@@ -8,8 +8,8 @@ use independent::reach::Edit;
 use independent::refusals::ACCEPTED;
 use std::fmt;
 
-/// A call with its arguments; a sheet's is the length of its output, and a journal is the slice that
-/// is lent, which may be longer than the journal.
+/// A call with its arguments; a sheet's and a poster's is the length of its output, and a journal is the
+/// slice that is lent, which may be longer than the journal.
 #[derive(Clone)]
 pub enum Call {
     Open(u16),
@@ -19,6 +19,7 @@ pub enum Call {
     ClashesOf(u16),
     ReadList(Vec<u8>),
     WriteSheet(usize),
+    WritePoster(usize),
     StartJournal(Vec<u8>),
     Record(Entry, Vec<u8>, usize),
     Replay(Vec<u8>),
@@ -38,6 +39,7 @@ impl fmt::Display for Call {
                 write!(f, "list of {} bytes, {}", list.len(), front.escape_ascii())
             }
             Call::WriteSheet(length) => write!(f, "sheet into {length} bytes"),
+            Call::WritePoster(length) => write!(f, "poster into {length} bytes"),
             Call::StartJournal(slice) => write!(f, "journal into {} bytes", slice.len()),
             Call::Record(entry, slice, length) => {
                 let front = &slice[..slice.len().min(40)];
@@ -63,7 +65,9 @@ impl Call {
     /// The output lent to the call: a sheet's, of any content, or the slice of a journal.
     pub fn output(&self, random: &mut Random) -> Vec<u8> {
         match self {
-            Call::WriteSheet(length) => (0..*length).map(|_| random.byte()).collect(),
+            Call::WriteSheet(length) | Call::WritePoster(length) => {
+                (0..*length).map(|_| random.byte()).collect()
+            }
             Call::StartJournal(slice) | Call::Record(_, slice, _) => slice.clone(),
             _ => Vec::new(),
         }
@@ -195,6 +199,10 @@ impl Pair {
                 let answer = model.write_sheet(&mut output);
                 (answer.number, vec![answer.length])
             }
+            Call::WritePoster(_) => {
+                let answer = model.write_poster(&mut output);
+                (answer.number, vec![answer.length])
+            }
             Call::StartJournal(_) => {
                 let answer = model.start_journal(&mut output);
                 (answer.number, vec![answer.length])
@@ -228,6 +236,7 @@ pub fn make(call: &Call, slices: &mut Slices, output: &mut [u8]) -> u16 {
         Call::ClashesOf(b) => lent.clashes_of(*b),
         Call::ReadList(list) => lent.read_list(list),
         Call::WriteSheet(_) => lent.write_sheet(output),
+        Call::WritePoster(_) => lent.write_poster(output),
         Call::StartJournal(_) => lent.start_journal(output),
         Call::Record(entry, _, length) => match entry.edit {
             Edit::Add => lent.add_recorded(entry.a, entry.b, output, *length),

@@ -117,3 +117,9 @@ pub fn sheet_length(memory: &Memory) -> usize {
     let mut output = [0; 5000];
     memory.write_sheet(&mut output).length
 }
+
+/// The poster's length in memory that holds a plan.
+pub fn poster_length(memory: &Memory) -> usize {
+    let mut output = [0; 8200];
+    memory.write_poster(&mut output).length
+}

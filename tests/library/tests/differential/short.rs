@@ -41,6 +41,8 @@ fn short_tally_or_result() {
         (Call::ReadList(vec![b' '; 60_001]), 1),
         (Call::WriteSheet(100), 1),
         (Call::WriteSheet(0), 1),
+        (Call::WritePoster(2050), 1),
+        (Call::WritePoster(0), 1),
         (Call::StartJournal(vec![b'#'; 30]), 1),
         (Call::StartJournal(vec![]), 1),
         (Call::Record(add, journal.clone(), 5), 3),

@@ -1,5 +1,6 @@
 use borrow.Author.Needs.{needs}
-use Rattle.sheet.proofs.Answering.{answer-refused, answer-sheet, sheet-within}
+use Rattle.sheet_writer.specs.Sheet.{sheet}
+use Rattle.list_program.proofs.Answering.{answer-refused, answer-text, text-within}
 use Rattle.sheet.proofs.answer.answer_list.Statement.{statement}
 use Rattle.sheet.proofs.answer.answer_list.Tie as tie
 
@@ -33,7 +34,7 @@ same-length c = search needs
 returns : tie.Need-returns
 returns c =
     let p = c .before .before .put-refusal .ensures in
-    (answer-refused _ _ _ (c .before .before .before .before .before .before .before .before .before .before .before .before .before .read-list-core .ensures) (c .before .before .before .before .if1 .taken) _ _ (p .0), p .1)
+    (answer-refused sheet _ _ _ (c .before .before .before .before .before .before .before .before .before .before .before .before .before .read-list-core .ensures) (c .before .before .before .before .if1 .taken) _ _ (p .0), p .1)
 
 slice-aggregate-write-sheet : tie.Need-slice-aggregate-write-sheet
 slice-aggregate-write-sheet c = search needs
@@ -57,7 +58,7 @@ returns-2 : tie.Need-returns-2
 returns-2 c =
     let read = c .before .before .before .before .before .before .before .before .before .before .before .before .before .before .before .before .before .before .read-list-core .ensures in
     let w = c .before .before .write-sheet .ensures in
-    (answer-sheet _ _ _ read (c .before .before .before .before .before .before .before .before .before .if1 .left) _ w, sheet-within _ _ _ read _ w)
+    (answer-text sheet _ _ _ read (c .before .before .before .before .before .before .before .before .before .if1 .left) _ w, text-within sheet _ _ _ read _ w)
 
 pub answer-list-spec : {M : Type 1} → statement M
 answer-list-spec =

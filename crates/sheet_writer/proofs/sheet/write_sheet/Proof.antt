@@ -2,7 +2,9 @@
 use borrow.Author.Needs.{needs}
 use native.Mathlib.Omega.{arith}
 use mathlib.Core.Path.{sym, _∙_}
-use Rattle.sheet_writer.proofs.Plans.{plan-room, plan-most, plan-few, sheet-parts, sheet-bytes, sheet-written, sheet-refused, sheet-short, sheet-done}
+use Rattle.sheet_writer.specs.Sheet.{sheet}
+use Rattle.sheet_writer.proofs.Plans.{plan-room, plan-most, plan-few, sheet-parts, sheet-bytes, sheet-written}
+use Rattle.sheet_writer.proofs.Writing.{text-refused, text-short, text-done}
 use Rattle.sheet_writer.proofs.sheet.write_sheet.Statement.{statement}
 use Rattle.sheet_writer.proofs.sheet.write_sheet.Tie as tie
 
@@ -10,7 +12,7 @@ check-plan-requires : tie.Need-check-plan-requires
 check-plan-requires c κs = search needs
 
 returns : tie.Need-returns
-returns c = sheet-refused _ _ _ _ (c .before .check-plan .ensures .0) (c .if1 .taken)
+returns c = text-refused sheet _ _ _ _ (c .before .check-plan .ensures .0) (c .if1 .taken)
 
 sheet-length-requires : tie.Need-sheet-length-requires
 sheet-length-requires c κs =
@@ -21,7 +23,7 @@ returns-2 : tie.Need-returns-2
 returns-2 c =
     let checked = c .before .before .before .check-plan .ensures in
     let zero = c .before .before .if1 .left in
-    sheet-short _ _ _ (sym zero ∙ checked .0) (omega (arith, sheet-bytes _ _ _ (checked .1 zero), c .before .sheet-length .ensures, c .if2 .taken))
+    text-short sheet _ _ _ (sym zero ∙ checked .0) (omega (arith, sheet-bytes _ _ _ (checked .1 zero), c .before .sheet-length .ensures, c .if2 .taken))
 
 put-head-requires : tie.Need-put-head-requires
 put-head-requires c κs =
@@ -46,7 +48,7 @@ returns-3 c =
     let zero = c .before .before .before .before .before .before .before .before .before .before .if1 .left in
     let plan = checked .1 zero in
     let bytes = c .before .before .before .before .before .before .before .before .before .sheet-length .ensures ∙ sheet-bytes _ _ _ plan in
-    sheet-done _ _ _ (sym zero ∙ checked .0) (omega (arith, bytes, c .before .before .before .before .before .before .before .before .if2 .left)) _ _ bytes (sheet-written _ _ _ plan _ (omega (arith, bytes, c .before .before .before .before .before .before .before .before .if2 .left)) _ _ _ _ (c .before .before .before .before .before .before .put-head .ensures) (c .before .before .put-lines .ensures))
+    text-done sheet _ _ _ (sym zero ∙ checked .0) (omega (arith, bytes, c .before .before .before .before .before .before .before .before .if2 .left)) _ _ bytes (sheet-written _ _ _ plan _ (omega (arith, bytes, c .before .before .before .before .before .before .before .before .if2 .left)) _ _ _ _ (c .before .before .before .before .before .before .put-head .ensures) (c .before .before .put-lines .ensures))
 
 pub write-sheet-spec : {M : Type 1} → statement M
 write-sheet-spec =

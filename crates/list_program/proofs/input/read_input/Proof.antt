@@ -3,8 +3,8 @@ use borrow.Author.Needs.{needs}
 use Prim.Native.Nat.{_-_, _≤_}
 use mathlib.Core.Path.{_≡_}
 use lib.ListN.{length}
-use Rattle.sheet.proofs.input.read_input.Statement.{statement}
-use Rattle.sheet.proofs.input.read_input.Tie as tie
+use Rattle.list_program.proofs.input.read_input.Statement.{statement}
+use Rattle.list_program.proofs.input.read_input.Tie as tie
 
 abbrev Inv-loop : tie.InvT-loop
 Inv-loop list₀ at₀ list at = (at ≤ length list) × (length list ≡ length list₀)

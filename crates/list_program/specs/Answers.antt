@@ -1,14 +1,15 @@
--- What the program writes for a list (01, "The sheet").
+-- What a program writes for a list: a text of its plan, or the refusal (01, "The sheet").
 use mathlib.Core.List.{List, [], _∷_, _++_}
 use Prim.Native.Nat.{ℕ, zero, suc}
 use lib.ListN.{length, replicate}
+use Rattle.rule.specs.Graph.{Graph}
 use Rattle.memory.specs.Cells.{over}
 use Rattle.planner.specs.Calls.{Memory, memoryOf}
 use Rattle.list_reader.specs.Pass.{ListResult, readList}
 use Rattle.sheet_writer.specs.Sheet.{decimal}
-use Rattle.sheet_writer.specs.Calls.{SheetResult, writeSheet}
+use Rattle.sheet_writer.specs.Calls.{TextResult, writeText}
 
--- the memory that the program lends: cells for 1,024 banks, all 0
+-- the memory that a program lends: cells for 1,024 banks, all 0
 abbrev pub blank : Memory
 blank = memoryOf (replicate 23552 0) (replicate 1024 0) (replicate 1024 0) (replicate 24576 0) (replicate 1024 0) (replicate 1024 0) (record { banks = 0; clashes = 0; waves = 0 })
 
@@ -24,14 +25,14 @@ pub record AnswerResult : Type 0 where
 abbrev pub answerResult : ℕ → List ℕ → AnswerResult
 answerResult length out = record { length = length; out = out }
 
-abbrev pub ofSheet : SheetResult → AnswerResult
-ofSheet w = answerResult (w .answer .length) (w .out)
+abbrev pub ofText : TextResult → AnswerResult
+ofText w = answerResult (w .answer .length) (w .out)
 
--- by the list's number: the sheet of the plan that it left, or the refusal
-unfoldable pub answerBy : ℕ → ListResult → List ℕ → AnswerResult
-answerBy zero l out = ofSheet (writeSheet (l .memory .slices) (l .memory .tally) out)
-answerBy (suc c) l out = answerResult (length (refusalText (suc c) (l .answer .row))) (over (refusalText (suc c) (l .answer .row)) out)
+-- by the list's number: the text of the plan that it left, or the refusal
+unfoldable pub answerBy : (Graph → List ℕ) → ℕ → ListResult → List ℕ → AnswerResult
+answerBy text zero l out = ofText (writeText text (l .memory .slices) (l .memory .tally) out)
+answerBy text (suc c) l out = answerResult (length (refusalText (suc c) (l .answer .row))) (over (refusalText (suc c) (l .answer .row)) out)
 
 -- the answer to a list
-unfoldable pub answerOf : List ℕ → List ℕ → AnswerResult
-answerOf list out = answerBy (readList list blank .answer .number) (readList list blank) out
+unfoldable pub answerOf : (Graph → List ℕ) → List ℕ → List ℕ → AnswerResult
+answerOf text list out = answerBy text (readList list blank .answer .number) (readList list blank) out

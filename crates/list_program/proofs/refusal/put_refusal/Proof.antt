@@ -1,9 +1,9 @@
 use borrow.Author.Needs.{needs}
 use native.Mathlib.Omega.{arith}
 use Rattle.sheet_writer.proofs.Decimal.{five-digits}
-use Rattle.sheet.proofs.Answering.{length-refusal, puts-refusal}
-use Rattle.sheet.proofs.answer.put_refusal.Statement.{statement}
-use Rattle.sheet.proofs.answer.put_refusal.Tie as tie
+use Rattle.list_program.proofs.Answering.{length-refusal, puts-refusal}
+use Rattle.list_program.proofs.refusal.put_refusal.Statement.{statement}
+use Rattle.list_program.proofs.refusal.put_refusal.Tie as tie
 
 slice-aggregate-put-text : tie.Need-slice-aggregate-put-text
 slice-aggregate-put-text c = search needs

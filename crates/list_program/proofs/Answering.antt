@@ -4,14 +4,15 @@ use mathlib.Core.Path.{_≡_, refl, sym, ap, ap₂, _∙_}
 use Prim.Native.Nat.{ℕ, zero, suc, _+_, _≤_}
 use native.Mathlib.Omega.{arith}
 use lib.ListN.{length, length-append}
+use Rattle.rule.specs.Graph.{Graph}
 use Rattle.memory.specs.Cells.{over}
 use Rattle.list_reader.specs.Pass.{ListResult, readList}
 use Rattle.sheet_writer.specs.Sheet.{decimal}
 use Rattle.sheet_writer.specs.Put.{Puts}
-use Rattle.sheet_writer.specs.Calls.{SheetResult, writeSheet}
+use Rattle.sheet_writer.specs.Calls.{TextResult, writeText}
 use Rattle.sheet_writer.proofs.Putting.{puts-three, put-over}
-use Rattle.sheet_writer.proofs.Theorems.{written-within}
-use Rattle.sheet.specs.Answers.{blank, refusalText, answerResult, ofSheet, answerBy, answerOf}
+use Rattle.sheet_writer.proofs.Writing.{written-within}
+use Rattle.list_program.specs.Answers.{blank, refusalText, answerResult, ofText, answerBy, answerOf}
 
 pub length-refusal : (c r : ℕ) → length (refusalText c r) ≡ 8 + (length (decimal c) + (5 + (length (decimal r) + 1)))
 unfolding refusalText
@@ -34,29 +35,30 @@ puts-refusal c r out room r₁ r₂ r₃ r₄ r₅ out₁ out₂ out₃ out₄ o
     puts-three (82 ∷ 69 ∷ 70 ∷ 85 ∷ 83 ∷ 69 ∷ 68 ∷ 32 ∷ []) (decimal c) row 0 out (omega (arith, length-append (decimal r) (10 ∷ []))) r₁ r₂ r₅ out₁ out₂ out₅ e₁ p₁ p₂
     (puts-three (32 ∷ 82 ∷ 79 ∷ 87 ∷ 32 ∷ []) (decimal r) (10 ∷ []) r₂ out₂ (omega arith) r₃ r₄ r₅ out₃ out₄ out₅ e₃ p₃ p₄ p₅)
 
-refused : (n : ℕ) (l : ListResult) (out : List ℕ) → (n ≡ 0 → ⊥)
-    → answerResult (length (refusalText n (l .answer .row))) (over (refusalText n (l .answer .row)) out) ≡ answerBy n l out
-unfolding answerBy
-refused zero l out z = absurd (z refl)
-refused (suc c) l out z = refl
-
-module _ (list out : List ℕ) (l : ListResult) (read : l ≡ readList list blank) where
-  by-reading : answerBy (l .answer .number) l out ≡ answerOf list out
-  unfolding answerOf
-  by-reading = ap (λ (l : ListResult). answerBy (l .answer .number) l out) read
-
-  -- a refused list
-  pub answer-refused : (l .answer .number ≡ 0 → ⊥) → (r : ℕ) (out′ : List ℕ) → Puts (refusalText (l .answer .number) (l .answer .row)) 0 out r out′
-      → answerResult r out′ ≡ answerOf list out
-  answer-refused z r out′ p =
-      let text : List ℕ = refusalText (l .answer .number) (l .answer .row) in
-      let e : r ≡ length text = omega (arith, p .next) in
-      ap₂ (λ (n : ℕ) (o : List ℕ). answerResult n o) e (p .left ∙ put-over text out) ∙ refused (l .answer .number) l out z ∙ by-reading
-
-  -- an accepted one
-  pub answer-sheet : l .answer .number ≡ 0 → (w : SheetResult) → w ≡ writeSheet (l .memory .slices) (l .memory .tally) out → ofSheet w ≡ answerOf list out
+module _ (text : Graph → List ℕ) where
+  refused : (n : ℕ) (l : ListResult) (out : List ℕ) → (n ≡ 0 → ⊥)
+      → answerResult (length (refusalText n (l .answer .row))) (over (refusalText n (l .answer .row)) out) ≡ answerBy text n l out
   unfolding answerBy
-  answer-sheet z w e = ap ofSheet e ∙ ap (λ (n : ℕ). answerBy n l out) (sym z) ∙ by-reading
+  refused zero l out z = absurd (z refl)
+  refused (suc c) l out z = refl
 
-  pub sheet-within : (w : SheetResult) → w ≡ writeSheet (l .memory .slices) (l .memory .tally) out → w .answer .length ≤ length (w .out)
-  sheet-within w e = rw e (written-within (l .memory .slices) (l .memory .tally) out)
+  module _ (list out : List ℕ) (l : ListResult) (read : l ≡ readList list blank) where
+    by-reading : answerBy text (l .answer .number) l out ≡ answerOf text list out
+    unfolding answerOf
+    by-reading = ap (λ (l : ListResult). answerBy text (l .answer .number) l out) read
+
+    -- a refused list
+    pub answer-refused : (l .answer .number ≡ 0 → ⊥) → (r : ℕ) (out′ : List ℕ) → Puts (refusalText (l .answer .number) (l .answer .row)) 0 out r out′
+        → answerResult r out′ ≡ answerOf text list out
+    answer-refused z r out′ p =
+        let line : List ℕ = refusalText (l .answer .number) (l .answer .row) in
+        let e : r ≡ length line = omega (arith, p .next) in
+        ap₂ (λ (n : ℕ) (o : List ℕ). answerResult n o) e (p .left ∙ put-over line out) ∙ refused (l .answer .number) l out z ∙ by-reading
+
+    -- an accepted one
+    pub answer-text : l .answer .number ≡ 0 → (w : TextResult) → w ≡ writeText text (l .memory .slices) (l .memory .tally) out → ofText w ≡ answerOf text list out
+    unfolding answerBy
+    answer-text z w e = ap ofText e ∙ ap (λ (n : ℕ). answerBy text n l out) (sym z) ∙ by-reading
+
+    pub text-within : (w : TextResult) → w ≡ writeText text (l .memory .slices) (l .memory .tally) out → w .answer .length ≤ length (w .out)
+    text-within w e = rw e (written-within text (l .memory .slices) (l .memory .tally) out)

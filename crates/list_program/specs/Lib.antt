@@ -1,0 +1,2 @@
+-- What a reader must believe of the programs: Answers.
+pub mod Answers

@@ -1,0 +1,2 @@
+-- Theorems: what to cite.
+pub mod Theorems

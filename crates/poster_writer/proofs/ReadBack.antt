@@ -1,0 +1,269 @@
+-- The pages read again: each line has its form, and gives its banks and its wave.
+use mathlib.Core.Bool.{Bool, true, false, cond, not}
+use mathlib.Core.List.{List, [], _∷_, _++_, map, flatMap, append-assoc}
+use mathlib.Core.Logic.{_⊎_, inl, inr}
+use mathlib.Core.Path.{_≡_, refl, sym, ap, ap₂, subst, _∙_}
+use Prim.Native.Nat.{ℕ, zero, suc, _+_, _*_, _-_, _/_, _≤_, _<_}
+use native.Mathlib.Omega.{arith}
+use lib.Dec.{T, eqb}
+use lib.ListN.{length, getD, take, drop, replicate, length-append, replicate-append-replicate}
+use lib.Seq.{take-at, drop-at, getD-at}
+use borrow.Author.Tests.{ne-eqb}
+use Rattle.rule.specs.Lists.{filter, memb}
+use Rattle.rule.proofs.Lists.{in-head, in-tail, in-cons, in-none, in-append, filter-cong, filter-true}
+use Rattle.list_rows.specs.Text.{valueFrom}
+use Rattle.sheet_writer.specs.Sheet.{Line, joined, decimal}
+use Rattle.sheet_writer.proofs.Lists.{filter-append}
+use Rattle.poster_writer.specs.Poster.{pieces, sevens, rightAligned, padded, posterLine, marked, waveLines}
+use Rattle.poster_writer.specs.Reading.{linesOn, numberIn, bankIn, banksOn, continued, grouped, Row}
+use Rattle.poster_writer.specs.Put.{Small}
+use Rattle.poster_writer.proofs.Digits.{decimal-value, digit-high}
+use Rattle.poster_writer.proofs.Each.{Each, each-append, each-replicate, each-map}
+use Rattle.poster_writer.proofs.Columns.{few-digits, length-aligned, length-columns, length-padded, length-rows, length-spaces}
+use Rattle.poster_writer.proofs.Pieces.{Fits, each-fits, length-sevens, pieces-joined, sevens-joined}
+
+-- a bank in its columns
+number-some : (ds : List ℕ) → 1 ≤ length ds → numberIn ds ≡ valueFrom 0 ds ∷ []
+unfolding numberIn
+number-some [] h = absurd (omega arith)
+number-some (d ∷ ds) h = refl
+
+abbrev inked : ℕ → Bool
+inked x = not (eqb x 32)
+
+no-ink : (n : ℕ) → filter inked (replicate n 32) ≡ []
+unfolding filter
+no-ink zero = refl
+no-ink (suc n) = no-ink n
+
+digits-inked : (b : ℕ) → filter inked (decimal b) ≡ decimal b
+digits-inked b =
+    filter-cong inked (λ x. true) (decimal b) (λ x m. let h : 48 ≤ x = digit-high b x m in ap not (ne-eqb x 32 (λ e. omega arith))) ∙ filter-true (decimal b)
+
+bank-in : (b : ℕ) → b < 1024 → bankIn (rightAligned b) ≡ b ∷ []
+unfolding bankIn rightAligned
+bank-in b h =
+    let spaces : List ℕ = replicate (5 - length (decimal b)) 32 in
+    ap numberIn (filter-append inked spaces (decimal b) ∙ ap₂ (λ (l r : List ℕ). l ++ r) (no-ink (5 - length (decimal b))) (digits-inked b))
+    ∙ number-some (decimal b) (few-digits b h .0)
+    ∙ ap (λ (n : ℕ). n ∷ []) (decimal-value b)
+
+-- columns without a bank
+blank-columns : (count left : ℕ) → left ≡ 5 * count + 3 → joined (map bankIn (pieces count 5 (replicate left 32 ++ (10 ∷ [])))) ≡ []
+unfolding pieces joined
+blank-columns zero left e = refl
+blank-columns (suc count) left e =
+    let more : ℕ = 5 * count + 3 in
+    let split : left ≡ 5 + more = omega arith in
+    let rest : List ℕ = replicate more 32 ++ (10 ∷ []) in
+    let text : replicate left 32 ++ (10 ∷ []) ≡ replicate 5 32 ++ rest =
+    ap (λ (n : ℕ). replicate n 32 ++ (10 ∷ [])) split
+    ∙ ap (λ (l : List ℕ). l ++ (10 ∷ [])) (sym (replicate-append-replicate 5 more 32))
+    ∙ append-assoc (replicate 5 32) (replicate more 32) (10 ∷ []) in
+    ap (λ (l : List ℕ). bankIn (take 5 l) ++ joined (map bankIn (pieces count 5 (drop 5 l)))) text ∙ blank ∙ blank-columns count more refl
+  where
+    blank : {l : List ℕ} → bankIn (replicate 5 32) ++ l ≡ l
+    blank = unfold bankIn numberIn filter in refl
+
+-- columns with banks, and spaces after them
+banks-in : (count left : ℕ) (bs : List ℕ) → Small bs → length bs ≤ count → left ≡ 5 * (count - length bs) + 3
+    → joined (map bankIn (pieces count 5 (joined (map rightAligned bs) ++ (replicate left 32 ++ (10 ∷ []))))) ≡ bs
+unfolding pieces joined
+banks-in count left [] small few e = blank-columns count left (omega arith)
+banks-in zero left (b ∷ bs) small few e = absurd (omega arith)
+banks-in (suc count) left (b ∷ bs) small few e =
+    let h : b < 1024 = small b (in-head b b bs refl) in
+    let rest : List ℕ = joined (map rightAligned bs) ++ (replicate left 32 ++ (10 ∷ [])) in
+    let text : (rightAligned b ++ joined (map rightAligned bs)) ++ (replicate left 32 ++ (10 ∷ [])) ≡ rightAligned b ++ rest =
+    append-assoc (rightAligned b) (joined (map rightAligned bs)) (replicate left 32 ++ (10 ∷ [])) in
+    ap (λ (l : List ℕ). bankIn (take 5 l) ++ joined (map bankIn (pieces count 5 (drop 5 l)))) text
+    ∙ ap₂ (λ (x y : List ℕ). bankIn x ++ joined (map bankIn (pieces count 5 y))) (take-at (rightAligned b) rest 5 (length-aligned b h)) (drop-at (rightAligned b) rest 5 (length-aligned b h))
+    ∙ ap₂ (λ (x y : List ℕ). x ++ y) (bank-in b h) (banks-in count left bs (λ x m. small x (in-tail x b bs m)) (omega arith) (omega arith))
+
+-- the banks on a line are those that were put on it
+pub banks-on : (mark : ℕ) (bs : List ℕ) → Fits bs → banksOn (posterLine mark bs) ≡ bs
+unfolding banksOn posterLine padded
+banks-on mark bs fits =
+    banks-in 7 (40 - length (mark ∷ 32 ∷ joined (map rightAligned bs))) bs (fits .0) (fits .1) (omega (arith, length-columns bs (fits .0)))
+
+blank-on : banksOn (padded []) ≡ []
+unfolding banksOn padded bankIn numberIn pieces joined filter
+blank-on = refl
+
+mark-on : (mark : ℕ) (bs : List ℕ) → getD (posterLine mark bs) 0 0 ≡ mark
+unfolding posterLine padded
+mark-on mark bs = refl
+
+-- the lines of a wave: those that continue it, and all of them
+continues : (ps rest : List (List ℕ)) → Each Fits ps → continued rest ≡ [] → continued (marked 32 ps ++ rest) ≡ joined ps
+unfolding marked continued joined
+continues [] rest fits none = none
+continues (p ∷ ps) rest fits none = rw (mark-on 32 p) (ap₂ (λ (x y : List ℕ). x ++ y) (banks-on 32 p (fits .0)) (continues ps rest (fits .1) none))
+
+passed-over : (ps rest : List (List ℕ)) → grouped (marked 32 ps ++ rest) ≡ grouped rest
+unfolding marked grouped
+passed-over [] rest = refl
+passed-over (p ∷ ps) rest = rw (mark-on 32 p) (passed-over ps rest)
+
+module _ (letter : ℕ) (high : 65 ≤ letter) (rest : List (List ℕ)) (none : continued rest ≡ []) where
+  no-space : eqb letter 32 ≡ false
+  no-space = ne-eqb letter 32 (λ e. omega arith)
+
+  first-stops : (ps : List (List ℕ)) → 1 ≤ length ps → continued (marked letter ps ++ rest) ≡ []
+  unfolding marked continued
+  first-stops [] some = absurd (omega arith)
+  first-stops (p ∷ ps) some = rw (mark-on letter p, no-space)
+
+  one-wave : (ps : List (List ℕ)) → Each Fits ps → 1 ≤ length ps → grouped (marked letter ps ++ rest) ≡ record { letter = letter; banks = joined ps } ∷ grouped rest
+  unfolding marked grouped joined
+  one-wave [] fits some = absurd (omega arith)
+  one-wave (p ∷ ps) fits some =
+      rw (mark-on letter p, no-space)
+      (ap₂ (λ (bs : List ℕ) (ls : List Line). record { letter = letter; banks = bs } ∷ ls)
+      (ap₂ (λ (x y : List ℕ). x ++ y) (banks-on letter p (fits .0)) (continues ps rest (fits .1) none))
+      (passed-over ps rest))
+
+blank-mark : getD (padded []) 0 0 ≡ 32
+unfolding padded
+blank-mark = refl
+
+blanks-continue : (n : ℕ) → continued (replicate n (padded [])) ≡ []
+unfolding continued
+blanks-continue zero = refl
+blanks-continue (suc n) = rw blank-mark (ap₂ (λ (x y : List ℕ). x ++ y) blank-on (blanks-continue n))
+
+blanks-no-wave : (n : ℕ) → grouped (replicate n (padded [])) ≡ []
+unfolding grouped
+blanks-no-wave zero = refl
+blanks-no-wave (suc n) = rw blank-mark (blanks-no-wave n)
+
+-- a sheet's line that the poster can show: a letter, and banks below 1,024, at least one
+pub record Good (l : Line) : Type 0 where
+  pub high : 65 ≤ l .letter
+  pub small : Small (l .banks)
+  pub some : 1 ≤ length (l .banks)
+
+-- the waves, and the lines that fill the page: no line continues what stood before them, and they are read as they were
+module _ (n : ℕ) where
+  abbrev shown : List Line → List (List ℕ)
+  shown ls = flatMap waveLines ls ++ replicate n (padded [])
+
+  shown-cons : (l : Line) (ls : List Line) → shown (l ∷ ls) ≡ marked (l .letter) (sevens (l .banks)) ++ shown ls
+  unfolding flatMap waveLines
+  shown-cons l ls = append-assoc (waveLines l) (flatMap waveLines ls) (replicate n (padded []))
+
+  pub none-continues : (ls : List Line) → Each Good ls → continued (shown ls) ≡ []
+  none-continues [] good = unfold flatMap in blanks-continue n
+  none-continues (l ∷ ls) good =
+      ap continued (shown-cons l ls)
+      ∙ first-stops (l .letter) (good .0 .high) (shown ls) (none-continues ls (good .1)) (sevens (l .banks)) (omega (arith, length-sevens (l .banks), good .0 .some))
+
+  pub waves-again : (ls : List Line) → Each Good ls → grouped (shown ls) ≡ ls
+  waves-again [] good = unfold flatMap in blanks-no-wave n
+  waves-again (l ∷ ls) good =
+      ap grouped (shown-cons l ls)
+      ∙ one-wave (l .letter) (good .0 .high) (shown ls) (none-continues ls (good .1)) (sevens (l .banks)) (each-fits (l .banks) (good .0 .small)) (omega (arith, length-sevens (l .banks), good .0 .some))
+      ∙ ap₂ (λ (bs : List ℕ) (rest : List Line). record { letter = l .letter; banks = bs } ∷ rest) (sevens-joined (l .banks)) (waves-again ls (good .1))
+
+-- the banks line by line are those of the waves, and before them those that continue none of these
+pub banks-by-wave : (ls : List (List ℕ)) → joined (map banksOn ls) ≡ continued ls ++ joined (map (λ (l : Line). l .banks) (grouped ls))
+unfolding joined continued grouped
+banks-by-wave [] = refl
+banks-by-wave (l ∷ ls) = ap (λ (bs : List ℕ). banksOn l ++ bs) (banks-by-wave ls) ∙ go (eqb (getD l 0 0) 32)
+  where
+    go : (space : Bool)
+        → banksOn l ++ (continued ls ++ joined (map (λ (l : Line). l .banks) (grouped ls)))
+        ≡ cond space (banksOn l ++ continued ls) [] ++ joined (map (λ (l : Line). l .banks) (cond space (grouped ls) (record { letter = getD l 0 0; banks = banksOn l ++ continued ls } ∷ grouped ls)))
+    go true = sym (append-assoc (banksOn l) (continued ls) (joined (map (λ (l : Line). l .banks) (grouped ls))))
+    go false = sym (append-assoc (banksOn l) (continued ls) (joined (map (λ (l : Line). l .banks) (grouped ls))))
+
+-- what stands in the columns: spaces and digits
+in-spaces : (n y : ℕ) → T (memb y (replicate n 32)) → y ≡ 32
+in-spaces zero y m = absurd (in-none y m)
+in-spaces (suc n) y m = elim (in-cons y 32 (replicate n 32) m) [ inl e ↦ e | inr t ↦ in-spaces n y t ]
+
+in-columns : (bs : List ℕ) (y : ℕ) → T (memb y (joined (map rightAligned bs))) → (y ≡ 32) ⊎ (48 ≤ y)
+unfolding joined rightAligned
+in-columns [] y m = absurd (in-none y m)
+in-columns (b ∷ bs) y m =
+    elim (in-append y (rightAligned b) (joined (map rightAligned bs)) m) [
+      | inl t ↦ elim (in-append y (replicate (5 - length (decimal b)) 32) (decimal b) t) [
+        | inl u ↦ inl (in-spaces (5 - length (decimal b)) y u)
+        | inr u ↦ inr (digit-high b y u)
+      ]
+      | inr t ↦ in-columns bs y t
+    ]
+
+-- a line to its end
+module _ (text : List ℕ) (few : length text ≤ 40) where
+  abbrev front : List ℕ
+  front = text ++ replicate (40 - length text) 32
+
+  length-front : length front ≡ 40
+  length-front = omega (arith, length-append text (replicate (40 - length text) 32), length-spaces (40 - length text))
+
+  padded-is : padded text ≡ front ++ (10 ∷ [])
+  unfolding padded
+  padded-is = sym (append-assoc text (replicate (40 - length text) 32) (10 ∷ []))
+
+  pub row : getD (padded text) 1 0 ≡ 32 → (T (memb 10 text) → ⊥) → Row (padded text)
+  row space none = record {
+    long = length-padded text few;
+    space = space;
+    inside = λ m. elim (in-append 10 text (replicate (40 - length text) 32) (subst (λ (l : List ℕ). T (memb 10 l)) (ap (take 40) padded-is ∙ take-at front (10 ∷ []) 40 length-front) m)) [
+      | inl t ↦ none t
+      | inr t ↦ let e : _≡_ {A = ℕ} 10 32 = in-spaces (40 - length text) 10 t in omega arith
+    ];
+    feed = ap (λ (l : List ℕ). getD l 40 0) padded-is ∙ getD-at front 10 [] 0 40 length-front;
+  }
+
+blank-row : Row (padded [])
+blank-row = row [] (omega arith) space (in-none 10)
+  where
+    space : getD (padded []) 1 0 ≡ 32
+    space = unfold padded in refl
+
+line-row : (mark : ℕ) (bs : List ℕ) → (10 ≡ mark → ⊥) → Fits bs → Row (posterLine mark bs)
+unfolding posterLine
+line-row mark bs seen fits =
+    row (mark ∷ 32 ∷ joined (map rightAligned bs)) (omega (arith, length-columns bs (fits .0), fits .1)) space (λ m.
+    elim (in-cons 10 mark (32 ∷ joined (map rightAligned bs)) m) [
+      | inl e ↦ seen e
+      | inr t ↦ elim (in-cons 10 32 (joined (map rightAligned bs)) t) [
+        | inl e ↦ let f : _≡_ {A = ℕ} 10 32 = e in omega arith
+        | inr u ↦ elim (in-columns bs 10 u) [ inl e ↦ let f : _≡_ {A = ℕ} 10 32 = e in omega arith | inr h ↦ omega arith ]
+      ]
+    ])
+  where
+    space : getD (padded (mark ∷ 32 ∷ joined (map rightAligned bs))) 1 0 ≡ 32
+    space = unfold padded in refl
+
+marked-rows : (mark : ℕ) (ps : List (List ℕ)) → (10 ≡ mark → ⊥) → Each Fits ps → Each Row (marked mark ps)
+unfolding marked
+marked-rows mark [] seen fits = tt
+marked-rows mark (p ∷ ps) seen fits = (line-row mark p seen (fits .0), marked-rows 32 ps (λ e. omega arith) (fits .1))
+
+waves-rows : (ls : List Line) → Each Good ls → Each Row (flatMap waveLines ls)
+unfolding flatMap waveLines
+waves-rows [] good = tt
+waves-rows (l ∷ ls) good =
+    let high : 65 ≤ l .letter = good .0 .high in
+    each-append Row (waveLines l) (flatMap waveLines ls) (marked-rows (l .letter) (sevens (l .banks)) (λ e. omega arith) (each-fits (l .banks) (good .0 .small))) (waves-rows ls (good .1))
+
+-- every line has the form of one
+pub rows : (n : ℕ) (ls : List Line) → Each Good ls → Each Row (flatMap waveLines ls ++ replicate n (padded []))
+rows n ls good = each-append Row (flatMap waveLines ls) (replicate n (padded [])) (waves-rows ls good) (each-replicate Row (padded []) blank-row n)
+
+each-long : (ls : List (List ℕ)) → Each Row ls → Each (λ l. length l ≡ 41) ls
+each-long = each-map Row (λ l. length l ≡ 41) (λ l r. r .long)
+
+pub waves-long : (ls : List Line) → Each Good ls → Each (λ l. length l ≡ 41) (flatMap waveLines ls)
+waves-long ls good = each-long (flatMap waveLines ls) (waves-rows ls good)
+
+-- lines put together are found again
+pub lines-again : (ls : List (List ℕ)) → Each Row ls → linesOn (joined ls) ≡ ls
+unfolding linesOn
+lines-again ls e =
+    let long = length-rows ls (each-long ls e) in
+    let count : length (joined ls) / 41 ≡ length ls = omega arith in
+    ap (λ (n : ℕ). pieces n 41 (joined ls)) count ∙ pieces-joined 41 ls (each-long ls e)

@@ -1,0 +1,67 @@
+-- The loop has written the first i banks.
+use borrow.Author.Needs.{needs}
+use native.Mathlib.Omega.{arith}
+use Prim.Native.Nat.{_-_, _≤_}
+use mathlib.Core.List.{map}
+use mathlib.Core.Path.{_≡_, refl, _∙_}
+use lib.ListN.{length, getD, take}
+use lib.Seq.{take-all}
+use Rattle.memory.proofs.Fronts.{in-cell}
+use Rattle.sheet_writer.specs.Sheet.{joined}
+use Rattle.sheet_writer.specs.Put.{Puts}
+use Rattle.sheet_writer.proofs.Putting.{puts-none, puts-then}
+use Rattle.poster_writer.specs.Poster.{rightAligned}
+use Rattle.poster_writer.proofs.Columns.{no-columns, columns-next, columns-before, length-aligned}
+use Rattle.poster_writer.proofs.lines.put_banks.Statement.{statement}
+use Rattle.poster_writer.proofs.lines.put_banks.Tie as tie
+
+abbrev Inv-loop : tie.InvT-loop
+Inv-loop out₀ at banks next₀ i₀ out next i =
+    Puts (joined (map rightAligned (take i banks))) at out₀ next out × (i ≤ length banks) × (length out ≡ length out₀)
+
+abbrev μ-loop : tie.MeasureT-loop
+μ-loop out₀ at banks next₀ i₀ out next i = length banks - i
+
+loop-holds : tie.Need-loop-holds Inv-loop μ-loop
+loop-holds c = (rw no-columns (puts-none _ _), omega arith, refl)
+
+mul-t6 : tie.Need-mul-t6 Inv-loop μ-loop
+mul-t6 c = search needs
+
+shared-slice-read-t11 : tie.Need-shared-slice-read-t11 Inv-loop μ-loop
+shared-slice-read-t11 c = search needs
+
+put-aligned-requires : tie.Need-put-aligned-requires Inv-loop μ-loop
+put-aligned-requires c κs =
+    let w = c .before .before .before .loop in
+    let banks = c .before .before .before .before .before .before .args .banks .now in
+    let small = c .before .before .before .before .before .before .pre .0 in
+    (small _ (in-cell (w .i) banks (c .before .before .loop-test .taken)), omega (arith, columns-before banks small (w .i) (w .inv .1), w .inv .0 .next, w .inv .2, c .before .before .loop-test .taken, c .before .before .before .before .before .before .pre .1))
+
+add-i : tie.Need-add-i Inv-loop μ-loop
+add-i c = search needs
+
+loop-less : tie.Need-loop-less Inv-loop μ-loop
+loop-less c = search needs
+
+loop-again : tie.Need-loop-again Inv-loop μ-loop
+loop-again c =
+    let a = c .before .before .before .before .before .before .before .before .before .args in
+    let w = c .before .before .before .before .before .before .loop in
+    let banks = a .banks .now in
+    let small = c .before .before .before .before .before .before .before .before .before .pre .0 in
+    let test = c .before .before .before .before .before .loop-test .taken in (
+      rw (columns-next banks (w .i) test) (puts-then (joined (map rightAligned (take (w .i) banks))) (rightAligned (getD banks (w .i) 0)) (a .at) (a .out .now) (omega (arith, columns-before banks small (w .i) (w .inv .1), length-aligned (getD banks (w .i) 0) (small _ (in-cell (w .i) banks test)), test, c .before .before .before .before .before .before .before .before .before .pre .1)) _ _ _ _ (w .inv .0) (c .before .before .put-aligned .ensures)),
+      omega arith,
+      c .before .before .put-aligned .kept .0 ∙ w .inv .2,
+    )
+
+same-length : tie.Need-same-length Inv-loop μ-loop
+same-length c = search needs
+
+returns : tie.Need-returns Inv-loop μ-loop
+returns c = rw (take-all (c .before .loop .i) (c .before .before .before .before .args .banks .now) (omega arith)) at (c .before .loop .inv .0)
+
+pub put-banks-spec : {M : Type 1} → statement M
+put-banks-spec =
+    tie.close (tie.spec Inv-loop μ-loop loop-holds mul-t6 shared-slice-read-t11 put-aligned-requires add-i loop-less loop-again same-length returns)

@@ -1,0 +1,55 @@
+-- The banks of line i are the part from 7 i on.
+use borrow.Author.Needs.{needs}
+use Rattle.poster_writer.proofs.Pieces.{line-at, part-at, part-fits}
+use Rattle.poster_writer.proofs.lines.put_line_at.Statement.{statement}
+use Rattle.poster_writer.proofs.lines.put_line_at.Tie as tie
+
+mul-from : tie.Need-mul-from
+mul-from c = search needs
+
+line-end-requires : tie.Need-line-end-requires
+line-end-requires c κs = search needs
+
+mark-of-requires : tie.Need-mark-of-requires
+mark-of-requires c κs = search needs
+
+mul-put-line : tie.Need-mul-put-line
+mul-put-line c = search needs
+
+sub-put-line : tie.Need-sub-put-line
+sub-put-line c = search needs
+
+part-put-line-start : tie.Need-part-put-line-start
+part-put-line-start c = search needs
+
+part-put-line-end : tie.Need-part-put-line-end
+part-put-line-end c = search needs
+
+put-line-requires : tie.Need-put-line-requires
+put-line-requires c κs =
+    let fits = part-fits (c .before .before .before .before .before .before .args .banks .now) _ _ (c .before .before .before .before .before .before .pre .1) (c .before .before .before .line-end .ensures) in
+    (fits .0, fits .1, c .before .before .before .before .before .before .pre .4)
+
+same-length : tie.Need-same-length
+same-length c = search needs
+
+returns : tie.Need-returns
+returns c =
+    let a = c .before .before .before .before .before .before .before .before .before .args in
+    let p = c .before .before .put-line .ensures in
+    rw (line-at (a .c .0) (a .banks .now) (a .i) (c .before .before .before .before .before .before .before .before .before .pre .3), part-at (a .banks .now) (a .i) _ (c .before .before .before .before .before .before .line-end .ensures), ← c .before .before .before .before .mark-of .ensures) p
+
+pub put-line-at-spec : {M : Type 1} → statement M
+put-line-at-spec =
+    tie.close
+    (tie.spec
+    mul-from
+    line-end-requires
+    mark-of-requires
+    mul-put-line
+    sub-put-line
+    part-put-line-start
+    part-put-line-end
+    put-line-requires
+    same-length
+    returns)

@@ -1,0 +1,87 @@
+-- The plan is that of the clashes which its rows name.
+use borrow.Author.Needs.{needs}
+use native.Mathlib.Omega.{arith}
+use mathlib.Core.Path.{sym, _∙_}
+use Rattle.sheet_writer.proofs.Plans.{plan-room, plan-most, plan-few}
+use Rattle.sheet_writer.proofs.Writing.{text-refused, text-short, text-done}
+use Rattle.poster_writer.specs.Poster.{poster}
+use Rattle.poster_writer.proofs.Plans.{plan-bytes, plan-text, poster-written}
+use Rattle.poster_writer.proofs.poster.write_poster.Statement.{statement}
+use Rattle.poster_writer.proofs.poster.write_poster.Tie as tie
+
+check-plan-requires : tie.Need-check-plan-requires
+check-plan-requires c κs = search needs
+
+returns : tie.Need-returns
+returns c = text-refused poster _ _ _ _ (c .before .check-plan .ensures .0) (c .if1 .taken)
+
+count-lines-requires : tie.Need-count-lines-requires
+count-lines-requires c κs =
+    let plan = c .before .check-plan .ensures .1 (c .if1 .left) in
+    (plan-most _ _ _ plan, plan-few _ _ _ plan, plan-room _ _ _ plan)
+
+sub-pages : tie.Need-sub-pages
+sub-pages c = search needs
+
+add-pages : tie.Need-add-pages
+add-pages c = search needs
+
+mul-length : tie.Need-mul-length
+mul-length c = search needs
+
+returns-2 : tie.Need-returns-2
+returns-2 c =
+    let checked = c .before .before .before .check-plan .ensures in
+    let zero = c .before .before .if1 .left in
+    text-short poster _ _ _ (sym zero ∙ checked .0) (omega (arith, plan-bytes _ _ _ (checked .1 zero), c .before .count-lines .ensures .0, c .if2 .taken))
+
+put-waves-requires : tie.Need-put-waves-requires
+put-waves-requires c κs =
+    let plan = c .before .before .before .before .check-plan .ensures .1 (c .before .before .before .if1 .left) in (
+      plan-most _ _ _ plan,
+      plan-few _ _ _ plan,
+      plan-room _ _ _ plan,
+      omega (arith, plan-text _ _ _ plan, c .before .before .count-lines .ensures .0, c .before .if2 .left),
+    )
+
+mul-put-blank-lines : tie.Need-mul-put-blank-lines
+mul-put-blank-lines c = omega (arith, c .before .before .before .before .before .before .count-lines .ensures .1, plan-few _ _ _ (c .before .before .before .before .before .before .before .before .check-plan .ensures .1 (c .before .before .before .before .before .before .before .if1 .left)))
+
+sub-put-blank-lines : tie.Need-sub-put-blank-lines
+sub-put-blank-lines c = omega (arith, c .before .before .before .before .before .before .count-lines .ensures .1)
+
+put-blank-lines-requires : tie.Need-put-blank-lines-requires
+put-blank-lines-requires c κs =
+    let plan = c .before .before .before .before .before .before .before .before .check-plan .ensures .1 (c .before .before .before .before .before .before .before .if1 .left) in
+    let p = c .before .before .before .put-waves in
+    omega (arith, plan-text _ _ _ plan, c .before .before .before .before .before .before .count-lines .ensures .0, c .before .before .before .before .before .if2 .left, p .ensures .next, p .kept .0)
+
+same-length : tie.Need-same-length
+same-length c = search needs
+
+returns-3 : tie.Need-returns-3
+returns-3 c =
+    let checked = c .before .before .before .before .before .before .before .before .before .before .before .check-plan .ensures in
+    let zero = c .before .before .before .before .before .before .before .before .before .before .if1 .left in
+    let plan = checked .1 zero in
+    let lines = c .before .before .before .before .before .before .before .before .before .count-lines .ensures .0 in
+    let bytes = plan-bytes _ _ _ plan in
+    text-done poster _ _ _ (sym zero ∙ checked .0) (omega (arith, bytes, lines, c .before .before .before .before .before .before .before .before .if2 .left)) _ _ (omega (arith, bytes, lines)) (poster-written _ _ _ plan _ (omega (arith, bytes, lines, c .before .before .before .before .before .before .before .before .if2 .left)) _ lines _ _ _ _ (c .before .before .before .before .before .before .put-waves .ensures) (c .before .before .put-blank-lines .ensures))
+
+pub write-poster-spec : {M : Type 1} → statement M
+write-poster-spec =
+    tie.close
+    (tie.spec
+    check-plan-requires
+    returns
+    count-lines-requires
+    sub-pages
+    add-pages
+    mul-length
+    returns-2
+    put-waves-requires
+    mul-put-blank-lines
+    sub-put-blank-lines
+    put-blank-lines-requires
+    same-length
+    returns-3)

@@ -1,0 +1,31 @@
+use borrow.Author.Needs.{needs}
+use native.Mathlib.Omega.{arith}
+use Prim.Native.Nat.{_-_}
+use mathlib.Core.List.{[], _∷_}
+use lib.ListN.{replicate}
+use Rattle.sheet_writer.proofs.Putting.{puts-then}
+use Rattle.poster_writer.proofs.Columns.{length-spaces}
+use Rattle.poster_writer.proofs.text.put_end.Statement.{statement}
+use Rattle.poster_writer.proofs.text.put_end.Tie as tie
+
+sub-put-spaces : tie.Need-sub-put-spaces
+sub-put-spaces c = search needs
+
+put-spaces-requires : tie.Need-put-spaces-requires
+put-spaces-requires c κs = search needs
+
+put-byte-requires : tie.Need-put-byte-requires
+put-byte-requires c κs =
+    let p = c .before .before .before .put-spaces in
+    omega (arith, length-spaces (40 - c .before .before .before .before .before .before .args .used), p .ensures .next, p .kept .0, c .before .before .before .before .before .before .pre .1)
+
+same-length : tie.Need-same-length
+same-length c = search needs
+
+returns : tie.Need-returns
+returns c =
+    let a = c .before .before .before .before .before .before .before .before .before .args in
+    puts-then (replicate (40 - a .used) 32) (10 ∷ []) (a .at) (a .out .now) (omega (arith, length-spaces (40 - a .used), c .before .before .before .before .before .before .before .before .before .pre .1)) _ _ _ _ (c .before .before .before .before .before .before .put-spaces .ensures) (c .before .before .put-byte .ensures)
+
+pub put-end-spec : {M : Type 1} → statement M
+put-end-spec = tie.close (tie.spec sub-put-spaces put-spaces-requires put-byte-requires same-length returns)

@@ -1,0 +1,57 @@
+use borrow.Author.Needs.{needs}
+use native.Mathlib.Omega.{arith}
+use Rattle.poster_writer.specs.Put.{waveText}
+use Rattle.poster_writer.proofs.Members.{members-few, members-small, gathered}
+use Rattle.poster_writer.proofs.waves.put_wave_of.Statement.{statement}
+use Rattle.poster_writer.proofs.waves.put_wave_of.Tie as tie
+
+slice-aggregate-gather : tie.Need-slice-aggregate-gather
+slice-aggregate-gather c = search needs
+
+gather-requires : tie.Need-gather-requires
+gather-requires c κs = search needs
+
+sub-put-wave : tie.Need-sub-put-wave
+sub-put-wave c = search needs
+
+part-put-wave-start : tie.Need-part-put-wave-start
+part-put-wave-start c = search needs
+
+part-put-wave-end : tie.Need-part-put-wave-end
+part-put-wave-end c =
+    let a = c .before .before .before .before .before .before .before .args in
+    omega (arith, members-few (a .waves .now) (a .c .0) (a .n), c .before .before .before .gather .ensures .next, c .before .before .before .before .before .before .before .pre .1)
+
+put-wave-requires : tie.Need-put-wave-requires
+unfolding waveText
+put-wave-requires c κs =
+    let a = c .before .before .before .before .before .before .before .before .args in
+    let ws = a .waves .now in
+    let few = members-few ws (a .c .0) (a .n) in
+    let pre = c .before .before .before .before .before .before .before .before .pre in
+    rw (gathered _ _ _ _ (c .before .before .before .before .gather .ensures)) (
+      pre .0,
+      members-small ws (a .c .0) (a .n) (pre .1),
+      omega (arith, few, pre .1),
+      pre .3,
+    )
+
+same-length : tie.Need-same-length
+same-length c = search needs
+
+returns : tie.Need-returns
+unfolding waveText
+returns c = rw (gathered _ _ _ _ (c .before .before .before .before .before .before .before .gather .ensures)) at (c .before .before .put-wave .ensures)
+
+pub put-wave-of-spec : {M : Type 1} → statement M
+put-wave-of-spec =
+    tie.close
+    (tie.spec
+    slice-aggregate-gather
+    gather-requires
+    sub-put-wave
+    part-put-wave-start
+    part-put-wave-end
+    put-wave-requires
+    same-length
+    returns)

@@ -1,0 +1,63 @@
+-- The loop has written the waves below c.
+use borrow.Author.Needs.{needs}
+use native.Mathlib.Omega.{arith}
+use Prim.Native.Nat.{_-_, _≤_}
+use mathlib.Core.Path.{_≡_, refl, _∙_}
+use lib.ListN.{length}
+use Rattle.sheet_writer.specs.Put.{Puts}
+use Rattle.sheet_writer.proofs.Putting.{puts-none, puts-then}
+use Rattle.poster_writer.specs.Put.{waveText, wavesText}
+use Rattle.poster_writer.proofs.Cells.{waves-none, waves-next, waves-room}
+use Rattle.poster_writer.proofs.waves.put_waves.Statement.{statement}
+use Rattle.poster_writer.proofs.waves.put_waves.Tie as tie
+
+abbrev Inv-loop : tie.InvT-loop
+Inv-loop out₀ waves n k next₀ c₀ out next c =
+    Puts (wavesText waves n c) 0 out₀ next out × (c ≤ k) × (length out ≡ length out₀)
+
+abbrev μ-loop : tie.MeasureT-loop
+μ-loop out₀ waves n k next₀ c₀ out next c = k - c
+
+loop-holds : tie.Need-loop-holds Inv-loop μ-loop
+loop-holds c = (rw (waves-none (c .before .before .args .waves .now) (c .before .before .args .n)) (puts-none _ _), omega arith, refl)
+
+put-wave-of-requires : tie.Need-put-wave-of-requires Inv-loop μ-loop
+put-wave-of-requires c κs =
+    let a = c .before .before .before .before .before .args in
+    let w = c .before .before .loop in
+    let pre = c .before .before .before .before .before .pre in (
+      omega (arith, pre .1),
+      pre .0,
+      pre .2,
+      omega (arith, waves-room (a .waves .now) (a .n) (w .c) (a .k) (c .before .loop-test .taken), w .inv .0 .next, w .inv .2, pre .3),
+    )
+
+add-c : tie.Need-add-c Inv-loop μ-loop
+add-c c = search needs
+
+loop-less : tie.Need-loop-less Inv-loop μ-loop
+loop-less c = search needs
+
+loop-again : tie.Need-loop-again Inv-loop μ-loop
+loop-again c =
+    let a = c .before .before .before .before .before .before .before .before .args in
+    let w = c .before .before .before .before .before .loop in
+    let ws = a .waves .now in
+    let room = waves-room ws (a .n) (w .c) (a .k) (c .before .before .before .before .loop-test .taken) in (
+      rw (waves-next ws (a .n) (w .c)) (puts-then (wavesText ws (a .n) (w .c)) (waveText ws (a .n) (w .c)) 0 (a .out .now) (omega (arith, room, c .before .before .before .before .before .before .before .before .pre .3)) _ _ _ _ (w .inv .0) (c .before .before .put-wave-of .ensures)),
+      omega arith,
+      c .before .before .put-wave-of .kept .0 ∙ w .inv .2,
+    )
+
+same-length : tie.Need-same-length Inv-loop μ-loop
+same-length c = search needs
+
+returns : tie.Need-returns Inv-loop μ-loop
+returns c =
+    let w = c .before .loop in
+    let e : w .c ≡ c .before .before .before .before .args .k = omega arith in
+    rw e at (w .inv .0)
+
+pub put-waves-spec : {M : Type 1} → statement M
+put-waves-spec =
+    tie.close (tie.spec Inv-loop μ-loop loop-holds put-wave-of-requires add-c loop-less loop-again same-length returns)

@@ -1,0 +1,57 @@
+-- Reading a poster: what stands on its pages, line by line and column by column.
+use mathlib.Core.Bool.{cond, not}
+use mathlib.Core.List.{List, [], _∷_, _++_, map}
+use mathlib.Core.Path.{_≡_}
+use Prim.Native.Nat.{ℕ, _/_}
+use lib.Dec.{T, eqb}
+use lib.ListN.{length, getD, take, drop}
+use Rattle.rule.specs.Lists.{filter, memb}
+use Rattle.list_rows.specs.Text.{valueFrom}
+use Rattle.sheet_writer.specs.Sheet.{Line, joined}
+use Rattle.poster_writer.specs.Poster.{pieces}
+
+-- the lines of the pages, 40 characters and a line feed each
+unfoldable pub linesOn : List ℕ → List (List ℕ)
+linesOn pages = pieces (length pages / 41) 41 pages
+
+-- the number that digits give, if there are any
+unfoldable pub numberIn : List ℕ → List ℕ
+numberIn [] = []
+numberIn (d ∷ ds) = valueFrom 0 (d ∷ ds) ∷ []
+
+-- the bank in five columns, if they are not all spaces
+unfoldable pub bankIn : List ℕ → List ℕ
+bankIn columns = numberIn (filter (λ x. not (eqb x 32)) columns)
+
+-- the banks on a line: seven times five columns after the first two
+unfoldable pub banksOn : List ℕ → List ℕ
+banksOn line = joined (map bankIn (pieces 7 5 (drop 2 line)))
+
+-- the banks on the pages, line by line
+unfoldable pub banksRead : List ℕ → List ℕ
+banksRead pages = joined (map banksOn (linesOn pages))
+
+-- the first character of a line
+abbrev pub mark : List ℕ → ℕ
+mark line = getD line 0 0
+
+-- the banks on the lines that continue the wave before them: they start with a space
+unfoldable pub continued : List (List ℕ) → List ℕ
+continued [] = []
+continued (l ∷ ls) = cond (eqb (mark l) 32) (banksOn l ++ continued ls) []
+
+-- the waves on the lines: each starts at a letter, and has the banks of its line and of those that continue it
+unfoldable pub grouped : List (List ℕ) → List Line
+grouped [] = []
+grouped (l ∷ ls) = cond (eqb (mark l) 32) (grouped ls) (record { letter = mark l; banks = banksOn l ++ continued ls } ∷ grouped ls)
+
+-- the waves on the pages
+unfoldable pub wavesRead : List ℕ → List Line
+wavesRead pages = grouped (linesOn pages)
+
+-- a line of the poster: 40 characters, the second a space and none a line feed, then a line feed
+pub record Row (l : List ℕ) : Type 0 where
+  pub long : length l ≡ 41
+  pub space : getD l 1 0 ≡ 32
+  pub inside : T (memb 10 (take 40 l)) → ⊥
+  pub feed : getD l 40 0 ≡ 10

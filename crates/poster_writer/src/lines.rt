@@ -1,0 +1,113 @@
+// The lines of one wave, written like the text of text.rt.
+use crate::text::put_aligned;
+use crate::text::put_end;
+use rule::Bank;
+use rule::Wave;
+use sheet_writer::letter;
+use sheet_writer::put_byte;
+ghost use mathlib.Core.List.{[], map};
+ghost use mathlib.Core.Path.{_≡_};
+ghost use Prim.Native.Nat.{_+_, _*_, _/_, _≤_, _<_, min};
+ghost use lib.ListN.{length, getD, replicate};
+ghost use Rattle.sheet_writer.specs.Sheet.{letters, joined};
+ghost use Rattle.sheet_writer.specs.Put.{Puts};
+ghost use Rattle.poster_writer.specs.Poster.{rightAligned, padded, posterLine};
+ghost use Rattle.poster_writer.specs.Put.{Small, markAt, linesWith};
+
+// The banks of a line.
+const LINE_BANKS: usize = 7;
+
+// Banks, each in its five columns.
+fn put_banks(out: &mut [u8], at: usize, banks: &[u16]) -> usize
+    requires { ⌜ Small (now banks) × (at + 5 * length (now banks) ≤ length (now out)) ⌝ }
+    ensures { λ r. ⌜ Puts (joined (map rightAligned (now (banks .entry)))) at (now (out .entry)) r (now (out .exit)) ⌝ }
+{
+    let mut next = at;
+    let mut i = 0;
+    while i < banks.len() {
+        next = put_aligned(out, next, Bank(banks[i]));
+        i += 1;
+    }
+    next
+}
+
+// A line: its mark, a space, its banks, and its end.
+fn put_line(out: &mut [u8], at: usize, mark: u8, banks: &[u16]) -> usize
+    requires { ⌜ Small (now banks) × (length (now banks) ≤ 7) × (at + 41 ≤ length (now out)) ⌝ }
+    ensures { λ r. ⌜ Puts (posterLine mark (now (banks .entry))) at (now (out .entry)) r (now (out .exit)) ⌝ }
+{
+    let space = put_byte(out, at, mark);
+    let first = put_byte(out, space, b' ');
+    let end = put_banks(out, first, banks);
+    put_end(out, end, end - at)
+}
+
+// The mark of line i of wave c: its letter, and a space where the wave is continued.
+fn mark_of(c: Wave, i: usize) -> u8
+    requires { ⌜ c .0 < 24 ⌝ }
+    ensures { λ r. ⌜ r ≡ markAt (getD letters (c .0) 0) i ⌝ }
+{
+    if i == 0 {
+        return letter(c);
+    }
+    b' '
+}
+
+// Where the banks of a line end that start at `from`.
+fn line_end(from: usize, banks: usize) -> usize
+    requires { ⌜ (from < banks) × (banks ≤ 1024) ⌝ }
+    ensures { λ r. ⌜ r ≡ min (from + 7) banks ⌝ }
+{
+    let to = from + LINE_BANKS;
+    if to < banks {
+        return to;
+    }
+    banks
+}
+
+// Line i of wave c with these banks.
+fn put_line_at(out: &mut [u8], at: usize, c: Wave, banks: &[u16], i: usize) -> usize
+    requires { ⌜ (c .0 < 24) × Small (now banks) × (length (now banks) ≤ 1024) × (7 * i < length (now banks)) × (at + 41 ≤ length (now out)) ⌝ }
+    ensures { λ r. ⌜ Puts (getD (linesWith (c .0) (now (banks .entry))) i []) at (now (out .entry)) r (now (out .exit)) ⌝ }
+{
+    let from = LINE_BANKS * i;
+    let to = line_end(from, banks.len());
+    put_line(out, at, mark_of(c, i), &banks[from..to])
+}
+
+// How many lines these many banks take.
+pub fn lines_for(banks: usize) -> usize
+    requires { ⌜ banks ≤ 1024 ⌝ }
+    ensures { λ r. ⌜ r ≡ (banks + 6) / 7 ⌝ }
+{
+    (banks + (LINE_BANKS - 1)) / LINE_BANKS
+}
+
+// The lines of wave c with these banks.
+pub fn put_wave(out: &mut [u8], at: usize, c: Wave, banks: &[u16]) -> usize
+    requires { ⌜ (c .0 < 24) × Small (now banks) × (length (now banks) ≤ 1024) × (at + length (joined (linesWith (c .0) (now banks))) ≤ length (now out)) ⌝ }
+    ensures { λ r. ⌜ Puts (joined (linesWith (c .0) (now (banks .entry)))) at (now (out .entry)) r (now (out .exit)) ⌝ }
+{
+    let lines = lines_for(banks.len());
+    let mut next = at;
+    let mut i = 0;
+    while i < lines {
+        next = put_line_at(out, next, c, banks, i);
+        i += 1;
+    }
+    next
+}
+
+// Lines of 40 spaces.
+pub fn put_blank_lines(out: &mut [u8], at: usize, count: usize) -> usize
+    requires { ⌜ at + 41 * count ≤ length (now out) ⌝ }
+    ensures { λ r. ⌜ Puts (joined (replicate count (padded []))) at (now (out .entry)) r (now (out .exit)) ⌝ }
+{
+    let mut next = at;
+    let mut i = 0;
+    while i < count {
+        next = put_end(out, next, 0);
+        i += 1;
+    }
+    next
+}

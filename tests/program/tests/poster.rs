@@ -1,0 +1,87 @@
+//! The built program *poster* against the model and against the rule: bank counts and waves at the
+//! edges of lines and pages, refused lists, random lists.
+
+use independent::lists;
+use independent::random::Random;
+use program_tests::{poster_agrees_with_model, run};
+
+/// The list of n banks of which the first `clique` all clash with each other.
+fn list(n: usize, clique: usize) -> Vec<u8> {
+    let clashes = (0..clique).flat_map(|a| (0..a).map(move |b| format!("\n+ {b} {a}")));
+    format!("N {n}{}", clashes.collect::<String>()).into_bytes()
+}
+
+/// The lines that are not of spaces only.
+fn lines(poster: &[u8]) -> usize {
+    poster
+        .chunks(41)
+        .filter(|line| line[..40] != [b' '; 40])
+        .count()
+}
+
+#[test]
+fn one_wave_of_any_size() {
+    for n in 0..=1024 {
+        let list = list(n, 0);
+        poster_agrees_with_model(&list);
+        assert_eq!(lines(&run::poster_program(&list)), (n + 6) / 7);
+    }
+}
+
+/// 24 waves: of one bank each, and with a first wave of up to 1,001 banks.
+#[test]
+fn waves_of_few_banks_and_of_many() {
+    for clique in 2..=24 {
+        for n in [
+            clique,
+            clique + 6,
+            clique + 7,
+            clique + 13,
+            182,
+            183,
+            350,
+            351,
+            1024,
+        ] {
+            poster_agrees_with_model(&list(n, clique));
+        }
+    }
+    let longest = run::poster_program(&list(1024, 24));
+    assert_eq!((longest.len(), lines(&longest)), (8200, 166));
+}
+
+/// Lists whose waves take exactly 50 and 51 lines.
+#[test]
+fn a_full_page_and_a_line_more() {
+    let lists = [
+        (350, 1, 50, 1),
+        (351, 1, 51, 2),
+        (212, 24, 50, 1),
+        (213, 24, 51, 2),
+    ];
+    for (n, clique, count, pages) in lists {
+        let list = list(n, clique);
+        poster_agrees_with_model(&list);
+        let poster = run::poster_program(&list);
+        assert_eq!((poster.len(), lines(&poster)), (2050 * pages, count));
+    }
+}
+
+#[test]
+fn edges_and_malformed_lists() {
+    for case in lists::edges() {
+        poster_agrees_with_model(&case.list);
+    }
+    for list in lists::malformed_lists() {
+        poster_agrees_with_model(&list);
+    }
+}
+
+#[test]
+fn random_lists() {
+    let mut random = Random::new(54);
+    for _ in 0..1000 {
+        poster_agrees_with_model(&lists::random_list(&mut random));
+    }
+    poster_agrees_with_model(&lists::long_list(&mut random));
+}
