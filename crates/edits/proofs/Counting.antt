@@ -4,7 +4,7 @@ use mathlib.Core.List.{List, [], _∷_}
 use mathlib.Core.Logic.{inl, inr, _≢_}
 use mathlib.Core.Path.{_≡_, refl, sym, ap, subst, _∙_}
 use Prim.Native.Nat.{ℕ, _+_, _*_, _-_, _≤_, _<_}
-use native.Mathlib.Decide.{ℕ-discrete, decLt}
+use native.Mathlib.Decide.{ℕ-discrete}
 use native.Mathlib.Omega.{arith}
 use lib.Dec.{T, eqb}
 use lib.ListN.{length, getD, set, length-set}
@@ -22,15 +22,6 @@ counted-cong G cs f g h r = record {
   wide-counts = r .wide-counts;
   cell = λ b c lb lc. r .cell b c lb lc ∙ standing-cong (f b) (g b) c (earlierNeighbours G b) (λ v m. h b v lb m);
 }
-
--- a walk over cells that are not 0 has not passed one that is
-pub still-below : (cs : List ℕ) (base c free : ℕ) → free < 24 → getD cs (base + free) 0 ≡ 0 → ((k : ℕ) → k < c → 0 < getD cs (base + k) 0) → (getD cs (base + c) 0 ≡ 0 → ⊥) → c + 1 < 24
-still-below cs base c free l zero held here = go (decLt c free) (decLt free c)
-  where
-    go : Dec (c < free) → Dec (free < c) → c + 1 < 24
-    go (yes h) k = omega arith
-    go (no h) (yes k) = let z : ⊥ = omega (arith, held free k) in absurd z
-    go (no h) (no k) = let e : free ≡ c = omega arith in absurd (here (rw e at zero))
 
 -- of the waves f and g, which differ at most at h
 module _ (R : ℕ → ℕ → Bool) (irrefl : (x : ℕ) → T (R x x) → ⊥) (f g : ℕ → ℕ) (h : ℕ) (others : (v : ℕ) → v ≢ h → f v ≡ g v) (c : ℕ) where
@@ -57,11 +48,6 @@ module _ (cs : List ℕ) (v o w : ℕ) (row : v * 24 + 24 ≤ length cs) (lo : o
   moved-elsewhere b c lc n =
       getD-set-other (set cs (v * 24 + o) _) (v * 24 + w) (b * 24 + c) _ 0 (λ e. n (omega arith))
       ∙ getD-set-other cs (v * 24 + o) (b * 24 + c) _ 0 (λ e. n (omega arith))
-
-  pub moved-beyond : (i : ℕ) → v * 24 + 24 ≤ i → getD (oneMoved cs v o w) i 0 ≡ getD cs i 0
-  moved-beyond i l =
-      getD-set-other (set cs (v * 24 + o) _) (v * 24 + w) i _ 0 (λ e. omega arith)
-      ∙ getD-set-other cs (v * 24 + o) i _ 0 (λ e. omega arith)
 
   pub moved-here : (c : ℕ) → c < 24 → 0 < getD cs (v * 24 + o) 0
       → getD (oneMoved cs v o w) (v * 24 + c) 0 + bit (eqb o c) ≡ getD cs (v * 24 + c) 0 + bit (eqb w c)

@@ -5,6 +5,7 @@ pub mod Lines
 pub mod RowCells
 pub mod Rewriting
 pub mod Counting
+pub mod Collecting
 pub mod Shows
 pub mod Notices
 pub mod Stepping

@@ -25,7 +25,7 @@ by-cells : (G : Graph) (ds : List ℕ) → ((b : ℕ) → b < G .banks → getD 
 unfolding byCells earlierBy earlier
 by-cells G ds degrees p q hp hq = let dp = degrees p hp in let dq = degrees q hq in cc
 
-pub or-same : (s t : Bool) → (T t → T s) → s ≡ (s || t)
+or-same : (s t : Bool) → (T t → T s) → s ≡ (s || t)
 or-same true t h = refl
 or-same false true h = absurd (h tt)
 or-same false false h = refl

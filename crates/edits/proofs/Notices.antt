@@ -1,46 +1,30 @@
--- One neighbour notified, or passed over.
+-- The later neighbours of a bank: what it is to notify them all, and one neighbour notified or passed over.
 use mathlib.Core.Bool.{Bool, true, false, cond, _&&_, _||_}
-use mathlib.Core.List.{List}
-use mathlib.Core.Logic.{inl, inr, _≢_}
+use mathlib.Core.List.{List, []}
+use mathlib.Core.Logic.{inl, inr}
 use mathlib.Core.Path.{_≡_, refl, sym, ap, _∙_}
-use Prim.Native.Nat.{ℕ, _+_, _*_, _≤_, _<_}
+use Prim.Native.Nat.{ℕ, _+_, _*_, _<_}
 use native.Mathlib.Decide.{ℕ-discrete}
 use native.Mathlib.Omega.{arith}
-use lib.Dec.{T, eqb, ltb, eqb→eq}
+use lib.Dec.{T, eqb, eqb→eq}
 use lib.ListN.{length, getD, take}
-use borrow.Author.Tests.{eq-eqb, ne-eqb}
-use Rattle.rule.specs.Lists.{memb}
+use Rattle.rule.specs.Lists.{memb, some}
 use Rattle.rule.specs.Graph.{Graph, neighbours, earlier, earlierNeighbours}
-use Rattle.rule.proofs.Booleans.{and-r, both, or-r, T-along, eq→eqb, cond-yes, cond-no}
-use Rattle.rule.proofs.Neighbours.{earlierNeighbours-sorted}
-use Rattle.rule.proofs.Order.{ltb-strict, earlier-trans}
+use Rattle.rule.proofs.Booleans.{and-l, and-r, both, or-r, T-along, eq→eqb, cond-yes, cond-no, or-false}
+use Rattle.rule.proofs.Neighbours.{neighbours-in, in-neighbours}
+use Rattle.rule.proofs.Order.{earlier-trans}
 use Rattle.rule.proofs.Waves.{earlierNeighbours-in, in-earlierNeighbours}
-use Rattle.memory.specs.Counts.{byCells, standing}
-use Rattle.memory.proofs.Standing.{bit, bit-yes, bit-no, standing-cong, standing-le}
+use Rattle.memory.specs.Counts.{byCells}
+use Rattle.memory.specs.View.{Shown}
 use Rattle.memory.proofs.Theorems.{cells-earlier}
 use Rattle.edits.specs.Queue.{Line, Enqueued}
-use Rattle.edits.specs.Work.{Movable, oneMoved, seen, Notice, Notifying}
-use Rattle.edits.proofs.Counting.{standing-move, counted-cong, moved-elsewhere, moved-beyond, moved-here, moved-length}
-use Rattle.edits.proofs.Shows.{row-cell, cell-bank, cell-clash, cell-degree, cell-new, row-memb, few-earlier, line-of}
+use Rattle.edits.specs.Work.{Movable, oneMoved, laterNeighbour, Notice, Notifiable, Notified, Notifying}
+use Rattle.edits.proofs.Counting.{moved-elsewhere, moved-here, moved-length}
+use Rattle.edits.proofs.Shows.{row-cell, cell-bank, cell-clash, cell-degree, cell-new, row-memb, whole-row, line-of}
 
--- what bank b counts of h and of others
-module _ (W : ℕ → ℕ) (h w : ℕ) where
-  pub seen-notified : (notified : List ℕ) (b : ℕ) → T (memb b notified) → seen W h w notified b h ≡ w
-  unfolding seen
-  seen-notified notified b m = rw (eq-eqb h h refl) (cond-yes (memb b notified) w (W h) m)
-
-  pub seen-other : (notified : List ℕ) (b v : ℕ) → v ≢ h → seen W h w notified b v ≡ W v
-  unfolding seen
-  seen-other notified b v n = rw (ne-eqb v h n)
-
-  seen-before : (notified : List ℕ) (b : ℕ) → (T (memb b notified) → ⊥) → seen W h w notified b h ≡ W h
-  unfolding seen
-  seen-before notified b m = rw (eq-eqb h h refl) (cond-no (memb b notified) w (W h) m)
-
-  -- two lists that agree on b
-  seen-same : (xs ys : List ℕ) (b v : ℕ) → memb b xs ≡ memb b ys → seen W h w xs b v ≡ seen W h w ys b v
-  unfolding seen
-  seen-same xs ys b v e = ap (λ (t : Bool). cond (eqb v h && t) w (W v)) e
+pub memb-none : (x : ℕ) → memb x [] ≡ false
+unfolding memb some
+memb-none x = refl
 
 -- one more that fails the test, and one more that passes it
 pub no-and : (s t e : Bool) → (T t → T e → ⊥) → (s && e) ≡ ((s || t) && e)
@@ -64,6 +48,48 @@ or-not true t h = refl
 or-not false true h = absurd (h tt)
 or-not false false h = refl
 
+-- x is a later neighbour of b exactly if b is an earlier neighbour of x
+module _ {G : Graph} {ns ds : List ℕ} (sh : Shown G ns ds) (b x : ℕ) where
+  pub later-bank : T (laterNeighbour G b x) → x < G .banks
+  unfolding laterNeighbour
+  later-bank t = neighbours-in G b x (and-l (memb x (neighbours G b)) (earlier G b x) t) .0
+
+  pub later-counts : b < G .banks → T (laterNeighbour G b x) → T (memb b (earlierNeighbours G x))
+  unfolding laterNeighbour
+  later-counts bank t =
+      let r = neighbours-in G b x (and-l (memb x (neighbours G b)) (earlier G b x) t) in
+      in-earlierNeighbours G x b bank (both (G .clash x b) (earlier G b x) (T-along (sh .symmetric b x bank (r .0)) (r .1)) (and-r (memb x (neighbours G b)) (earlier G b x) t))
+
+  pub counts-later : x < G .banks → T (memb b (earlierNeighbours G x)) → T (laterNeighbour G b x)
+  unfolding laterNeighbour
+  counts-later lx m =
+      let r = earlierNeighbours-in G x b m in
+      both (memb x (neighbours G b)) (earlier G b x) (in-neighbours G b x lx (T-along (sh .symmetric x b lx (r .0)) (and-l (G .clash x b) (earlier G b x) (r .1)))) (and-r (G .clash x b) (earlier G b x) (r .1))
+
+-- equal tests name the same banks
+notified-cong : {G : Graph} {cs cs′ q q′ : List ℕ} {from end end′ o w : ℕ} (f g : ℕ → Bool) → ((x : ℕ) → f x ≡ g x)
+    → Notified G cs cs′ q q′ from end end′ o w f → Notified G cs cs′ q q′ from end end′ o w g
+notified-cong {cs = cs} {q = q} {end = end} {o = o} {w = w} f g same n = record {
+  long = n .long;
+  counts = λ x c l. n .counts x c l ∙ ap (λ (t : Bool). cond t (getD (oneMoved cs x o w) (x * 24 + c) 0) (getD cs (x * 24 + c) 0)) (same x);
+  queue = n .queue;
+  order = n .order;
+  kept = n .kept;
+  members = λ x. n .members x ∙ ap (λ (t : Bool). memb x (take end q) || t) (same x);
+}
+
+module _ {G : Graph} {ns ds cs q : List ℕ} {from end b : ℕ} {changed : Bool} {o w : ℕ} (nf : Notifiable G ns ds cs q from end b changed o w) where
+  -- no bank is notified
+  pub none-notified : (f : ℕ → Bool) → ((x : ℕ) → f x ≡ false) → Notified G cs cs q q from end end o w f
+  none-notified f no-one = record {
+    long = refl;
+    counts = λ x c l. sym (ap (λ (t : Bool). cond t (getD (oneMoved cs x o w) (x * 24 + c) 0) (getD cs (x * 24 + c) 0)) (no-one x));
+    queue = nf .queue;
+    order = omega arith;
+    kept = refl;
+    members = λ x. sym (or-false (memb x (take end q))) ∙ ap (λ (t : Bool). memb x (take end q) || t) (sym (no-one x));
+  }
+
 module _ {s : Notice} {ns ds cs q : List ℕ} {from end h o w i : ℕ} (nt : Notifying s ns ds cs q from end h o w i) (lt : i < getD ds h 0) where
   abbrev G : Graph
   G = s .graph
@@ -75,130 +101,113 @@ module _ {s : Notice} {ns ds cs q : List ℕ} {from end h o w i : ℕ} (nt : Not
   v = getD ns (h * 23 + i) 0
 
   pub in-row : h * 23 + i < length ns
-  in-row = row-cell (nt .shown) h i (nt .bank) lt
+  in-row = row-cell (nt .start .shown) h i (nt .start .bank) lt
 
   v-bank : v < G .banks
-  v-bank = cell-bank (nt .shown) h i (nt .bank) lt
+  v-bank = cell-bank (nt .start .shown) h i (nt .start .bank) lt
 
   pub v-degree : v < length ds
-  v-degree = cell-degree (nt .shown) h i (nt .bank) lt
+  v-degree = cell-degree (nt .start .shown) h i (nt .start .bank) lt
 
   pub h-degree : h < length ds
-  h-degree = omega (arith, nt .bank, nt .shown .wide-degrees)
+  h-degree = omega (arith, nt .start .bank, nt .start .shown .wide-degrees)
 
   next-memb : (x : ℕ) → memb x (take (i + 1) N) ≡ (memb x (take i N) || eqb x v)
-  next-memb = row-memb (nt .shown) h i (nt .bank) lt
-
-  next-other : (b : ℕ) → b ≢ v → memb b (take (i + 1) N) ≡ memb b (take i N)
-  next-other b d = next-memb b ∙ or-not (memb b (take i N)) (eqb b v) (λ t. d (eqb→eq b v t))
+  next-memb = row-memb (nt .start .shown) h i (nt .start .bank) lt
 
   pub order-is : byCells ds h v ≡ earlier G h v
-  order-is = cells-earlier (nt .shown) h v (nt .bank) v-bank
+  order-is = cells-earlier (nt .start .shown) h v (nt .start .bank) v-bank
 
   -- v is earlier: nothing to do
   pub passed : (T (earlier G h v) → ⊥) → Notifying s ns ds cs q from end h o w (i + 1)
   passed not-later = record {
-    shown = nt .shown;
-    bank = nt .bank;
-    was = nt .was;
-    low = nt .low;
-    high = nt .high;
-    differ = nt .differ;
-    counted = counted-cong G cs _ _ same (nt .counted);
-    beyond = nt .beyond;
-    queue = nt .queue;
-    order = nt .order;
-    kept = nt .kept;
-    ends = nt .ends;
-    members = λ x. nt .members x ∙ ap (λ (t : Bool). memb x (s .given) || t)
-        (no-and (memb x (take i N)) (eqb x v) (earlier G h x) (λ t e. not-later (rw (eqb→eq x v t) at e)) ∙ ap (λ (t : Bool). t && earlier G h x) (sym (next-memb x)));
+    start = nt .start;
+    made = notified-cong _ _
+        (λ x. no-and (memb x (take i N)) (eqb x v) (earlier G h x) (λ t e. not-later (rw (eqb→eq x v t) at e)) ∙ ap (λ (t : Bool). t && earlier G h x) (sym (next-memb x)))
+        (nt .made);
   }
-    where
-      same : (b u : ℕ) → b < G .banks → T (memb u (earlierNeighbours G b)) → seen (s .wave) h w (take i N) b u ≡ seen (s .wave) h w (take (i + 1) N) b u
-      same b u lb m = go (ℕ-discrete u h) (ℕ-discrete b v)
-        where
-          go : Dec (u ≡ h) → Dec (b ≡ v) → seen (s .wave) h w (take i N) b u ≡ seen (s .wave) h w (take (i + 1) N) b u
-          go (no d) e = seen-other (s .wave) h w (take i N) b u d ∙ sym (seen-other (s .wave) h w (take (i + 1) N) b u d)
-          go (yes e) (no d) = seen-same (s .wave) h w (take i N) (take (i + 1) N) b u (sym (next-other b d))
-          go (yes e) (yes d) = absurd (not-later (rw (e, d) at (and-r (G .clash b u) (earlier G u b) (earlierNeighbours-in G b u m .1))))
 
   -- v is later
   module _ (later : T (earlier G h v)) where
-    h-counts : T (memb h (earlierNeighbours G v))
-    h-counts = in-earlierNeighbours G v h (nt .bank) (both (G .clash v h) (earlier G h v) (T-along (nt .shown .symmetric h v (nt .bank) v-bank) (cell-clash (nt .shown) h i (nt .bank) lt)) later)
+    is-later : T (laterNeighbour G h v)
+    unfolding laterNeighbour
+    is-later = both (memb v N) (earlier G h v) (in-neighbours G h v v-bank (cell-clash (nt .start .shown) h i (nt .start .bank) lt)) later
 
-    before : ℕ → ℕ
-    before = seen (s .wave) h w (take i N) v
+    before : Movable (s .counts) v o w
+    before = nt .start .movable v is-later
 
-    after : ℕ → ℕ
-    after = seen (s .wave) h w (take (i + 1) N) v
-
-    before-h : before h ≡ o
-    unfolding before
-    before-h = seen-before (s .wave) h w (take i N) v (cell-new (nt .shown) h i (nt .bank) lt) ∙ nt .was
-
-    after-h : after h ≡ w
-    unfolding after
-    after-h = seen-notified (s .wave) h w (take (i + 1) N) v (T-along (sym (next-memb v)) (or-r (memb v (take i N)) (eqb v v) (eq→eqb v v refl)))
-
-    others : (u : ℕ) → u ≢ h → before u ≡ after u
-    unfolding before after
-    others u d = seen-other (s .wave) h w (take i N) v u d ∙ sym (seen-other (s .wave) h w (take (i + 1) N) v u d)
-
-    one-goes : (c : ℕ) → standing after c (earlierNeighbours G v) + bit (eqb o c) ≡ standing before c (earlierNeighbours G v) + bit (eqb w c)
-    one-goes c = rw (before-h, after-h) at (standing-move ltb (ltb-strict .irrefl) before after h others c (earlierNeighbours G v) (earlierNeighbours-sorted G v) h-counts)
-
-    cell-before : (c : ℕ) → c < 24 → getD cs (v * 24 + c) 0 ≡ standing before c (earlierNeighbours G v)
-    unfolding before
-    cell-before c lc = nt .counted .cell v c v-bank lc
-
-    row-in : v * 24 + 24 ≤ length cs
-    row-in = omega (arith, v-bank, nt .counted .wide-counts)
-
-    counts-some : 0 < getD cs (v * 24 + o) 0
-    counts-some = omega (arith, cell-before o (nt .low), one-goes o, bit-yes o o refl, bit-no w o (λ e. nt .differ (sym e)))
+    -- v is not yet told
+    untold : (c : ℕ) → c < 24 → getD cs (v * 24 + c) 0 ≡ getD (s .counts) (v * 24 + c) 0
+    untold c lc = nt .made .counts v c lc ∙ cond-no (memb v (take i N) && earlier G h v) _ _ (λ t. cell-new (nt .start .shown) h i (nt .start .bank) lt (and-l (memb v (take i N)) (earlier G h v) t))
 
     pub movable : Movable cs v o w
     movable = record {
-      row = row-in;
-      low = nt .low;
-      high = nt .high;
-      some = counts-some;
-      few = omega (arith, cell-before w (nt .high), standing-le before w (earlierNeighbours G v), few-earlier (nt .shown) v v-bank);
+      row = omega (arith, before .row, nt .made .long);
+      low = before .low;
+      high = before .high;
+      some = omega (arith, untold o (before .low), before .some);
+      few = omega (arith, untold w (before .high), before .few);
     }
 
     pub line : Line G ds q from end v
-    line = line-of (nt .shown) (nt .queue) (nt .order) v-bank (λ x m. elim (nt .ends x (rw (nt .kept) at m)) [ inl t ↦ earlier-trans G x h v t later | inr e ↦ rw e later ])
+    line =
+        line-of (nt .start .shown) (nt .made .queue) (omega (arith, nt .start .order, nt .made .order)) v-bank
+        (λ x m. elim (nt .start .front x (rw (nt .made .kept) at m)) [ inl t ↦ earlier-trans G x h v t later | inr e ↦ rw e later ])
 
     module _ {q′ : List ℕ} {r : ℕ} (put : Enqueued G q q′ from end v r) where
-      cells-after : (b c : ℕ) → b < G .banks → c < 24 → getD (oneMoved cs v o w) (b * 24 + c) 0 ≡ standing (seen (s .wave) h w (take (i + 1) N) b) c (earlierNeighbours G b)
-      unfolding after
-      cells-after b c lb lc = go (ℕ-discrete b v)
+      -- both were moved alike
+      same : (c : ℕ) → c < 24 → getD (oneMoved cs v o w) (v * 24 + c) 0 ≡ getD (oneMoved (s .counts) v o w) (v * 24 + c) 0
+      same c lc =
+          omega (
+            arith,
+            moved-here cs v o w (movable .row) (before .low) (before .high) (nt .start .differ tt) c lc (movable .some),
+            moved-here (s .counts) v o w (before .row) (before .low) (before .high) (nt .start .differ tt) c lc (before .some),
+            untold c lc,
+          )
+
+      told : ℕ → Bool
+      told x = memb x (take (i + 1) N) && earlier G h x
+
+      cells-after : (x c : ℕ) → c < 24 → getD (oneMoved cs v o w) (x * 24 + c) 0 ≡ cond (told x) (getD (oneMoved (s .counts) x o w) (x * 24 + c) 0) (getD (s .counts) (x * 24 + c) 0)
+      unfolding told
+      cells-after x c lc = go (ℕ-discrete x v)
         where
-          go : Dec (b ≡ v) → getD (oneMoved cs v o w) (b * 24 + c) 0 ≡ standing (seen (s .wave) h w (take (i + 1) N) b) c (earlierNeighbours G b)
-          go (yes e) = rw e (omega (arith, moved-here cs v o w row-in (nt .low) (nt .high) (nt .differ) c lc counts-some, one-goes c, cell-before c lc))
+          go : Dec (x ≡ v) → getD (oneMoved cs v o w) (x * 24 + c) 0 ≡ cond (told x) (getD (oneMoved (s .counts) x o w) (x * 24 + c) 0) (getD (s .counts) (x * 24 + c) 0)
+          go (yes e) =
+              rw e (same c lc
+              ∙ sym (cond-yes (memb v (take (i + 1) N) && earlier G h v) _ _ (both (memb v (take (i + 1) N)) (earlier G h v) (T-along (sym (next-memb v)) (or-r (memb v (take i N)) (eqb v v) (eq→eqb v v refl))) later)))
           go (no d) =
-              moved-elsewhere cs v o w row-in (nt .low) (nt .high) (nt .differ) b c lc d ∙ nt .counted .cell b c lb lc
-              ∙ standing-cong _ _ c (earlierNeighbours G b) (λ u m. seen-same (s .wave) h w (take i N) (take (i + 1) N) b u (sym (next-other b d)))
+              moved-elsewhere cs v o w (movable .row) (before .low) (before .high) (nt .start .differ tt) x c lc d ∙ nt .made .counts x c lc
+              ∙ ap (λ (t : Bool). cond (t && earlier G h x) (getD (oneMoved (s .counts) x o w) (x * 24 + c) 0) (getD (s .counts) (x * 24 + c) 0))
+              (sym (next-memb x ∙ or-not (memb x (take i N)) (eqb x v) (λ t. d (eqb→eq x v t))))
 
       pub notified : Notifying s ns ds (oneMoved cs v o w) q′ from r h o w (i + 1)
+      unfolding told
       notified = record {
-        shown = nt .shown;
-        bank = nt .bank;
-        was = nt .was;
-        low = nt .low;
-        high = nt .high;
-        differ = nt .differ;
-        counted = record { wide-counts = omega (arith, moved-length cs v o w row-in (nt .low) (nt .high) (nt .differ), nt .counted .wide-counts); cell = cells-after };
-        beyond = record {
-          long = moved-length cs v o w row-in (nt .low) (nt .high) (nt .differ) ∙ nt .beyond .long;
-          same = λ j l. moved-beyond cs v o w row-in (nt .low) (nt .high) (nt .differ) j (omega (arith, v-bank)) ∙ nt .beyond .same j l;
+        start = nt .start;
+        made = record {
+          long = moved-length cs v o w (movable .row) (before .low) (before .high) (nt .start .differ tt) ∙ nt .made .long;
+          counts = cells-after;
+          queue = put .queue;
+          order = omega (arith, nt .made .order, put .low);
+          kept = put .kept ∙ nt .made .kept;
+          members = λ x. put .members x ∙ ap (λ (t : Bool). t || eqb x v) (nt .made .members x)
+              ∙ more-and (memb x (take (s .end) (s .queue))) (memb x (take i N)) (eqb x v) (earlier G h x) (λ t. rw (eqb→eq x v t) later)
+              ∙ ap (λ (t : Bool). memb x (take (s .end) (s .queue)) || (t && earlier G h x)) (sym (next-memb x));
         };
-        queue = put .queue;
-        order = omega (arith, nt .order, put .low);
-        kept = put .kept ∙ nt .kept;
-        ends = nt .ends;
-        members = λ x. put .members x ∙ ap (λ (t : Bool). t || eqb x v) (nt .members x)
-            ∙ more-and (memb x (s .given)) (memb x (take i N)) (eqb x v) (earlier G h x) (λ t. rw (eqb→eq x v t) later)
-            ∙ ap (λ (t : Bool). memb x (s .given) || (t && earlier G h x)) (sym (next-memb x));
       }
+
+abbrev pub noticeOf : Graph → List ℕ → List ℕ → ℕ → Notice
+noticeOf G cs q end = record { graph = G; counts = cs; queue = q; end = end }
+
+-- no neighbour is looked at
+pub start-notifying : {G : Graph} {ns ds cs q : List ℕ} {from end b o w : ℕ} {changed : Bool} → changed ≡ true → Notifiable G ns ds cs q from end b changed o w
+    → Notifying (noticeOf G cs q end) ns ds cs q from end b o w 0
+start-notifying {G} {b = b} said nf = record { start = rw said at nf; made = none-notified nf _ (λ x. ap (λ (t : Bool). t && earlier G b x) (memb-none x)) }
+
+-- all are
+pub all-notified : {s : Notice} {ns ds cs q : List ℕ} {from end h o w : ℕ} {changed : Bool} → changed ≡ true → Notifying s ns ds cs q from end h o w (getD ds h 0)
+    → Notified (s .graph) (s .counts) cs (s .queue) q from (s .end) end o w (λ x. changed && laterNeighbour (s .graph) h x)
+unfolding laterNeighbour
+all-notified {s} {h = h} said nt =
+    notified-cong _ _ (λ x. rw said (ap (λ (xs : List ℕ). memb x xs && earlier (s .graph) h x) (whole-row (nt .start .shown) h (nt .start .bank)))) (nt .made)

@@ -35,7 +35,8 @@ use Rattle.edits.specs.Work.{Edit, new, Working, Settled}
 use Rattle.edits.specs.Seeds.{Seedable, Seeded}
 use Rattle.edits.specs.Recount.{Recounting}
 use Rattle.edits.specs.Change.{Origin, editAt, Changed}
-use Rattle.edits.proofs.Stepping.{memb-none, progress}
+use Rattle.edits.proofs.Notices.{memb-none}
+use Rattle.edits.proofs.Stepping.{progress}
 
 -- rows and degrees as whole slices
 module _ {G : Graph} {ns ds was : List ℕ} (rd : Rowed G ns ds) where

@@ -12,7 +12,7 @@ use Rattle.rule.specs.Order.{earlierBy}
 use Rattle.rule.specs.Graph.{Graph, neighbours, degree, earlier}
 use Rattle.rule.specs.Reach.{isNamed}
 use Rattle.rule.specs.WorkList.{turned, seed}
-use Rattle.rule.proofs.Booleans.{or-l, or-r, T-along, eq→eqb}
+use Rattle.rule.proofs.Booleans.{or-l, or-r, T-along, eq→eqb, or-false}
 use Rattle.rule.proofs.Lists.{in-none}
 use Rattle.rule.proofs.Neighbours.{memb-neighbours}
 use Rattle.rule.proofs.Spread.{degree-elsewhere}
@@ -23,9 +23,8 @@ use Rattle.edits.specs.declared.rows.Degrees.{Degrees}
 use Rattle.edits.specs.Queue.{Queued, Line, Enqueued}
 use Rattle.edits.specs.Work.{Edit, new}
 use Rattle.edits.specs.Seeds.{turnedFrom, Search, Turning, Seedable, Seeded}
-use Rattle.edits.proofs.Notices.{no-and, more-and}
+use Rattle.edits.proofs.Notices.{memb-none, no-and, more-and}
 use Rattle.edits.proofs.Shows.{row-cell, cell-bank, cell-degree, row-memb, line-of, whole-row}
-use Rattle.edits.proofs.Stepping.{or-nothing, memb-none}
 
 module _ {s : Search} {ns ds q : List ℕ} {end y d i : ℕ} (tn : Turning s ns ds q end y d i) (lt : i < getD ds y 0) where
   abbrev v : ℕ
@@ -87,7 +86,7 @@ turn-start {G} {ns} {ds} {q} {end} y d shown bank queue = record {
   shown = shown;
   bank = bank;
   queue = queue;
-  members = λ x. or-nothing (memb x (take end q)) ∙ ap (λ (t : Bool). memb x (take end q) || (t && turnedFrom ds d y x)) (sym (memb-none x));
+  members = λ x. sym (or-false (memb x (take end q))) ∙ ap (λ (t : Bool). memb x (take end q) || (t && turnedFrom ds d y x)) (sym (memb-none x));
 }
 
 -- the parts of a seed, one by one

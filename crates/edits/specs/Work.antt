@@ -1,14 +1,14 @@
--- The work-list part of an edit: what `can_step` does to the cells, and the state between two of its calls.
-use mathlib.Core.Bool.{cond, _&&_, _||_}
-use mathlib.Core.List.{List}
+-- The work-list part of an edit: what `can_step` and its three parts do to the cells, and the state between two of its calls.
+use mathlib.Core.Bool.{Bool, true, cond, not, _&&_, _||_}
+use mathlib.Core.List.{List, map}
 use mathlib.Core.Logic.{_⊎_, _≢_}
 use mathlib.Core.Path.{_≡_}
 use Prim.Native.Nat.{ℕ, _+_, _*_, _-_, _<_, _≤_}
-use lib.Dec.{T, eqb}
+use lib.Dec.{T, eqb, ltb}
 use lib.ListN.{length, getD, take, drop, set}
-use Rattle.rule.specs.Lists.{filter, memb}
-use Rattle.rule.specs.Graph.{Graph, neighbours, earlier}
-use Rattle.rule.specs.Wave.{wave, waves}
+use Rattle.rule.specs.Lists.{upto, filter, memb}
+use Rattle.rule.specs.Graph.{Graph, neighbours, earlier, earlierNeighbours}
+use Rattle.rule.specs.Wave.{lowestFree, wave, waves}
 use Rattle.rule.specs.Reach.{Kind, edited, changed, moved}
 use Rattle.rule.specs.WorkList.{OneEdit, WorkList, taken}
 use Rattle.memory.specs.Cells.{Beyond, over}
@@ -18,11 +18,33 @@ use Rattle.edits.specs.declared.can_step.Progress.{Progress}
 use Rattle.edits.specs.Lent.{Lent}
 use Rattle.edits.specs.Queue.{Queued}
 
--- r is the lowest wave of which bank b has no count
-pub record Lowest (cs : List ℕ) (b r : ℕ) : Type 0 where
-  pub small : r < 24
-  pub held : (c : ℕ) → c < r → 0 < getD cs (b * 24 + c) 0
-  pub free : getD cs (b * 24 + r) 0 ≡ 0
+-- a set of waves, in 24 cells: those whose cell is not 0
+unfoldable pub wavesIn : List ℕ → List ℕ
+wavesIn cells = filter (λ c. ltb 0 (getD cells c 0)) (upto 24)
+
+-- what collecting is to give (000, definition 4.7): the waves that the earlier neighbours of b hold, by the stored waves ws
+unfoldable pub collected : Graph → List ℕ → ℕ → List ℕ
+collected G ws b = map (λ v. getD ws v 0) (earlierNeighbours G b)
+
+-- Counts are the index (000, section 5.1) of G with the stored waves ws, none of which is above 23
+pub record Indexed (G : Graph) (ws cs : List ℕ) : Type 0 where
+  pub counted : Counted G cs (λ b v. getD ws v 0)
+  pub small : (x : ℕ) → x < G .banks → getD ws x 0 < 24
+
+-- the set in these cells has exactly those waves
+pub record Collects (cells : List ℕ) (G : Graph) (ws : List ℕ) (b : ℕ) : Type 0 where
+  pub long : length cells ≡ 24
+  pub exact : (c : ℕ) → memb c (wavesIn cells) ≡ memb c (collected G ws b)
+
+-- what assigning does (000, definition 4.8): it stores as the wave of b, and of no other bank, the lowest that is not in the set; the answer says
+-- whether b had another one
+pub record Assigns (cells ws ws′ : List ℕ) (b : ℕ) (changed : Bool) : Type 0 where
+  pub stored : ws′ ≡ set ws b (lowestFree (wavesIn cells))
+  pub says : changed ≡ not (eqb (getD ws b 0) (lowestFree (wavesIn cells)))
+
+-- x is a neighbour of b, and later: one of those that b notifies
+unfoldable pub laterNeighbour : Graph → ℕ → ℕ → Bool
+laterNeighbour G b x = memb x (neighbours G b) && earlier G b x
 
 -- one count of bank v can go from wave o to wave w
 pub record Movable (cs : List ℕ) (v o w : ℕ) : Type 0 where
@@ -32,36 +54,42 @@ pub record Movable (cs : List ℕ) (v o w : ℕ) : Type 0 where
   pub some : 0 < getD cs (v * 24 + o) 0
   pub few : getD cs (v * 24 + w) 0 < 65535
 
+-- Counts after that
 abbrev pub oneMoved : List ℕ → ℕ → ℕ → ℕ → List ℕ
 oneMoved cs v o w = set (set cs (v * 24 + o) (getD cs (v * 24 + o) 0 - 1)) (v * 24 + w) (getD cs (v * 24 + w) 0 + 1)
 
--- the wave of bank v as bank b counts it: W v, but w for h if b was notified
-unfoldable pub seen : (ℕ → ℕ) → ℕ → ℕ → List ℕ → ℕ → ℕ → ℕ
-seen W h w notified b v = cond (eqb v h && memb b notified) w (W v)
+-- what notifying asks: if b changed, it went from wave o to another, w; each later neighbour has a count in o, and goes behind the queue's
+-- first `from`
+pub record Notifiable (G : Graph) (ns ds cs q : List ℕ) (from end b : ℕ) (changed : Bool) (o w : ℕ) : Type 0 where
+  pub shown : Shown G ns ds
+  pub bank : b < G .banks
+  pub differ : T changed → o ≢ w
+  pub movable : (x : ℕ) → T (laterNeighbour G b x) → Movable cs x o w
+  pub queue : Queued G q end
+  pub order : from ≤ end
+  pub front : (x : ℕ) → T (memb x (take from q)) → T (earlier G x b) ⊎ (x ≡ b)
 
--- what the notifying of a bank's later neighbours starts from: the clashes, the waves, Counts and the queue
+-- what notifying these banks does (000, definition 4.9): of each one count goes from wave o to w, and every other cell of Counts stays; each is
+-- queued with those that were, and the queue's first `from` stay
+pub record Notified (G : Graph) (cs cs′ q q′ : List ℕ) (from end end′ o w : ℕ) (these : ℕ → Bool) : Type 0 where
+  pub long : length cs′ ≡ length cs
+  pub counts : (x c : ℕ) → c < 24 → getD cs′ (x * 24 + c) 0 ≡ cond (these x) (getD (oneMoved cs x o w) (x * 24 + c) 0) (getD cs (x * 24 + c) 0)
+  pub queue : Queued G q′ end′
+  pub order : end ≤ end′
+  pub kept : take from q′ ≡ take from q
+  pub members : (x : ℕ) → memb x (take end′ q′) ≡ (memb x (take end q) || these x)
+
+-- what the notifying of a bank's later neighbours starts from: the clashes, Counts and the queue
 pub record Notice : Type 0 where
   pub graph : Graph
-  pub wave : ℕ → ℕ
   pub counts : List ℕ
-  pub front : List ℕ
-  pub given : List ℕ
+  pub queue : List ℕ
+  pub end : ℕ
 
--- of the first i neighbours of h the later ones are notified that h goes from wave o to w: their Counts say so, and they are queued
-pub record Notifying (s : Notice) (ns ds cs q : List ℕ) (from end h o w i : ℕ) : Type 0 where
-  pub shown : Shown (s .graph) ns ds
-  pub bank : h < s .graph .banks
-  pub was : s .wave h ≡ o
-  pub low : o < 24
-  pub high : w < 24
-  pub differ : o ≢ w
-  pub counted : Counted (s .graph) cs (seen (s .wave) h w (take i (neighbours (s .graph) h)))
-  pub beyond : Beyond (s .graph .banks * 24) cs (s .counts)
-  pub queue : Queued (s .graph) q end
-  pub order : from ≤ end
-  pub kept : take from q ≡ s .front
-  pub ends : (x : ℕ) → T (memb x (s .front)) → T (earlier (s .graph) x h) ⊎ (x ≡ h)
-  pub members : (x : ℕ) → memb x (take end q) ≡ (memb x (s .given) || (memb x (take i (neighbours (s .graph) h)) && earlier (s .graph) h x))
+-- of the first i neighbours of b the later ones are notified
+pub record Notifying (s : Notice) (ns ds cs q : List ℕ) (from end b o w i : ℕ) : Type 0 where
+  pub start : Notifiable (s .graph) ns ds (s .counts) (s .queue) from (s .end) b true o w
+  pub made : Notified (s .graph) (s .counts) cs (s .queue) q from (s .end) end o w (λ x. memb x (take i (neighbours (s .graph) b)) && earlier (s .graph) b x)
 
 -- an edit: its kind, the old clashes, the two banks, and the slices as it found them
 pub record Edit : Type 0 where
@@ -96,10 +124,10 @@ pub record Working (e : Edit) (m : Lent) (q : List ℕ) (p : Progress) : Type 0 
   pub moves : take (p .moved) (m .moved) ≡ filter (changed (e .old) (new e)) (take (p .taken) q)
   pub movedBeyond : Beyond (p .moved) (m .moved) (e .was .moved)
 
--- what one call does, for the bank h at the head of the queue: h gets the lowest wave of which it has no count; every other wave and the
--- trail so far stay; h stands at the trail's end, which is one further on
-pub record Treated (m m′ : Lent) (h : ℕ) (p p′ : Progress) : Type 0 where
-  pub own : Lowest (m .counts) h (getD (m′ .waves) h 0)
+-- what one call does, for the bank h at the head of the queue: h gets the lowest wave that no earlier neighbour holds; every other wave and
+-- the trail so far stay; h stands at the trail's end, which is one further on
+pub record Treated (G : Graph) (m m′ : Lent) (h : ℕ) (p p′ : Progress) : Type 0 where
+  pub own : getD (m′ .waves) h 0 ≡ lowestFree (collected G (m .waves) h)
   pub others : (x : ℕ) → x ≢ h → getD (m′ .waves) x 0 ≡ getD (m .waves) x 0
   pub one : p′ .taken ≡ p .taken + 1
   pub trail : take (p .taken) (m′ .trail) ≡ take (p .taken) (m .trail)

@@ -1,6 +1,9 @@
 // The accepted edit of one clash, on memory that holds a plan, where no refusal is due.
+mod assign;
 mod can_step;
+mod collect;
 mod edit;
+mod notify;
 mod queue;
 mod recount;
 mod rows;

@@ -2,8 +2,8 @@
 use borrow.Author.Needs.{needs}
 use native.Mathlib.Omega.{arith}
 use lib.ListN.{length-set}
-use Rattle.edits.proofs.can_step.move_count.Statement.{statement}
-use Rattle.edits.proofs.can_step.move_count.Tie as tie
+use Rattle.edits.proofs.notify.move_count.Statement.{statement}
+use Rattle.edits.proofs.notify.move_count.Tie as tie
 
 cast-base : tie.Need-cast-base
 cast-base c = omega arith

@@ -4,8 +4,8 @@ use mathlib.Core.Path.{sym, _∙_}
 use borrow.Author.Tests.{not-true, not-false}
 use Rattle.rule.proofs.Booleans.{T-along}
 use Rattle.edits.proofs.Notices.{in-row, v-degree, h-degree, order-is, passed, movable, line, notified}
-use Rattle.edits.proofs.can_step.notify_one.Statement.{statement}
-use Rattle.edits.proofs.can_step.notify_one.Tie as tie
+use Rattle.edits.proofs.notify.notify_one.Statement.{statement}
+use Rattle.edits.proofs.notify.notify_one.Tie as tie
 
 cast-at : tie.Need-cast-at
 cast-at c = omega arith
