@@ -8,6 +8,7 @@ use lib.ListN.{length, getD, take}
 use Rattle.rule.specs.Lists.{memb, Sorted}
 use Rattle.rule.specs.Graph.{Graph, degree, earlier}
 use Rattle.memory.specs.Counts.{byCells}
+use Rattle.edits.specs.declared.queue.Span.{Span}
 
 -- the first `end` cells are banks of G, in its order
 pub record Queued (G : Graph) (q : List ℕ) (end : ℕ) : Type 0 where
@@ -38,6 +39,15 @@ pub record Placed (ds q : List ℕ) (from end v r : ℕ) : Type 0 where
   pub high : r ≤ end
   pub after : from < r → byCells ds (getD q (r - 1) 0) v ≡ true
   pub until : r < end → byCells ds (getD q r 0) v ≡ false
+
+-- the half r of a span: those that it leaves out below are earlier than v, and those above are not, by the degree cells
+pub record Halved (ds q : List ℕ) (span : Span) (v : ℕ) (r : Span) : Type 0 where
+  pub less : r .high - r .low < span .high - span .low
+  pub low : span .low ≤ r .low
+  pub ordered : r .low ≤ r .high
+  pub high : r .high ≤ span .high
+  pub after : (i : ℕ) → i + 1 ≡ r .low → span .low ≤ i → byCells ds (getD q i 0) v ≡ true
+  pub until : (i : ℕ) → i ≡ r .high → i < span .high → byCells ds (getD q i 0) v ≡ false
 
 -- v put at `at`, and what stood from there to `end` one cell on
 pub record Inserted (old new : List ℕ) (at end v : ℕ) : Type 0 where

@@ -5,7 +5,34 @@ ghost use mathlib.Core.Path.{_≡_};
 ghost use Prim.Native.Nat.{ℕ, _<_, _≤_};
 ghost use lib.ListN.{length, getD};
 ghost use Rattle.rule.specs.Graph.{Graph};
-ghost use Rattle.edits.specs.Queue.{Line, Enqueued, Placed, Inserted};
+ghost use Rattle.edits.specs.Queue.{Line, Enqueued, Halved, Placed, Inserted};
+
+// What is left of a search: the place is from `low` to `high`.
+pub struct Span {
+    pub low: usize,
+    pub high: usize,
+}
+
+// The half of the span in which the place of v is.
+fn halved(degrees: &[u16], queue: &[u16], span: Span, v: Bank) -> Span
+    requires { ⌜ (span .low < span .high) × (span .high ≤ length (now queue)) × (v .0 < length (now degrees)) ⌝ }
+    requires { ⌜ ((i : ℕ) → i < span .high → getD (now queue) i 0 < length (now degrees)) ⌝ }
+    ensures { λ r. ⌜ Halved (now (degrees .entry)) (now (queue .entry)) span (v .0) r ⌝ }
+{
+    let low = span.low;
+    let high = span.high;
+    let middle = (low + high) / 2;
+    if is_earlier(degrees, Bank(queue[middle]), v) {
+        return Span {
+            low: middle + 1,
+            high: high,
+        };
+    }
+    Span {
+        low: low,
+        high: middle,
+    }
+}
 
 // The place of v in queue[from..end]: the first whose bank is not earlier than v.
 fn place(degrees: &[u16], queue: &[u16], from: usize, end: usize, v: Bank) -> usize
@@ -13,14 +40,14 @@ fn place(degrees: &[u16], queue: &[u16], from: usize, end: usize, v: Bank) -> us
     requires { ⌜ ((i : ℕ) → i < end → getD (now queue) i 0 < length (now degrees)) ⌝ }
     ensures { λ r. ⌜ Placed (now (degrees .entry)) (now (queue .entry)) from end (v .0) r ⌝ }
 {
-    let mut i = end;
-    while from < i {
-        if is_earlier(degrees, Bank(queue[i - 1]), v) {
-            return i;
-        }
-        i -= 1;
+    let mut span = Span {
+        low: from,
+        high: end,
+    };
+    while span.low < span.high {
+        span = halved(degrees, queue, span, v);
     }
-    i
+    span.low
 }
 
 // Puts v at `at`, and what stands from there to `end` one cell on.
