@@ -21,10 +21,10 @@ use Rattle.journal.specs.declared.record.RecordedEdit.{RecordedEdit}
 use Rattle.journal_replay.specs.declared.rerun.ReplayedPlan.{ReplayedPlan}
 use Rattle.journal.specs.Calls.{StartResult, startResult, started, RecordResult, recordResult, recorded}
 use Rattle.journal_replay.specs.Replay.{ReplayResult, replayResult, replayed}
-use Rattle.wave_plan.specs.Lent.{tallyIn, tallyCells, Lent, memoryIn, leaving}
+use Rattle.c_cells.specs.Lent.{tallyIn, tallyCells, Lent, memoryIn, leaving}
 use Rattle.wave_plan.specs.Calls.{openLeft, openDone, openCall, Left, left, editDone, editCall, listDone, listCall, told, waveDone, waveCall, startBy, clashesDone, clashesCall, partNamed, textLeft, textDone, textCall}
 use Rattle.wave_plan.specs.Journals.{startLeft, startDone, startCall, recordLeft, recordDone, recordCall, replayDone, replayCall}
-use Rattle.wave_plan.specs.Put.{AnswerPut}
+use Rattle.c_cells.specs.Put.{AnswerPut}
 use Rattle.wave_plan.proofs.Answers.{refused-start, found-start, row-part}
 use Rattle.wave_plan.proofs.Room.{room}
 

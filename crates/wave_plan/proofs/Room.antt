@@ -5,7 +5,7 @@ use Prim.Native.Nat.{ℕ, _≤_, _<_}
 use lib.ListN.{length}
 use borrow.Author.Tests.{le-leb, lt-leb}
 use Rattle.planner.specs.Questions.{firstNo}
-use Rattle.wave_plan.specs.Lent.{roomNumber, roomed}
+use Rattle.c_cells.specs.Lent.{roomNumber, roomed}
 
 module _ {A : Type 0} (needed : ℕ) (tally result : List ℕ) (refusal : ℕ → A) (done : A) where
   pub room : 3 ≤ length tally → needed ≤ length result → done ≡ roomed (roomNumber needed tally result) refusal done

@@ -18,10 +18,10 @@ use Rattle.sheet_writer.proofs.Writing.{written-most}
 use Rattle.poster_writer.specs.Poster.{poster}
 use Rattle.poster_writer.specs.Calls.{writePoster}
 use Rattle.poster_writer.proofs.Theorems.{poster-fits}
-use Rattle.wave_plan.specs.Lent.{tallyIn, Lent, memoryIn, leaving}
+use Rattle.c_cells.specs.Lent.{tallyIn, Lent, memoryIn, leaving}
 use Rattle.wave_plan.specs.Calls.{openLeft, openDone, left, editDone}
 use Rattle.wave_plan.specs.Journals.{recordLeft, recordDone}
-use Rattle.wave_plan.proofs.Fronts.{tally-again}
+use Rattle.c_cells.proofs.Fronts.{tally-again}
 use Rattle.wave_plan.proofs.Answers as Answers
 
 -- what was lent, with these results

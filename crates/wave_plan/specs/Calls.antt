@@ -12,7 +12,7 @@ use Rattle.list_reader.specs.Pass.{ListResult, readList}
 use Rattle.sheet_writer.specs.Sheet.{sheet}
 use Rattle.sheet_writer.specs.Calls.{TextResult, writeText}
 use Rattle.poster_writer.specs.Poster.{poster}
-use Rattle.wave_plan.specs.Lent.{tallyIn, tallyCells, roomNumber, roomed, Lent, memoryIn, leaving}
+use Rattle.c_cells.specs.Lent.{tallyIn, tallyCells, roomNumber, roomed, Lent, memoryIn, leaving}
 
 -- what opening answers and leaves
 pub record OpenLeft : Type 0 where

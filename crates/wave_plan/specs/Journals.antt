@@ -7,7 +7,7 @@ use Rattle.memory.specs.Cells.{over}
 use Rattle.memory.specs.Plan.{Slices}
 use Rattle.journal.specs.Calls.{StartResult, started, RecordResult, recorded}
 use Rattle.journal_replay.specs.Replay.{ReplayResult, replayed}
-use Rattle.wave_plan.specs.Lent.{tallyIn, roomNumber, roomed, Lent, memoryIn, leaving}
+use Rattle.c_cells.specs.Lent.{tallyIn, roomNumber, roomed, Lent, memoryIn, leaving}
 use Rattle.wave_plan.specs.Calls.{Left, left}
 
 -- what starting a journal answers and leaves

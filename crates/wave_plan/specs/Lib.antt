@@ -1,6 +1,4 @@
--- What a reader must believe of the C library: Lent, how cells carry the tally and the results; Calls and Journals, what each function answers
--- and leaves. Put serves the functions.
-pub mod Lent
+-- What a reader must believe of the C library: Calls and Journals, what each function answers and leaves; in c_cells, how cells carry the
+-- tally and the results.
 pub mod Calls
 pub mod Journals
-pub mod Put

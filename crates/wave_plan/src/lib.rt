@@ -1,15 +1,13 @@
 // The C library: each call of the planner, the list reader, the sheet writer, the poster writer and the journal on numbers and slices. It decides
 // nothing itself but that a tally slice of fewer than three cells, or a result slice that is too short, gets 2 with nothing changed.
-mod cells;
-
-use cells::put_edited;
-use cells::put_listed;
-use cells::put_one;
-use cells::put_recorded;
-use cells::put_replayed;
-use cells::put_tally;
-use cells::put_two;
-use cells::tally_in;
+use c_cells::put_edited;
+use c_cells::put_listed;
+use c_cells::put_one;
+use c_cells::put_recorded;
+use c_cells::put_replayed;
+use c_cells::put_tally;
+use c_cells::put_two;
+use c_cells::tally_in;
 use journal::add_recorded_core;
 use journal::start_journal;
 use journal::strike_recorded_core;
@@ -31,7 +29,7 @@ ghost use lib.ListN.{length};
 ghost use Rattle.rule.specs.Reach.{Kind.adding, Kind.striking};
 ghost use Rattle.memory.specs.Plan.{slicesOf};
 ghost use Rattle.planner.specs.Calls.{clashesOf};
-ghost use Rattle.wave_plan.specs.Lent.{tallyIn, lentOf};
+ghost use Rattle.c_cells.specs.Lent.{tallyIn, lentOf};
 ghost use Rattle.wave_plan.specs.Calls.{openLeft, openCall, left, editCall, listCall, told, waveCall, clashesCall, partNamed, textLeft, sheetCall, posterCall};
 ghost use Rattle.wave_plan.specs.Journals.{startLeft, startCall, recordLeft, recordCall, replayCall};
 

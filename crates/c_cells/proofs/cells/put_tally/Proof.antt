@@ -1,8 +1,8 @@
 -- `wave_plan::cells::put_tally` meets its contract.
 use borrow.Author.Needs.{needs}
-use Rattle.wave_plan.specs.Lent.{tallyCells}
-use Rattle.wave_plan.proofs.cells.put_tally.Statement.{statement}
-use Rattle.wave_plan.proofs.cells.put_tally.Tie as tie
+use Rattle.c_cells.specs.Lent.{tallyCells}
+use Rattle.c_cells.proofs.cells.put_tally.Statement.{statement}
+use Rattle.c_cells.proofs.cells.put_tally.Tie as tie
 
 put-three-requires : tie.Need-put-three-requires
 put-three-requires c κs = search needs

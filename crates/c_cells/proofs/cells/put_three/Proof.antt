@@ -2,9 +2,9 @@
 use borrow.Author.Needs.{needs}
 use native.Mathlib.Omega.{arith}
 use lib.ListN.{length-set}
-use Rattle.wave_plan.proofs.Fronts.{three-cells}
-use Rattle.wave_plan.proofs.cells.put_three.Statement.{statement}
-use Rattle.wave_plan.proofs.cells.put_three.Tie as tie
+use Rattle.c_cells.proofs.Fronts.{three-cells}
+use Rattle.c_cells.proofs.cells.put_three.Statement.{statement}
+use Rattle.c_cells.proofs.cells.put_three.Tie as tie
 
 slice-write-cells : tie.Need-slice-write-cells
 slice-write-cells c = search needs

@@ -1,4 +1,4 @@
-// The tally and the results of a call as cells of lent slices.
+// Reading a tally from its cells, and putting tallies and results into theirs.
 use journal::RecordedEdit;
 use journal_replay::ReplayedPlan;
 use list_reader::Listed;
@@ -9,8 +9,8 @@ ghost use mathlib.Core.Path.{_≡_};
 ghost use Prim.Native.Nat.{_≤_};
 ghost use lib.ListN.{length};
 ghost use Rattle.memory.specs.Cells.{over};
-ghost use Rattle.wave_plan.specs.Lent.{tallyIn, tallyCells};
-ghost use Rattle.wave_plan.specs.Put.{AnswerPut};
+ghost use Rattle.c_cells.specs.Lent.{tallyIn, tallyCells};
+ghost use Rattle.c_cells.specs.Put.{AnswerPut};
 
 // The tally in the front three cells.
 pub fn tally_in(cells: &[u16]) -> Tally

@@ -1,8 +1,8 @@
 -- `wave_plan::cells::put_recorded` meets its contract.
 use borrow.Author.Needs.{needs}
 use mathlib.Core.Path.{refl}
-use Rattle.wave_plan.proofs.cells.put_recorded.Statement.{statement}
-use Rattle.wave_plan.proofs.cells.put_recorded.Tie as tie
+use Rattle.c_cells.proofs.cells.put_recorded.Statement.{statement}
+use Rattle.c_cells.proofs.cells.put_recorded.Tie as tie
 
 put-tally-requires : tie.Need-put-tally-requires
 put-tally-requires c κs = search needs

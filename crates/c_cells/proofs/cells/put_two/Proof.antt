@@ -2,9 +2,9 @@
 use borrow.Author.Needs.{needs}
 use native.Mathlib.Omega.{arith}
 use lib.ListN.{length-set}
-use Rattle.wave_plan.proofs.Fronts.{two-cells}
-use Rattle.wave_plan.proofs.cells.put_two.Statement.{statement}
-use Rattle.wave_plan.proofs.cells.put_two.Tie as tie
+use Rattle.c_cells.proofs.Fronts.{two-cells}
+use Rattle.c_cells.proofs.cells.put_two.Statement.{statement}
+use Rattle.c_cells.proofs.cells.put_two.Tie as tie
 
 slice-write-cells : tie.Need-slice-write-cells
 slice-write-cells c = search needs

@@ -1,9 +1,9 @@
 -- `wave_plan::cells::tally_in` meets its contract.
 use borrow.Author.Needs.{needs}
 use mathlib.Core.Path.{refl}
-use Rattle.wave_plan.specs.Lent.{tallyIn}
-use Rattle.wave_plan.proofs.cells.tally_in.Statement.{statement}
-use Rattle.wave_plan.proofs.cells.tally_in.Tie as tie
+use Rattle.c_cells.specs.Lent.{tallyIn}
+use Rattle.c_cells.proofs.cells.tally_in.Statement.{statement}
+use Rattle.c_cells.proofs.cells.tally_in.Tie as tie
 
 shared-slice-read-t3 : tie.Need-shared-slice-read-t3
 shared-slice-read-t3 c = search needs

@@ -1,8 +1,8 @@
 -- `wave_plan::cells::put_one` meets its contract.
 use borrow.Author.Needs.{needs}
-use Rattle.wave_plan.proofs.Fronts.{one-cell}
-use Rattle.wave_plan.proofs.cells.put_one.Statement.{statement}
-use Rattle.wave_plan.proofs.cells.put_one.Tie as tie
+use Rattle.c_cells.proofs.Fronts.{one-cell}
+use Rattle.c_cells.proofs.cells.put_one.Statement.{statement}
+use Rattle.c_cells.proofs.cells.put_one.Tie as tie
 
 slice-write-cells : tie.Need-slice-write-cells
 slice-write-cells c = search needs

@@ -5,7 +5,7 @@ use Prim.Native.Nat.{ℕ, _≤_}
 use native.Mathlib.Omega.{arith}
 use lib.ListN.{length, set}
 use Rattle.memory.specs.Cells.{over}
-use Rattle.wave_plan.specs.Lent.{tallyIn, tallyCells}
+use Rattle.c_cells.specs.Lent.{tallyIn, tallyCells}
 
 pub one-cell : (xs : List ℕ) (x : ℕ) → 1 ≤ length xs → set xs 0 x ≡ over (x ∷ []) xs
 unfolding over

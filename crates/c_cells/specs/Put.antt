@@ -4,7 +4,7 @@ use mathlib.Core.Path.{_≡_}
 use Prim.Native.Nat.{ℕ}
 use Rattle.memory.specs.declared.Tally.{Tally}
 use Rattle.memory.specs.Cells.{over}
-use Rattle.wave_plan.specs.Lent.{tallyCells}
+use Rattle.c_cells.specs.Lent.{tallyCells}
 
 -- a call's number is the answer r, its tally and its results are put into their slices
 pub record AnswerPut (number : ℕ) (t : Tally) (results tally result : List ℕ) (r : ℕ) (tally′ result′ : List ℕ) : Type 0 where
