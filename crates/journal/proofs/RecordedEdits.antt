@@ -33,9 +33,8 @@ use Rattle.journal_fields.specs.Fields.{entryBytes, entriesBytes, hasFirst, ban
 use Rattle.journal_fields.specs.Numbers.{spaceNumber, headNumber, fieldsNumber}
 use Rattle.journal.specs.Calls.{recordNumber, RecordResult, entryFor, recordedAs, recordedBy, recorded}
 use Rattle.journal_replay.specs.Replay.{ReplayResult, replayAnswer, entryNumber, replayed}
-use Rattle.journal_fields.proofs.Numbers.{first-zero, space-room}
-use Rattle.journal_fields.proofs.Entries.{length-entry}
-use Rattle.journal_fields.proofs.Entries.{whole, following, fields-written}
+use Rattle.journal_fields.proofs.Numbers.{first-zero, space-room, size-inside, size-first}
+use Rattle.journal_fields.proofs.Entries.{length-entry, whole, following, fields-written}
 use Rattle.journal_fields.proofs.Bytes.{first-long, first-same, fields-more}
 use Rattle.journal_replay.proofs.Replaying.{begin-passed, replayFrom, Reads, replay-is}
 use Rattle.journal.proofs.Turns.{no-clashes, entryGraph, graphAfter, NoneRefused, after-banks, after-clashes, after-append, none-append, Ends, enter-passed}
@@ -190,14 +189,6 @@ pub record Passes (k : Kind) (a b : ℕ) (m : Memory) (size : ℕ) (journal : Li
   pub space : size + 7 ≤ 60000
 
 module _ (k : Kind) (a b : ℕ) (m : Memory) (size : ℕ) (journal : List ℕ) where
-  head-passed : headNumber size journal ≡ 0 → (size ≤ length journal) × (hasFirst (take size journal) ≡ true)
-  unfolding headNumber
-  head-passed z =
-      let inside = leb size (length journal) && hasFirst (take size journal) in
-      let p = none (leb size 60000) 8 (record { holds = inside; number = 13 } ∷ []) z in
-      let q = both-true (leb size (length journal)) (hasFirst (take size journal)) (none inside 12 [] (p .1) .0) in
-      (leb-true size (length journal) (q .0), q .1)
-
   fields-passed : fieldsNumber size journal ≡ 0 → areWhole (fields (drop 5 (take size journal))) ≡ true
   unfolding fieldsNumber
   fields-passed z = none (areWhole (fields (drop 5 (take size journal)))) 13 [] z .0
@@ -213,10 +204,9 @@ module _ (k : Kind) (a b : ℕ) (m : Memory) (size : ℕ) (journal : List ℕ) w
       let r = first-zero (fieldsNumber size journal) _ (q .1) in
       let u = first-zero (editNumber k (graphIn (m .tally .banks) (m .slices)) a b) _ (r .1) in
       let v = first-zero (spaceNumber (size + 7) journal) [] (u .1) in
-      let h = head-passed (p .0) in
       record {
-        inside = h .0;
-        first = h .1;
+        inside = size-inside size journal (p .0);
+        first = size-first size journal (p .0);
         whole-fields = fields-passed (r .0);
         ready = memory-ready (q .0);
         due = u .0;

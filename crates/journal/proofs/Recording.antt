@@ -26,46 +26,23 @@ use Rattle.journal.specs.Calls.{recordNumber, recordResult, noRecord, en
 use Rattle.journal.specs.Recording.{Checked, Accepts, RecordedOf}
 use Rattle.journal_fields.proofs.Reading.{drop-take}
 use Rattle.journal_fields.proofs.Entries.{length-entry}
-use Rattle.journal_fields.proofs.Numbers.{first-none, first-some, first-last}
+use Rattle.journal_fields.proofs.Numbers.{first-none, first-some, first-last, size-few, size-inside, size-five}
 
-module _ (size : ℕ) (journal : List ℕ) where
-  -- the journal's first bytes are within bounds, and so is its first field
-  module _ (z : headNumber size journal ≡ 0) where
-    head-parts : (a b c : Bool) → _≡_ {A = ℕ} (cond a (cond (b && c) 0 13) 9) 0 → (a ≡ true) × (b ≡ true) × (c ≡ true)
-    head-parts true true true z = (refl, refl, refl)
-    head-parts true true false z = absurd (omega arith)
-    head-parts true false c z = absurd (omega arith)
-    head-parts false b c z = absurd (omega arith)
+module _ (size : ℕ) (journal : List ℕ) (z : headNumber size journal ≡ 0) where
+  -- the fields after the first, as a part of the journal
+  later : fields (take (size - 5) (drop 5 journal)) ≡ fields (drop 5 (take size journal))
+  later =
+      let five = size-five size journal z in
+      let e : 5 + (size - 5) ≡ size = omega (arith, five) in
+      ap fields (sym (drop-take 5 (size - 5) journal (omega (arith, five, size-inside size journal z))) ∙ ap (λ (k : ℕ). drop 5 (take k journal)) e)
 
-    parts : (leb size 60000 ≡ true) × (leb size (length journal) ≡ true) × (hasFirst (take size journal) ≡ true)
-    unfolding headNumber firstNo
-    parts = head-parts (leb size 60000) (leb size (length journal)) (hasFirst (take size journal)) z
+  pub fields-no : areWhole (fields (take (size - 5) (drop 5 journal))) ≡ false → 14 ≡ fieldsNumber size journal
+  unfolding fieldsNumber firstNo
+  fields-no e = rw (← later, e)
 
-    pub size-few : size ≤ 60000
-    size-few = leb-true size 60000 (parts .0)
-
-    pub size-inside : size ≤ length journal
-    size-inside = leb-true size (length journal) (parts .1)
-
-    pub size-five : 5 ≤ size
-    unfolding hasFirst
-    size-five =
-        let l = leb-true 5 (length (take size journal)) (both-true (leb 5 (length (take size journal))) _ (parts .2) .0) in
-        omega (arith, l, length-take-le size journal size-inside)
-
-    -- the fields after the first, as a part of the journal
-    later : fields (take (size - 5) (drop 5 journal)) ≡ fields (drop 5 (take size journal))
-    later =
-        let e : 5 + (size - 5) ≡ size = omega (arith, size-five) in
-        ap fields (sym (drop-take 5 (size - 5) journal (omega (arith, size-five, size-inside))) ∙ ap (λ (k : ℕ). drop 5 (take k journal)) e)
-
-    pub fields-no : areWhole (fields (take (size - 5) (drop 5 journal))) ≡ false → 14 ≡ fieldsNumber size journal
-    unfolding fieldsNumber firstNo
-    fields-no e = rw (← later, e)
-
-    pub fields-yes : areWhole (fields (take (size - 5) (drop 5 journal))) ≡ true → 0 ≡ fieldsNumber size journal
-    unfolding fieldsNumber firstNo
-    fields-yes e = rw (← later, e)
+  pub fields-yes : areWhole (fields (take (size - 5) (drop 5 journal))) ≡ true → 0 ≡ fieldsNumber size journal
+  unfolding fieldsNumber firstNo
+  fields-yes e = rw (← later, e)
 
 -- the first of several numbers, where those before are 0
 module _ (c d : ℕ) (cs : List ℕ) (z : c ≡ 0) where

@@ -6,11 +6,14 @@ use Prim.Native.Nat.{ℕ, zero, suc, _-_, _≤_, _<_}
 use native.Mathlib.Omega.{arith}
 use lib.Dec.{leb}
 use lib.ListN.{length, take}
+use lib.Seq.{length-take-le}
 use borrow.Author.Tests.{le-leb, lt-leb, leb-true}
 use Rattle.rule.proofs.Booleans.{both-true}
 use Rattle.planner.specs.Questions.{firstNo}
+use Rattle.planner.proofs.Numbers.{none}
 use Rattle.journal_fields.specs.Fields.{hasFirst}
 use Rattle.journal_fields.specs.Numbers.{firstOf, spaceNumber, headNumber}
+use Rattle.journal_fields.proofs.Bytes.{first-long}
 
 -- the first number that is not 0
 pub first-none : (c : ℕ) (cs : List ℕ) → c ≡ 0 → firstOf (c ∷ cs) ≡ firstOf cs
@@ -33,11 +36,6 @@ unfolding firstOf
 first-zero zero cs z = (refl, z)
 first-zero (suc c) cs z = absurd (omega arith)
 
--- the answer to the last question is yes if it does not refuse
-pub yes : (q : Bool) (c : ℕ) → _≡_ {A = ℕ} (cond q 0 (suc c)) 0 → q ≡ true
-yes true c z = refl
-yes false c z = absurd (omega arith)
-
 module _ (size : ℕ) (journal : List ℕ) where
   -- space for `size` bytes
   pub space-slice : length journal < size → 15 ≡ spaceNumber size journal
@@ -53,9 +51,9 @@ module _ (size : ℕ) (journal : List ℕ) where
   space-yes h k = rw (le-leb size (length journal) h, le-leb size 60000 k)
 
   pub space-room : spaceNumber size journal ≡ 0 → (size ≤ length journal) × (size ≤ 60000)
-  unfolding spaceNumber firstNo
+  unfolding spaceNumber
   space-room z =
-      let p = both-true (leb size (length journal)) (leb size 60000) (yes (leb size (length journal) && leb size 60000) 14 z) in
+      let p = both-true (leb size (length journal)) (leb size 60000) (none (leb size (length journal) && leb size 60000) 14 [] z .0) in
       (leb-true size (length journal) (p .0), leb-true size 60000 (p .1))
 
   -- the first bytes
@@ -77,3 +75,29 @@ module _ (size : ℕ) (journal : List ℕ) where
   pub head-yes : size ≤ 60000 → size ≤ length journal → hasFirst (take (size - 0) journal) ≡ true → 0 ≡ headNumber size journal
   unfolding headNumber firstNo
   head-yes h k e = rw (le-leb size 60000 h, le-leb size (length journal) k, sym whole ∙ e)
+
+  -- where no question about them is answered by no
+  module _ (z : headNumber size journal ≡ 0) where
+    passed : (leb size 60000 ≡ true) × (leb size (length journal) ≡ true) × (hasFirst (take size journal) ≡ true)
+    unfolding headNumber
+    passed =
+        let inside = leb size (length journal) && hasFirst (take size journal) in
+        let p = none (leb size 60000) 8 (record { holds = inside; number = 13 } ∷ []) z in
+        let q = both-true (leb size (length journal)) (hasFirst (take size journal)) (none inside 12 [] (p .1) .0) in
+        (p .0, q .0, q .1)
+
+    -- they are at most 60,000
+    pub size-few : size ≤ 60000
+    size-few = leb-true size 60000 (passed .0)
+
+    -- they lie within the slice
+    pub size-inside : size ≤ length journal
+    size-inside = leb-true size (length journal) (passed .1)
+
+    -- they start with the first field
+    pub size-first : hasFirst (take size journal) ≡ true
+    size-first = passed .2
+
+    -- and have room for it
+    pub size-five : 5 ≤ size
+    size-five = omega (arith, first-long (take size journal) size-first, length-take-le size journal size-inside)

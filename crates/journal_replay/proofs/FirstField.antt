@@ -7,9 +7,8 @@ use native.Mathlib.Omega.{arith}
 use lib.Dec.{leb}
 use lib.ListN.{length, drop}
 use lib.Seq.{take-all}
-use borrow.Author.Tests.{le-leb, leb-true}
+use borrow.Author.Tests.{le-leb}
 use Rattle.rule.specs.Graph.{Graph}
-use Rattle.rule.proofs.Booleans.{both-true}
 use Rattle.planner.specs.declared.Opened.{Opened}
 use Rattle.planner.specs.Questions.{firstNo}
 use Rattle.planner.specs.Calls.{Memory}
@@ -18,6 +17,7 @@ use Rattle.list_reader.specs.Pass.{begin, beginNumber}
 use Rattle.list_reader.specs.Steps.{at, OpensAll}
 use Rattle.journal_fields.specs.Fields.{numberAt, hasFirst, banksIn, fields}
 use Rattle.journal_fields.specs.Numbers.{headNumber}
+use Rattle.journal_fields.proofs.Numbers.{size-few, size-first}
 use Rattle.journal_replay.specs.Replay.{ReplayResult, replayResult, replayNumber, replayBy, replayed}
 use Rattle.journal_replay.specs.Steps.{enterFields, refusedFirst}
 
@@ -26,22 +26,6 @@ module _ (bytes : List ℕ) where
   head-whole : headNumber (length bytes) bytes ≡ cond (leb (length bytes) 60000) (cond (hasFirst bytes) 0 13) 9
   unfolding headNumber firstNo
   head-whole = rw (le-leb (length bytes) (length bytes) (omega arith), take-all (length bytes) bytes (omega arith))
-
-  head-yes : (a b : Bool) → _≡_ {A = ℕ} (cond a (cond b 0 13) 9) 0 → (a ≡ true) × (b ≡ true)
-  head-yes true true z = (refl, refl)
-  head-yes true false z = absurd (omega arith)
-  head-yes false b z = absurd (omega arith)
-
-  module _ (z : headNumber (length bytes) bytes ≡ 0) where
-    pub head-few : length bytes ≤ 60000
-    head-few = leb-true (length bytes) 60000 (head-yes (leb (length bytes) 60000) (hasFirst bytes) (sym head-whole ∙ z) .0)
-
-    has-first : hasFirst bytes ≡ true
-    has-first = head-yes (leb (length bytes) 60000) (hasFirst bytes) (sym head-whole ∙ z) .1
-
-    pub head-five : 5 ≤ length bytes
-    unfolding hasFirst
-    head-five = leb-true 5 (length bytes) (both-true (leb 5 (length bytes)) _ has-first .0)
 
   module _ (m : Memory) where
     -- a no about the first field decides
@@ -57,7 +41,9 @@ module _ (bytes : List ℕ) where
     -- without one, opening does
     rest-number : headNumber (length bytes) bytes ≡ 0 → beginNumber (banksIn bytes) m ≡ replayNumber bytes m
     unfolding replayNumber beginNumber firstNo
-    rest-number z = rw (le-leb (length bytes) 60000 (head-few z), has-first z)
+    rest-number z =
+        let first : hasFirst bytes ≡ true = ap hasFirst (sym (take-all (length bytes) bytes (omega arith))) ∙ size-first (length bytes) bytes z in
+        rw (le-leb (length bytes) 60000 (size-few (length bytes) bytes z), first)
 
     -- refused before the entries
     by-some : (c : ℕ) → (c ≡ 0 → ⊥) → replayResult (refusedFirst c) m ≡ replayBy c bytes m

@@ -1,6 +1,7 @@
 use mathlib.Core.Path.{sym, _∙_}
 use borrow.Author.Tests.{not-true, not-false}
-use Rattle.journal.proofs.Recording.{size-inside, size-five, fields-no, fields-yes, checked-head, checked-memory, checked-fields}
+use Rattle.journal_fields.proofs.Numbers.{size-inside, size-five}
+use Rattle.journal.proofs.Recording.{fields-no, fields-yes, checked-head, checked-memory, checked-fields}
 use borrow.Author.Needs.{needs}
 use borrow.Author.Needs.{needs}
 use Rattle.journal.proofs.record.check_record.Statement.{statement}

@@ -1,5 +1,6 @@
 use mathlib.Core.Path.{sym, _∙_}
-use Rattle.journal_replay.proofs.FirstField.{head-few, head-five, replay-refused, open-refused, open-replayed, banks-read}
+use Rattle.journal_fields.proofs.Numbers.{size-few, size-five}
+use Rattle.journal_replay.proofs.FirstField.{replay-refused, open-refused, open-replayed, banks-read}
 use borrow.Author.Needs.{needs}
 use native.Mathlib.Omega.{arith}
 use borrow.Author.Needs.{needs}
@@ -17,7 +18,7 @@ returns c = rw (c .refuse .ensures .0, c .refuse .ensures .1) (replay-refused _ 
 
 number-at-requires : tie.Need-number-at-requires
 number-at-requires c κs =
-    let five = head-five (c .before .before .before .before .before .before .before .before .before .args .journal .now) (sym (c .before .head-number .ensures) ∙ c .if1 .left) in
+    let five = size-five _ (c .before .before .before .before .before .before .before .before .before .args .journal .now) (sym (c .before .head-number .ensures) ∙ c .if1 .left) in
     omega arith
 
 open-all-requires : tie.Need-open-all-requires
@@ -52,7 +53,7 @@ enter-fields-requires c κs =
     let s = c .before .before .before .before .before .before .before .before .before .before .before .before .before .before .before .before .before .open-all .ensures .opened (c .before .before .before .before .before .before .if2 .left) in
     let bytes = c .before .before .before .before .before .before .before .before .before .before .before .before .before .before .before .before .before .before .before .before .before .before .before .before .before .before .before .before .before .before .before .before .before .before .args .journal .now in
     let z = sym (c .before .before .before .before .before .before .before .before .before .before .before .before .before .before .before .before .before .before .before .before .before .before .before .before .before .before .head-number .ensures) ∙ c .before .before .before .before .before .before .before .before .before .before .before .before .before .before .before .before .before .before .before .before .before .before .before .before .before .if1 .left in
-    record { held = (_, s .ready); few = head-few bytes z; later = omega arith; inside = head-five bytes z }
+    record { held = (_, s .ready); few = size-few _ bytes z; later = omega arith; inside = size-five _ bytes z }
 
 same-length-7 : tie.Need-same-length-7
 same-length-7 c = c .before .before .before .before .before .before .before .before .before .before .before .before .enter-fields .kept .1 .1 .0 ∙ c .before .before .before .before .before .before .before .before .before .before .before .before .before .before .before .before .before .before .before .before .before .before .before .before .before .before .before .before .before .before .open-all .kept .0
