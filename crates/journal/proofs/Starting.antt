@@ -15,19 +15,17 @@ use Rattle.journal_fields.specs.Fields.{twoBytes, fieldBytes, firstBytes, entri
 use Rattle.journal.specs.Calls.{addsBelow, startBytes, startNumber, startResult, startBy, started}
 use Rattle.journal_fields.specs.Numbers.{spaceNumber}
 use Rattle.journal_fields.proofs.Entries.{length-entries}
+use Rattle.journal_fields.proofs.Bytes.{length-journal}
 use Rattle.journal_fields.proofs.Numbers.{first-none, first-some, first-last, space-room}
 
-pub length-first : (n : ℕ) → length (firstBytes n) ≡ 5
+length-first : (n : ℕ) → length (firstBytes n) ≡ 5
 unfolding firstBytes fieldBytes twoBytes
 length-first n = refl
 
 -- the size of a new journal
-pub length-journal : (G : Graph) → length (startBytes G) ≡ 5 + 7 * length (addsBelow G (G .banks))
-unfolding startBytes journalBytes
-length-journal G = omega (arith, length-append (firstBytes (G .banks)) (entriesBytes (addsBelow G (G .banks))), length-first (G .banks), length-entries (addsBelow G (G .banks)))
-
 pub start-size : (G : Graph) (k : ℕ) → k ≡ length (addsBelow G (G .banks)) → 5 + 7 * k ≡ length (startBytes G)
-start-size G k e = omega (arith, length-journal G, e)
+unfolding startBytes
+start-size G k e = omega (arith, length-journal (G .banks) (addsBelow G (G .banks)), e)
 
 -- after the first field there is room for the adds
 pub adds-room : (G : Graph) (k n r : ℕ) (journal journal′ : List ℕ) → k ≡ length (addsBelow G (G .banks)) → 5 + 7 * k ≤ length journal
