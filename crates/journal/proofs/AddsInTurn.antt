@@ -21,7 +21,7 @@ use Rattle.memory.specs.Plan.{Clashes}
 use Rattle.planner.specs.Calls.{editNumber}
 use Rattle.planner.proofs.Numbers.{add-fine}
 use Rattle.planner.proofs.Outcomes.{acceptable}
-use Rattle.planner.proofs.After.{clashes-edited}
+use Rattle.planner.proofs.After.{pair-is, pair-here, pair-clash, clashes-edited}
 use Rattle.list_rows.specs.Rows.{bank}
 use Rattle.journal_fields.specs.declared.field.Entry.{Entry}
 use Rattle.journal_fields.specs.declared.field.Entry.the-variants.{Add}
@@ -29,24 +29,12 @@ use Rattle.journal.specs.Calls.{addsOf, addsBelow}
 use Rattle.journal_replay.specs.Replay.{entryNumber}
 use Rattle.journal.proofs.Turns.{entryGraph, graphAfter, NoneRefused, after-append, none-append, no-clashes}
 
--- the pair of a and b, one way or the other
-pair-is : (a b x y : ℕ) → T (pair a b x y) → ((x ≡ a) × (y ≡ b)) ⊎ ((x ≡ b) × (y ≡ a))
+-- b and a are the pair of a and b too
+pair-there : (a b : ℕ) → T (pair a b b a)
 unfolding pair
-pair-is a b x y t =
-    elim (or-cases (eqb x a && eqb y b) (eqb x b && eqb y a) t) [
-      | inl u ↦ inl (eqb→eq x a (and-l (eqb x a) (eqb y b) u), eqb→eq y b (and-r (eqb x a) (eqb y b) u))
-      | inr u ↦ inr (eqb→eq x b (and-l (eqb x b) (eqb y a) u), eqb→eq y a (and-r (eqb x b) (eqb y a) u))
-    ]
+pair-there a b = or-r (eqb b a && eqb a b) (eqb b b && eqb a a) (both (eqb b b) (eqb a a) (eq→eqb b b refl) (eq→eqb a a refl))
 
-is-pair : (a b : ℕ) → T (pair a b a b)
-unfolding pair
-is-pair a b = or-l (eqb a a && eqb b b) (eqb a b && eqb b a) (both (eqb a a) (eqb b b) (eq→eqb a a refl) (eq→eqb b b refl))
-
-is-pair′ : (a b : ℕ) → T (pair a b b a)
-unfolding pair
-is-pair′ a b = or-r (eqb b a && eqb a b) (eqb b b && eqb a a) (both (eqb b b) (eqb a a) (eq→eqb b b refl) (eq→eqb a a refl))
-
--- one of them is a
+-- one of a pair with a is a
 pair-near : (a b x y : ℕ) → T (pair a b x y) → T (ltb x (suc a) || ltb y (suc a))
 pair-near a b x y t =
     elim (pair-is a b x y t) [
@@ -94,11 +82,6 @@ module _ (G : Graph) (c : Clashes G) where
   abbrev n : ℕ
   n = G .banks
 
-  -- where a and b clash, so do the banks of their pair
-  pair-clash : (a b : ℕ) → a < n → b < n → T (G .clash a b) → (x y : ℕ) → T (pair a b x y) → T (G .clash x y)
-  pair-clash a b ha hb g x y t =
-      elim (pair-is a b x y t) [ inl e ↦ rw (e .0, e .1) g | inr e ↦ rw (e .0, e .1) (T-along (c .symmetric a b ha hb) g) ]
-
   -- H has some of the clashes of G
   record Part (H : Graph) : Type 0 where
     banks : H .banks ≡ n
@@ -130,7 +113,7 @@ module _ (G : Graph) (c : Clashes G) where
       clashes = unfold edited in clashes-edited H a b (p .clashes) adding (acceptable H a b adding add-due);
       within = λ x y hx hy t. elim (or-cases (H .clash x y) (pair a b x y) t) [
         | inl u ↦ p .within x y hx hy u
-        | inr u ↦ pair-clash a b ha hb g x y u
+        | inr u ↦ T-along (sym (pair-clash G a b c ha hb x y u)) g
       ];
     }
 
@@ -200,7 +183,7 @@ module _ (G : Graph) (c : Clashes G) where
             | inr u ↦
                 let r = in-some (λ b. pair a b x y) (larger a) u in
                 let q = larger-in a (r .0) (r .1) in
-                both (G .clash x y) _ (pair-clash a (r .0) ha (q .0) (q .1) x y (r .2)) (pair-near a (r .0) x y (r .2))
+                both (G .clash x y) _ (T-along (sym (pair-clash G a (r .0) c ha (q .0) x y (r .2))) (q .1)) (pair-near a (r .0) x y (r .2))
           ]
 
       by-new : (b : ℕ) → b < n → T (G .clash a b) → a ≤ b → T (pair a b x y) → T (H .clash x y || new x y)
@@ -212,8 +195,8 @@ module _ (G : Graph) (c : Clashes G) where
 
       fro : T (G .clash x y) → Near a x y → T (H .clash x y || new x y)
       fro g (below t) = or-l (H .clash x y) (new x y) (T-along (sym (l x y hx hy)) (both (G .clash x y) (ltb x a || ltb y a) g t))
-      fro g (left e h) = by-new y hy (rw e at g) h (rw e (is-pair a y))
-      fro g (right e h) = by-new x hx (T-along (c .symmetric x a hx ha) (rw e at g)) h (rw e (is-pair′ a x))
+      fro g (left e h) = by-new y hy (rw e at g) h (rw e (pair-here a y))
+      fro g (right e h) = by-new x hx (T-along (c .symmetric x a hx ha) (rw e at g)) h (rw e (pair-there a x))
 
     listed-next : Listed (suc a) H′
     listed-next x y hx hy =

@@ -34,13 +34,27 @@ use Rattle.planner.specs.Held.{Ready}
 use Rattle.planner.proofs.Numbers.{strike-fine, add-fine}
 use Rattle.planner.proofs.Outcomes.{acceptable, edited-banks}
 
-pair-apart : (a b x : ℕ) → a ≢ b → T (pair a b x x) → ⊥
+-- the pair of a and b, one way or the other
+pub pair-is : (a b x y : ℕ) → T (pair a b x y) → ((x ≡ a) × (y ≡ b)) ⊎ ((x ≡ b) × (y ≡ a))
 unfolding pair
-pair-apart a b x d t =
-    elim (or-cases (eqb x a && eqb x b) (eqb x b && eqb x a) t) [
-      | inl u ↦ d (sym (eqb→eq x a (and-l (eqb x a) (eqb x b) u)) ∙ eqb→eq x b (and-r (eqb x a) (eqb x b) u))
-      | inr u ↦ d (sym (eqb→eq x a (and-r (eqb x b) (eqb x a) u)) ∙ eqb→eq x b (and-l (eqb x b) (eqb x a) u))
+pair-is a b x y t =
+    elim (or-cases (eqb x a && eqb y b) (eqb x b && eqb y a) t) [
+      | inl u ↦ inl (eqb→eq x a (and-l (eqb x a) (eqb y b) u), eqb→eq y b (and-r (eqb x a) (eqb y b) u))
+      | inr u ↦ inr (eqb→eq x b (and-l (eqb x b) (eqb y a) u), eqb→eq y a (and-r (eqb x b) (eqb y a) u))
     ]
+
+-- a and b are that pair
+pub pair-here : (a b : ℕ) → T (pair a b a b)
+unfolding pair
+pair-here a b = or-l (eqb a a && eqb b b) _ (both (eqb a a) (eqb b b) (eq→eqb a a refl) (eq→eqb b b refl))
+
+pair-apart : (a b x : ℕ) → a ≢ b → T (pair a b x x) → ⊥
+pair-apart a b x d t = elim (pair-is a b x x t) [ inl e ↦ d (sym (e .0) ∙ e .1) | inr e ↦ d (sym (e .1) ∙ e .0) ]
+
+-- its banks clash where a and b do
+pub pair-clash : (G : Graph) (a b : ℕ) → Clashes G → a < G .banks → b < G .banks → (x y : ℕ) → T (pair a b x y) → G .clash x y ≡ G .clash a b
+pair-clash G a b c la lb x y t =
+    elim (pair-is a b x y t) [ inl e ↦ rw (e .0, e .1) | inr e ↦ rw (e .0, e .1) (c .symmetric b a lb la) ]
 
 -- the new clashes are a set of clashes too
 module _ (G : Graph) (a b : ℕ) (c : Clashes G) where
@@ -172,14 +186,6 @@ abbrev pub inverse : Kind → Kind
 inverse adding = striking
 inverse striking = adding
 
-pair-clash : (G : Graph) (a b : ℕ) → Clashes G → a < G .banks → b < G .banks → (x y : ℕ) → T (pair a b x y) → G .clash x y ≡ G .clash a b
-unfolding pair
-pair-clash G a b c la lb x y t =
-    elim (or-cases (eqb x a && eqb y b) (eqb x b && eqb y a) t) [
-      | inl u ↦ rw (eqb→eq x a (and-l (eqb x a) (eqb y b) u), eqb→eq y b (and-r (eqb x a) (eqb y b) u))
-      | inr u ↦ rw (eqb→eq x b (and-l (eqb x b) (eqb y a) u), eqb→eq y a (and-r (eqb x b) (eqb y a) u)) (c .symmetric b a lb la)
-    ]
-
 add-strike : (c p : Bool) → (T p → T c → ⊥) → ((c || p) && not p) ≡ c
 add-strike true true h = absurd (h tt tt)
 add-strike true false h = refl
@@ -201,18 +207,14 @@ module _ (G : Graph) (a b : ℕ) (c : Clashes G) where
   edited-back striking ok x y =
       strike-add (G .clash x y) (pair a b x y) (λ t. T-along (sym (pair-clash G a b c (ok .bankA) (ok .bankB) x y t)) (ok .allowed))
 
-  pair-here : T (pair a b a b)
-  unfolding pair
-  pair-here = or-l (eqb a a && eqb b b) _ (both (eqb a a) (eqb b b) (eq→eqb a a refl) (eq→eqb b b refl))
-
   -- no refusal is due to it
   pub back-due : (k : Kind) → Acceptable k G a b → editNumber (inverse k) (edited k G a b) a b ≡ 0
   unfolding edited
   back-due adding ok =
-      strike-fine (added G a b) a b (ok .bankA) (ok .bankB) (ok .differ) (is-true _ (or-r (G .clash a b) (pair a b a b) pair-here))
+      strike-fine (added G a b) a b (ok .bankA) (ok .bankB) (ok .differ) (is-true _ (or-r (G .clash a b) (pair a b a b) (pair-here a b)))
   back-due striking ok =
       let r = degrees-less G a b (ok .bankA) (ok .bankB) (ok .differ) (ok .allowed) (T-along (c .symmetric a b (ok .bankA) (ok .bankB)) (ok .allowed)) in
-      add-fine (struck G a b) a b (ok .bankA) (ok .bankB) (ok .differ) (is-false _ (λ t. T-not (pair a b a b) (and-r (G .clash a b) (not (pair a b a b)) t) pair-here))
+      add-fine (struck G a b) a b (ok .bankA) (ok .bankB) (ok .differ) (is-false _ (λ t. T-not (pair a b a b) (and-r (G .clash a b) (not (pair a b a b)) t) (pair-here a b)))
       (omega (arith, r .0, c .few a (ok .bankA))) (omega (arith, r .1, c .few b (ok .bankB)))
 
 module _ (k : Kind) (G : Graph) (a b : ℕ) (m : Memory) (ready : Ready G m) (due : editNumber k G a b ≡ 0) where
