@@ -1,4 +1,4 @@
--- `wave_plan::cells::put_edited` meets its contract.
+-- `put_edited` meets its contract: the tally by `put_tally`, the counts by `put_two`.
 use borrow.Author.Needs.{needs}
 use mathlib.Core.Path.{refl}
 use Rattle.c_cells.proofs.cells.put_edited.Statement.{statement}

@@ -1,4 +1,4 @@
--- `wave_plan::cells::put_listed` meets its contract.
+-- `put_listed` meets its contract: the tally by `put_tally`, the row by `put_one`.
 use borrow.Author.Needs.{needs}
 use mathlib.Core.Path.{refl}
 use Rattle.c_cells.proofs.cells.put_listed.Statement.{statement}

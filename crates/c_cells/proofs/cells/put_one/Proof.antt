@@ -1,4 +1,4 @@
--- `wave_plan::cells::put_one` meets its contract.
+-- `put_one` meets its contract: the one store, by the laws of `Fronts`.
 use borrow.Author.Needs.{needs}
 use Rattle.c_cells.proofs.Fronts.{one-cell}
 use Rattle.c_cells.proofs.cells.put_one.Statement.{statement}

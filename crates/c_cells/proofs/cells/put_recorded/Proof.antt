@@ -1,4 +1,4 @@
--- `wave_plan::cells::put_recorded` meets its contract.
+-- `put_recorded` meets its contract: the tally by `put_tally`, the counts and the length by `put_three`.
 use borrow.Author.Needs.{needs}
 use mathlib.Core.Path.{refl}
 use Rattle.c_cells.proofs.cells.put_recorded.Statement.{statement}

@@ -1,4 +1,4 @@
--- `wave_plan::cells::put_replayed` meets its contract.
+-- `put_replayed` meets its contract: the tally by `put_tally`, the field and the bytes left over by `put_two`.
 use borrow.Author.Needs.{needs}
 use mathlib.Core.Path.{refl}
 use Rattle.c_cells.proofs.cells.put_replayed.Statement.{statement}

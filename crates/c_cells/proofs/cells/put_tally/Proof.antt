@@ -1,4 +1,4 @@
--- `wave_plan::cells::put_tally` meets its contract.
+-- `put_tally` meets its contract: the cells that `put_three` puts are the tally's.
 use borrow.Author.Needs.{needs}
 use Rattle.c_cells.specs.Lent.{tallyCells}
 use Rattle.c_cells.proofs.cells.put_tally.Statement.{statement}

@@ -1,4 +1,4 @@
--- `wave_plan::cells::put_three` meets its contract.
+-- `put_three` meets its contract: the three stores, by the laws of `Fronts`.
 use borrow.Author.Needs.{needs}
 use native.Mathlib.Omega.{arith}
 use lib.ListN.{length-set}

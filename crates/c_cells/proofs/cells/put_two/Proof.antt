@@ -1,4 +1,4 @@
--- `wave_plan::cells::put_two` meets its contract.
+-- `put_two` meets its contract: the two stores, by the laws of `Fronts`.
 use borrow.Author.Needs.{needs}
 use native.Mathlib.Omega.{arith}
 use lib.ListN.{length-set}

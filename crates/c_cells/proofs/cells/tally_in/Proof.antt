@@ -1,4 +1,4 @@
--- `wave_plan::cells::tally_in` meets its contract.
+-- `tally_in` meets its contract: the cells that it reads are those of `tallyIn`.
 use borrow.Author.Needs.{needs}
 use mathlib.Core.Path.{refl}
 use Rattle.c_cells.specs.Lent.{tallyIn}

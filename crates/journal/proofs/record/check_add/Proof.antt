@@ -1,3 +1,4 @@
+-- `check_add` meets its contract: each return is one case of `Accepts`.
 use Rattle.journal.proofs.Recording.{accepts-checked, accepts-edit, accepts-space}
 use borrow.Author.Needs.{needs}
 use native.Mathlib.Omega.{arith}

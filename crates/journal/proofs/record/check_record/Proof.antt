@@ -1,3 +1,4 @@
+-- `check_record` meets its contract: each return is one case of `Checked`.
 use mathlib.Core.Path.{sym, _∙_}
 use borrow.Author.Tests.{not-true, not-false}
 use Rattle.journal_fields.proofs.Numbers.{size-inside, size-five}

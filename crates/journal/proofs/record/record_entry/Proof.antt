@@ -1,3 +1,4 @@
+-- `record_entry` meets its contract: an entry has 7 bytes, so the new length is at most 60,000.
 use Rattle.journal_fields.proofs.Entries.{length-entry}
 use Rattle.journal.proofs.Recording.{recorded-of}
 use borrow.Author.Needs.{needs}

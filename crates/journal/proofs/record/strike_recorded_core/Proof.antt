@@ -1,3 +1,4 @@
+-- `strike_recorded_core` meets its contract: refused it leaves all as it was, else it makes the edit and writes its entry.
 use mathlib.Core.Path.{refl}
 use Rattle.journal_fields.proofs.Numbers.{space-room}
 use Rattle.journal.specs.Calls.{entryFor}

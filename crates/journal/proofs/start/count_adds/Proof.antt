@@ -1,3 +1,4 @@
+-- The loop has counted the adds of the banks below a, at most 23 for each.
 use Rattle.journal.proofs.Adds.{below-none, below-count, plan-banks, plan-few, row-few}
 use mathlib.Core.List.{List}
 use mathlib.Core.Path.{_≡_, sym, ap, _∙_}

@@ -1,3 +1,4 @@
+-- The loop has counted the first i cells of the row.
 use mathlib.Core.List.{[], _∷_, List}
 use mathlib.Core.Path.{_≡_, sym, ap, _∙_}
 use lib.ListN.{length, getD, take, length-append}

@@ -1,3 +1,4 @@
+-- `larger` meets its contract: b gives one add if it is larger, else none.
 use Rattle.journal.proofs.Adds.{adds-smaller, adds-larger}
 use native.Mathlib.Omega.{arith}
 use Rattle.journal.proofs.start.larger.Statement.{statement}

@@ -1,3 +1,4 @@
+-- `put_add` meets its contract: b gives one add if it is larger, else none.
 use Rattle.list_rows.specs.Rows.{bank}
 use lib.ListN.{length}
 use mathlib.Core.Path.{ap}

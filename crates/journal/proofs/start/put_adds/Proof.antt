@@ -1,3 +1,4 @@
+-- The loop has written the adds of the banks below a.
 use mathlib.Core.List.{List}
 use mathlib.Core.Path.{_≡_, refl, ap, _∙_}
 use lib.ListN.{length}

@@ -1,3 +1,4 @@
+-- The loop has written the adds of the first i cells of the row.
 use mathlib.Core.List.{[], _∷_}
 use mathlib.Core.Path.{_≡_, refl, _∙_}
 use lib.ListN.{length, getD, take}

@@ -1,3 +1,4 @@
+-- `start_journal` meets its contract: each return is one case of `started`.
 use Rattle.journal.proofs.Starting.{start-size, adds-room, start-refused, start-full, start-done}
 use mathlib.Core.Path.{sym, _∙_}
 use Rattle.journal_fields.proofs.Numbers.{space-room}

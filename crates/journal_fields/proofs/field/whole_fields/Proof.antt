@@ -1,3 +1,4 @@
+-- The loop has passed whole entries: the bytes are whole fields if those from `at` on are.
 use mathlib.Core.Path.{_≡_, refl, sym, _∙_}
 use lib.ListN.{length, drop}
 use Rattle.journal_fields.specs.Fields.{fields, areWhole}

@@ -1,3 +1,4 @@
+-- `head_number` meets its contract: each return is one case of `headNumber`.
 use mathlib.Core.Path.{sym, _∙_}
 use borrow.Author.Tests.{not-true, not-false}
 use Rattle.journal_fields.proofs.Numbers.{head-long, head-beyond, head-first, head-yes}

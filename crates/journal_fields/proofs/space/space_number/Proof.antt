@@ -1,3 +1,4 @@
+-- `space_number` meets its contract: each return is one case of `spaceNumber`.
 use Rattle.journal_fields.proofs.Numbers.{space-slice, space-most, space-yes}
 use Rattle.journal_fields.proofs.space.space_number.Statement.{statement}
 use Rattle.journal_fields.proofs.space.space_number.Tie as tie

@@ -1,3 +1,4 @@
+-- `enter` meets its contract: the entry is an add or a strike, and its edit is made.
 use Rattle.journal_replay.proofs.Passing.{entered-add, entered-strike}
 use borrow.Author.Needs.{needs}
 use borrow.Author.Needs.{needs}

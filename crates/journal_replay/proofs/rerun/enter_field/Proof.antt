@@ -1,3 +1,4 @@
+-- `enter_field` meets its contract: the field is no entry, or its edit is made.
 use mathlib.Core.Path.{refl}
 use Rattle.journal_replay.proofs.Passing.{enters-none, enters-one}
 use borrow.Author.Needs.{needs}

@@ -1,3 +1,4 @@
+-- The loop has entered the fields before `last.next`: `Ahead` says where the replay stands.
 use Rattle.journal_replay.proofs.Passing.{Ahead, ahead-start, ahead-turn, ahead-end, rest-few}
 use mathlib.Core.Logic.{⊎-elim}
 use borrow.Author.Tests.{leb-true, leb-false}

@@ -1,3 +1,4 @@
+-- `replay_core` meets its contract: refused by its first bytes or by opening, or replayed from the plan that was opened.
 use mathlib.Core.Path.{sym, _∙_}
 use Rattle.journal_fields.proofs.Numbers.{size-few, size-five}
 use Rattle.journal_replay.proofs.FirstField.{replay-refused, open-refused, open-replayed, banks-read}

@@ -1,3 +1,4 @@
+-- `put_refusal` meets its contract: its five pieces one after another, and 24 bytes hold them, since each number has at most 5 digits.
 use borrow.Author.Needs.{needs}
 use native.Mathlib.Omega.{arith}
 use Rattle.sheet_writer.proofs.Decimal.{five-digits}

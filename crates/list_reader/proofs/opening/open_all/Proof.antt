@@ -1,3 +1,4 @@
+-- `open_all` meets its contract: refused by `room_number`, or what `open_core` leaves.
 use mathlib.Core.Path.{refl}
 use Rattle.list_reader.proofs.Beginning.{room-refused, room-opened}
 use borrow.Author.Needs.{needs}

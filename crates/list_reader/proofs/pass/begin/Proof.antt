@@ -1,3 +1,4 @@
+-- `begin` meets its contract: refused by opening, or the edits are read into the plan that was opened.
 use mathlib.Core.Path.{_∙_}
 use Rattle.list_reader.proofs.Beginning.{begin-refused, begin-passed}
 use borrow.Author.Needs.{needs}

@@ -1,3 +1,4 @@
+-- `answer_list` meets its contract: the refusal of a list that is refused, else the poster of the plan that it left.
 use borrow.Author.Needs.{needs}
 use Rattle.poster_writer.specs.Poster.{poster}
 use Rattle.list_program.proofs.Answering.{answer-refused, answer-text, text-within}

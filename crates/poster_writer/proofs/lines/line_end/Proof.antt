@@ -1,3 +1,4 @@
+-- `line_end` meets its contract, by arithmetic.
 use native.Mathlib.Omega.{arith}
 use Rattle.poster_writer.proofs.lines.line_end.Statement.{statement}
 use Rattle.poster_writer.proofs.lines.line_end.Tie as tie

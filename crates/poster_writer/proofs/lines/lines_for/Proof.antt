@@ -1,3 +1,4 @@
+-- `lines_for` meets its contract, by arithmetic.
 use native.Mathlib.Omega.{arith}
 use Rattle.poster_writer.proofs.lines.lines_for.Statement.{statement}
 use Rattle.poster_writer.proofs.lines.lines_for.Tie as tie

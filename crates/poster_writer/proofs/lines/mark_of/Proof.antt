@@ -1,3 +1,4 @@
+-- `mark_of` meets its contract: the first line of a wave has its letter, the others a space.
 use borrow.Author.Needs.{needs}
 use native.Mathlib.Omega.{arith}
 use mathlib.Core.Path.{sym, _∙_}

@@ -1,3 +1,4 @@
+-- `put_line` meets its contract: its four pieces one after another.
 use borrow.Author.Needs.{needs}
 use native.Mathlib.Omega.{arith}
 use Rattle.poster_writer.proofs.Columns.{length-columns, puts-line}

@@ -1,3 +1,4 @@
+-- `columns_before` meets its contract: each branch by the number of digits.
 use native.Mathlib.Omega.{arith}
 use Rattle.sheet_writer.proofs.Decimal.{length-low, two-digits, three-digits, four-digits}
 use Rattle.poster_writer.proofs.text.columns_before.Statement.{statement}

@@ -1,3 +1,4 @@
+-- `put_aligned` meets its contract: the spaces, and then the digits.
 use borrow.Author.Needs.{needs}
 use native.Mathlib.Omega.{arith}
 use Prim.Native.Nat.{_-_}

@@ -1,3 +1,4 @@
+-- `put_end` meets its contract: the spaces, and then the line feed.
 use borrow.Author.Needs.{needs}
 use native.Mathlib.Omega.{arith}
 use Prim.Native.Nat.{_-_}

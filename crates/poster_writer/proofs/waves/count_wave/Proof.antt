@@ -1,3 +1,4 @@
+-- `count_wave` meets its contract: the wave's banks take a line for each 7 of them.
 use borrow.Author.Needs.{needs}
 use native.Mathlib.Omega.{arith}
 use Rattle.poster_writer.specs.Put.{membersOf}

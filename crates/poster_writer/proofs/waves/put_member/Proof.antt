@@ -1,3 +1,4 @@
+-- `put_member` meets its contract: a bank of another wave is passed over, one of the wave is put.
 use borrow.Author.Needs.{needs}
 use Rattle.sheet_writer.proofs.Putting.{puts-none, puts-one}
 use Rattle.poster_writer.proofs.Members.{member-same, member-other}

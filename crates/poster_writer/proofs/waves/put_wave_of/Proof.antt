@@ -1,3 +1,4 @@
+-- `put_wave_of` meets its contract: the banks that were gathered are those of the wave.
 use borrow.Author.Needs.{needs}
 use native.Mathlib.Omega.{arith}
 use Rattle.poster_writer.specs.Put.{waveText}

@@ -1,3 +1,4 @@
+-- `answer_list` meets its contract: the refusal of a list that is refused, else the sheet of the plan that it left.
 use borrow.Author.Needs.{needs}
 use Rattle.sheet_writer.specs.Sheet.{sheet}
 use Rattle.list_program.proofs.Answering.{answer-refused, answer-text, text-within}

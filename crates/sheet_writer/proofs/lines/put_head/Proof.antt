@@ -1,3 +1,4 @@
+-- `put_head` meets its contract: its three pieces one after another.
 use borrow.Author.Needs.{needs}
 use native.Mathlib.Omega.{arith}
 use mathlib.Core.List.{[], _∷_}

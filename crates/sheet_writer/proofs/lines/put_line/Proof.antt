@@ -1,3 +1,4 @@
+-- `put_line` meets its contract: the letter, the banks and the line feed one after another.
 use borrow.Author.Needs.{needs}
 use native.Mathlib.Omega.{arith}
 use mathlib.Core.List.{[], _∷_}

@@ -1,3 +1,4 @@
+-- `put_member` meets its contract: a bank of another wave is passed over, one of the wave is written after a space.
 use borrow.Author.Needs.{needs}
 use native.Mathlib.Omega.{arith}
 use mathlib.Core.List.{[], _∷_}

@@ -1,3 +1,4 @@
+-- `sheet_length` meets its contract: the first line has 8 bytes below 10 waves, else 9.
 use borrow.Author.Needs.{needs}
 use native.Mathlib.Omega.{arith}
 use Rattle.sheet_writer.proofs.Lengths.{head-low, head-high}

@@ -1,3 +1,4 @@
+-- `put_byte` meets its contract: the one store.
 use borrow.Author.Needs.{needs}
 use Rattle.sheet_writer.proofs.Putting.{puts-one}
 use Rattle.sheet_writer.proofs.text.put_byte.Statement.{statement}
