@@ -4,10 +4,10 @@ use mathlib.Core.List.{List, [], _∷_, _++_, append-nil}
 use mathlib.Core.Path.{_≡_, refl, sym, ap, _∙_}
 use Prim.Native.Nat.{ℕ, zero, suc, _+_, _*_, _≤_, _<_}
 use native.Mathlib.Omega.{arith}
-use lib.Dec.{leb, eqb}
+use lib.Dec.{eqb}
 use lib.ListN.{length, take, drop, length-append, length-drop, take-append-drop, List·getD-append}
 use lib.Seq.{take-at, take-append-add, take-append-le, drop-append-le, length-take-le}
-use borrow.Author.Tests.{leb-true, eqb-true, not-true}
+use borrow.Author.Tests.{eqb-true, not-true}
 use Rattle.rule.specs.Lists.{memb}
 use Rattle.rule.specs.Graph.{Graph, empty, pair}
 use Rattle.rule.specs.Reach.{Kind, adding, striking, edited}
@@ -15,7 +15,6 @@ use Rattle.rule.proofs.Booleans.{both-true, is-true, is-false}
 use Rattle.rule.proofs.Agree.{degree-agree}
 use Rattle.rule.proofs.Reaches.{Same}
 use Rattle.memory.specs.declared.Tally.{Tally}
-use Rattle.memory.specs.Cells.{over}
 use Rattle.memory.specs.Plan.{Slices, longEnough, graphIn, PlanOf}
 use Rattle.memory.proofs.Agree.{PlanCells, planCells}
 use Rattle.memory.proofs.Theorems.{rows-give-clashes, long}

@@ -1,16 +1,12 @@
 -- An edit that is recorded, as the functions make it.
-use mathlib.Core.Bool.{Bool, true, false, cond, _&&_}
+use mathlib.Core.Bool.{true, false}
 use mathlib.Core.List.{List, [], _∷_}
 use mathlib.Core.Path.{_≡_, refl, sym, ap, _∙_}
-use Prim.Native.Nat.{ℕ, zero, suc, _+_, _-_, _≤_}
+use Prim.Native.Nat.{ℕ, zero, suc, _+_, _-_}
 use native.Mathlib.Omega.{arith}
-use lib.Dec.{leb}
 use lib.ListN.{length, take, drop}
-use lib.Seq.{length-take-le}
-use borrow.Author.Tests.{leb-true}
 use Rattle.rule.specs.Graph.{Graph}
 use Rattle.rule.specs.Reach.{Kind}
-use Rattle.rule.proofs.Booleans.{both-true}
 use Rattle.memory.specs.Plan.{graphIn}
 use Rattle.planner.specs.declared.Answer.{Answer}
 use Rattle.planner.specs.declared.Edited.{Edited}
@@ -20,7 +16,7 @@ use Rattle.planner.specs.Held.{Ready, Edits}
 use Rattle.sheet_writer.specs.Put.{put, Puts}
 use Rattle.journal_fields.specs.declared.field.Entry.{Entry}
 use Rattle.journal.specs.declared.record.Recorded.{Recorded}
-use Rattle.journal_fields.specs.Fields.{hasFirst, fields, areWhole, entryBytes}
+use Rattle.journal_fields.specs.Fields.{fields, areWhole, entryBytes}
 use Rattle.journal_fields.specs.Numbers.{firstOf, spaceNumber, headNumber, fieldsNumber}
 use Rattle.journal.specs.Calls.{recordNumber, recordResult, noRecord, entryFor, recordedAs, recordedBy, recorded}
 use Rattle.journal.specs.Recording.{Checked, Accepts, RecordedOf}

@@ -18,8 +18,7 @@ use Rattle.journal_fields.specs.declared.field.Field.the-variants.{Edit,
 use Rattle.journal_fields.specs.Fields.{twoBytes, numberAt, fieldBytes, firstBytes, banksBytes, entryBytes, entriesBytes, journalBytes, hasFirst, banksIn, isEntryTag, isEntry, entryIn, fieldOf, Fields, fieldsBy, fields}
 use Rattle.journal_fields.proofs.Reading.{fields-step}
 use Rattle.journal_fields.proofs.Forms.{edit-long}
-use Rattle.journal_fields.proofs.Entries.{length-entries}
-use Rattle.journal_fields.proofs.Entries.{whole, following, two-back, long-field, fields-written}
+use Rattle.journal_fields.proofs.Entries.{length-entries, whole, following, two-back, long-field, fields-written}
 
 -- the first field, and the rest
 module _ (n : ℕ) (rest : List ℕ) where

@@ -17,8 +17,7 @@ use Rattle.list_reader.specs.Pass.{State, begin, beginNumber}
 use Rattle.journal_fields.specs.declared.field.Entry.{Entry}
 use Rattle.journal_fields.specs.Fields.{twoBytes, fieldBytes, firstBytes, entriesBytes, journalBytes, hasFirst, banksIn, Fields, fields}
 use Rattle.journal_replay.specs.Replay.{ReplayResult, replayResult, replayAnswer, entryNumber, enter, ended, enterBy, enterAll, replayNumber, replayBy, replayed}
-use Rattle.journal_fields.proofs.Entries.{length-entries}
-use Rattle.journal_fields.proofs.Entries.{whole, fields-cut}
+use Rattle.journal_fields.proofs.Entries.{length-entries, whole, fields-cut}
 use Rattle.journal_fields.proofs.Bytes.{first-has, first-banks, first-drop, length-first, journal-has, journal-banks, journal-fields, length-journal}
 
 -- questions 3 and 4, answered by yes

@@ -11,7 +11,7 @@ use lib.Dec.{leb}
 use lib.ListN.{length, take, drop}
 use lib.Seq.{take-nil}
 use borrow.Author.Tests.{le-leb, lt-leb, leb-true}
-use Rattle.rule.specs.Graph.{Graph, empty}
+use Rattle.rule.specs.Graph.{Graph}
 use Rattle.memory.specs.declared.Tally.{Tally}
 use Rattle.memory.specs.Plan.{Slices, longEnough}
 use Rattle.planner.specs.declared.Opened.{Opened}
@@ -27,7 +27,7 @@ use Rattle.list_rows.specs.Inner.{Finds}
 use Rattle.list_rows.proofs.Theorems.{rows-at}
 use Rattle.list_rows.proofs.row.Row.{the-type}
 use Rattle.list_reader.specs.Pass.{ListResult, listResult, reading, pass, begin, beginNumber, beginBy, fromFirst, fromRows, readList}
-use Rattle.list_reader.specs.Steps.{at, Stands, OpensAll, roomNumber}
+use Rattle.list_reader.specs.Steps.{at, OpensAll, roomNumber}
 
 -- question 1
 pub too-long : (list : List ℕ) (m : Memory) → 60000 < length list → listResult (reading 9 0) m ≡ readList list m

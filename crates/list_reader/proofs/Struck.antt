@@ -1,5 +1,5 @@
 -- Striking all clashes of a bank, the lowest neighbour first.
-use mathlib.Core.Bool.{Bool, true, false, not}
+use mathlib.Core.Bool.{Bool, true, false}
 use mathlib.Core.List.{List, [], _∷_}
 use mathlib.Core.Path.{_≡_, refl, sym, ap, _∙_}
 use Prim.Native.Nat.{ℕ, _-_, _≤_, _<_}
@@ -7,7 +7,7 @@ use native.Mathlib.Omega.{arith}
 use lib.Dec.{T}
 use lib.ListN.{length, getD}
 use borrow.Author.Tests.{lt-ltb, ne-eqb}
-use Rattle.rule.specs.Graph.{Graph, neighbours, struck}
+use Rattle.rule.specs.Graph.{Graph, neighbours}
 use Rattle.rule.specs.Reach.{striking, edited}
 use Rattle.rule.proofs.Strike.{first-below, first-clash, first-other, struck-first}
 use Rattle.memory.specs.Plan.{Clashes}

@@ -1,7 +1,6 @@
 -- Computed examples: the rows of bytes, and which parts are numbers.
 use mathlib.Core.List.{[], _∷_}
 use mathlib.Core.Path.{_≡_, refl}
-use mathlib.Core.Bool.{not}
 use Rattle.list_rows.specs.declared.number.Number.the-variants.{Value, Nothing}
 use Rattle.list_rows.specs.declared.row.Change.the-variants.{Add, Strike, StrikeAll}
 use Rattle.list_rows.specs.declared.row.Row.the-variants.{Banks, Edit, Unreadable}

@@ -1,34 +1,31 @@
 -- What holds after an edit, for all plans and edits.
 use mathlib.Core.Bool.{Bool, true, false, _&&_, _||_, not}
-use mathlib.Core.List.{List, [], _∷_, map}
+use mathlib.Core.List.{List}
 use mathlib.Core.Logic.{_⊎_, inl, inr, _≢_}
 use mathlib.Core.Path.{_≡_, refl, sym, ap, _∙_}
 use native.Mathlib.Decide.{ℕ-discrete}
 use native.Mathlib.Omega.{arith}
 use Prim.Native.Nat.{ℕ, zero, suc, _+_, _*_, _≤_, _<_}
-use lib.Dec.{T, eqb, eqb→eq, T-not, not-T}
+use lib.Dec.{T, eqb, eqb→eq, T-not}
 use lib.ListN.{length, getD}
-use Rattle.rule.specs.Lists.{upto, filter, memb}
 use Rattle.rule.specs.Graph.{Graph, neighbours, degree, earlier, earlierNeighbours, pair, added, struck}
 use Rattle.rule.specs.Wave.{wave}
-use Rattle.rule.specs.Reach.{Kind, adding, striking, edited, changed, isNamed, isReached, onTrail, trail, moved, around}
-use Rattle.rule.specs.WorkList.{Allowed, OneEdit, seed, isTaken}
+use Rattle.rule.specs.Reach.{Kind, adding, striking, edited, isNamed, isReached, onTrail}
+use Rattle.rule.specs.WorkList.{OneEdit, isTaken}
 use Rattle.rule.proofs.Booleans.{and-l, and-r, both, or-l, or-r, or-cases, T-along, eq→eqb, is-true, is-false}
-use Rattle.rule.proofs.Lists.{filter-cong, in-upto, upto-below}
 use Rattle.rule.proofs.Spread.{same-neighbours, taken-spread, taken-seed, unchanged}
 use Rattle.rule.proofs.Waves.{earlierNeighbours-in}
 use Rattle.rule.proofs.OneClash.{degrees-more, degrees-less, degree-added, degree-struck, neighbours-added, neighbours-struck}
 use Rattle.rule.proofs.Turned.{edited-one, onTrail-taken}
-use Rattle.rule.proofs.Theorems.{off-trail, trail-bound}
-use Rattle.memory.specs.declared.Tally.{Tally}
+use Rattle.rule.proofs.Theorems.{off-trail}
 use Rattle.memory.specs.Counts.{standing}
 use Rattle.memory.specs.Plan.{Slices, longEnough, tallyOf, planIn, graphIn, Clashes, PlanOf}
 use Rattle.memory.specs.View.{Held}
 use Rattle.memory.proofs.Plans.{plan-over, long-again}
 use Rattle.memory.proofs.Agree.{planIn-agree, tally-agree}
 use Rattle.memory.proofs.Standing.{standing-cong}
-use Rattle.memory.proofs.Views.{tally-banks, held-of}
-use Rattle.edits.specs.Edits.{HasRoom, Acceptable}
+use Rattle.memory.proofs.Views.{held-of}
+use Rattle.edits.specs.Edits.{Acceptable}
 use Rattle.planner.specs.Calls.{Memory, editResult, noEdit, refused, accepted, editNumber, editBy, editOf, memoryNumber, checkedBy, edit}
 use Rattle.planner.specs.Held.{Ready}
 use Rattle.planner.proofs.Numbers.{strike-fine, add-fine}

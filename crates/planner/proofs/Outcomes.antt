@@ -1,8 +1,8 @@
 -- What an edit of memory that holds a plan leaves, refused and accepted; and the calls add and strike over it.
-use mathlib.Core.Bool.{Bool, true, false, cond, _&&_, not}
+use mathlib.Core.Bool.{_&&_, not}
 use mathlib.Core.List.{List, [], _∷_}
 use mathlib.Core.Logic.{_≢_}
-use mathlib.Core.Path.{_≡_, refl, sym, ap, ap₂, subst, _∙_}
+use mathlib.Core.Path.{_≡_, refl, sym, ap, ap₂, _∙_}
 use native.Mathlib.Omega.{arith}
 use Prim.Native.Nat.{ℕ, zero, suc, _≤_, _<_}
 use lib.Dec.{T, ltb, eqb}
@@ -10,15 +10,14 @@ use lib.ListN.{length}
 use Rattle.rule.specs.Graph.{Graph, degree}
 use Rattle.rule.specs.WorkList.{Allowed}
 use borrow.Author.Tests.{ltb-true, eqb-false, not-true}
-use Rattle.planner.specs.Questions.{Question, firstNo}
+use Rattle.planner.specs.Questions.{firstNo}
 use Rattle.rule.specs.Wave.{waves}
 use Rattle.rule.specs.Lists.{upto}
 use Rattle.rule.specs.Reach.{Kind, adding, striking, edited, changed, onTrail, trail, moved}
 use Rattle.rule.proofs.Lists.{length-upto, filter-short}
 use Rattle.rule.proofs.Reaches.{count-order}
 use Rattle.memory.specs.declared.Tally.{Tally}
-use Rattle.memory.specs.Cells.{over}
-use Rattle.memory.specs.Plan.{Slices, slicesOf, neighbourCells, degreeCells, countCells, planIn, tallyOf, graphIn, PlanOf}
+use Rattle.memory.specs.Plan.{slicesOf, planIn, graphIn}
 use Rattle.memory.proofs.Fronts.{over-long}
 use Rattle.memory.proofs.Views.{tally-banks, held-of, plan-of}
 use Rattle.edits.specs.declared.edit.Accepted.{Accepted}
@@ -26,7 +25,7 @@ use Rattle.edits.specs.Lent.{Lent, lentOf}
 use Rattle.edits.specs.Edits.{HasRoom, Acceptable, Editable, Result}
 use Rattle.planner.specs.declared.Answer.{Answer}
 use Rattle.planner.specs.declared.Edited.{Edited}
-use Rattle.planner.specs.Calls.{Memory, memoryOf, EditResult, editResult, noEdit, refused, accepted, clashQuestions, editNumber, editBy, editOf, planNumber, memoryNumber, checkedBy, edit}
+use Rattle.planner.specs.Calls.{Memory, memoryOf, editResult, noEdit, refused, accepted, clashQuestions, editNumber, editBy, editOf, memoryNumber, checkedBy, edit}
 use Rattle.planner.specs.Held.{Ready, graphBy, graphAfter, Edits}
 use Rattle.rule.proofs.Booleans.{T-along, both-true}
 use Rattle.planner.proofs.Numbers.{none, memory-passed, number-ready}

@@ -1,8 +1,7 @@
 -- The theorems to cite, each restated. Their proofs are in the files beside this one.
-use mathlib.Core.List.{List}
-use mathlib.Core.Path.{_≡_, sym, ap, _∙_}
+use mathlib.Core.Path.{_≡_}
 use native.Mathlib.Omega.{arith}
-use Prim.Native.Nat.{ℕ, zero, suc, _≤_, _<_}
+use Prim.Native.Nat.{ℕ, suc, _≤_, _<_}
 use lib.Dec.{T}
 use lib.ListN.{length, getD}
 use Rattle.rule.specs.Graph.{Graph, empty}
@@ -11,7 +10,6 @@ use Rattle.rule.specs.Reach.{Kind, edited, onTrail, trail, moved, around}
 use Rattle.rule.proofs.Theorems.{trail-bound}
 use Rattle.memory.specs.declared.Tally.{Tally}
 use Rattle.memory.specs.Plan.{Slices, graphIn, PlanOf}
-use Rattle.memory.proofs.Views.{tally-banks}
 use Rattle.planner.specs.Calls.{Memory, planNumber, openResult, opened, refused, accepted, editNumber, edit}
 use Rattle.planner.specs.Held.{Ready}
 use Rattle.planner.proofs.Outcomes.{acceptable}

@@ -1,5 +1,4 @@
 -- Memory that holds the plan of given clashes, and what an edit makes of it: what a layer above goes by.
-use mathlib.Core.List.{List}
 use mathlib.Core.Path.{_≡_}
 use Prim.Native.Nat.{ℕ, zero, suc, _≤_}
 use lib.ListN.{length}

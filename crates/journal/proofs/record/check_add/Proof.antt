@@ -2,7 +2,6 @@
 use Rattle.journal.proofs.Recording.{accepts-checked, accepts-edit, accepts-space}
 use borrow.Author.Needs.{needs}
 use native.Mathlib.Omega.{arith}
-use borrow.Author.Needs.{needs}
 use Rattle.journal.proofs.record.check_add.Statement.{statement}
 use Rattle.journal.proofs.record.check_add.Tie as tie
 

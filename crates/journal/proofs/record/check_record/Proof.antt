@@ -4,7 +4,6 @@ use borrow.Author.Tests.{not-true, not-false}
 use Rattle.journal_fields.proofs.Numbers.{size-inside, size-five}
 use Rattle.journal.proofs.Recording.{fields-no, fields-yes, checked-head, checked-memory, checked-fields}
 use borrow.Author.Needs.{needs}
-use borrow.Author.Needs.{needs}
 use Rattle.journal.proofs.record.check_record.Statement.{statement}
 use Rattle.journal.proofs.record.check_record.Tie as tie
 

@@ -3,7 +3,6 @@ use Rattle.journal_fields.proofs.Entries.{length-entry}
 use Rattle.journal.proofs.Recording.{recorded-of}
 use borrow.Author.Needs.{needs}
 use native.Mathlib.Omega.{arith}
-use borrow.Author.Needs.{needs}
 use Rattle.journal.proofs.record.record_entry.Statement.{statement}
 use Rattle.journal.proofs.record.record_entry.Tie as tie
 

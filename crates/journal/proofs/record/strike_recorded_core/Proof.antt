@@ -4,7 +4,6 @@ use Rattle.journal_fields.proofs.Numbers.{space-room}
 use Rattle.journal.specs.Calls.{entryFor}
 use Rattle.journal.proofs.Recording.{record-refused, record-done}
 use borrow.Author.Needs.{needs}
-use borrow.Author.Needs.{needs}
 use Rattle.journal.proofs.record.strike_recorded_core.Statement.{statement}
 use Rattle.journal.proofs.record.strike_recorded_core.Tie as tie
 

@@ -3,7 +3,6 @@ use Rattle.journal.proofs.Adds.{below-none, below-count, plan-banks, pl
 use mathlib.Core.List.{List}
 use mathlib.Core.Path.{_≡_, sym, ap, _∙_}
 use lib.ListN.{length}
-use Rattle.journal.proofs.Adds.{below-none, below-count}
 use Rattle.journal.specs.Calls.{addsOf, addsBelow}
 use Rattle.memory.specs.Plan.{slicesOf, PlanOf}
 use Rattle.rule.specs.Graph.{Graph, neighbours}

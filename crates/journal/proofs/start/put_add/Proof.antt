@@ -8,7 +8,6 @@ use Rattle.journal.proofs.Adds.{bytes-smaller, bytes-larger}
 use Rattle.journal_fields.proofs.Entries.{length-entry}
 use borrow.Author.Needs.{needs}
 use native.Mathlib.Omega.{arith}
-use borrow.Author.Needs.{needs}
 use Rattle.journal.proofs.start.put_add.Statement.{statement}
 use Rattle.journal.proofs.start.put_add.Tie as tie
 

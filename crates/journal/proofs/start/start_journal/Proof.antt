@@ -4,7 +4,6 @@ use mathlib.Core.Path.{sym, _∙_}
 use Rattle.journal_fields.proofs.Numbers.{space-room}
 use borrow.Author.Needs.{needs}
 use native.Mathlib.Omega.{arith}
-use borrow.Author.Needs.{needs}
 use Rattle.journal.proofs.start.start_journal.Statement.{statement}
 use Rattle.journal.proofs.start.start_journal.Tie as tie
 

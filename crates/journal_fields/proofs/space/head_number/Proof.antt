@@ -3,7 +3,6 @@ use mathlib.Core.Path.{sym, _∙_}
 use borrow.Author.Tests.{not-true, not-false}
 use Rattle.journal_fields.proofs.Numbers.{head-long, head-beyond, head-first, head-yes}
 use borrow.Author.Needs.{needs}
-use borrow.Author.Needs.{needs}
 use Rattle.journal_fields.proofs.space.head_number.Statement.{statement}
 use Rattle.journal_fields.proofs.space.head_number.Tie as tie
 

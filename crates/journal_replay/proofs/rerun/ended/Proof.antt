@@ -1,7 +1,6 @@
 -- `ended` meets its contract: each return is one case of `ending`.
 use Rattle.journal_replay.proofs.Passing.{ending-some, ending-wrong, ending-short, ending-edit}
 use borrow.Author.Needs.{needs}
-use borrow.Author.Needs.{needs}
 use Rattle.journal_replay.proofs.rerun.ended.Statement.{statement}
 use Rattle.journal_replay.proofs.rerun.ended.Tie as tie
 

@@ -1,7 +1,6 @@
 -- `enter` meets its contract: the entry is an add or a strike, and its edit is made.
 use Rattle.journal_replay.proofs.Passing.{entered-add, entered-strike}
 use borrow.Author.Needs.{needs}
-use borrow.Author.Needs.{needs}
 use Rattle.journal_replay.proofs.rerun.enter.Statement.{statement}
 use Rattle.journal_replay.proofs.rerun.enter.Tie as tie
 

@@ -3,7 +3,6 @@ use mathlib.Core.Path.{refl}
 use Rattle.journal_replay.proofs.Passing.{enters-none, enters-one}
 use borrow.Author.Needs.{needs}
 use native.Mathlib.Omega.{arith}
-use borrow.Author.Needs.{needs}
 use Rattle.journal_replay.proofs.rerun.enter_field.Statement.{statement}
 use Rattle.journal_replay.proofs.rerun.enter_field.Tie as tie
 

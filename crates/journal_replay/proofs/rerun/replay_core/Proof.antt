@@ -4,7 +4,6 @@ use Rattle.journal_fields.proofs.Numbers.{size-few, size-five}
 use Rattle.journal_replay.proofs.FirstField.{replay-refused, open-refused, open-replayed, banks-read}
 use borrow.Author.Needs.{needs}
 use native.Mathlib.Omega.{arith}
-use borrow.Author.Needs.{needs}
 use Rattle.journal_replay.proofs.rerun.replay_core.Statement.{statement}
 use Rattle.journal_replay.proofs.rerun.replay_core.Tie as tie
 

@@ -2,8 +2,6 @@
 use mathlib.Core.Path.{refl}
 use Rattle.list_reader.proofs.Beginning.{room-refused, room-opened}
 use borrow.Author.Needs.{needs}
-use native.Mathlib.Omega.{arith}
-use borrow.Author.Needs.{needs}
 use Rattle.list_reader.proofs.opening.open_all.Statement.{statement}
 use Rattle.list_reader.proofs.opening.open_all.Tie as tie
 

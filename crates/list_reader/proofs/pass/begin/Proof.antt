@@ -2,8 +2,6 @@
 use mathlib.Core.Path.{_∙_}
 use Rattle.list_reader.proofs.Beginning.{begin-refused, begin-passed}
 use borrow.Author.Needs.{needs}
-use native.Mathlib.Omega.{arith}
-use borrow.Author.Needs.{needs}
 use Rattle.list_reader.proofs.pass.begin.Statement.{statement}
 use Rattle.list_reader.proofs.pass.begin.Tie as tie
 

@@ -1,6 +1,6 @@
 -- `check_bank` meets its contract: each return is one case of `bankNumber`.
 use borrow.Author.Needs.{needs}
-use mathlib.Core.Path.{_≡_, sym, _∙_}
+use mathlib.Core.Path.{sym, _∙_}
 use native.Mathlib.Omega.{arith}
 use Rattle.planner.proofs.Numbers.{bank-refused, bank-far, bank-fine}
 use Rattle.planner.proofs.checks.check_bank.Statement.{statement}

@@ -1,6 +1,6 @@
 -- `check_memory` meets its contract: each return is one case of `memoryNumber`.
 use borrow.Author.Needs.{needs}
-use mathlib.Core.Path.{_≡_, sym, _∙_}
+use mathlib.Core.Path.{sym, _∙_}
 use native.Mathlib.Omega.{arith}
 use Rattle.planner.specs.Calls.{memoryOf}
 use Rattle.planner.proofs.Numbers.{memory-many, trail-short, moved-short, memory-plan, number-ready}

@@ -1,7 +1,7 @@
 -- `check_plan` meets its contract: each return is one case of `planNumber`.
 use borrow.Author.Needs.{needs}
 use borrow.Author.Tests.{not-true, not-false}
-use mathlib.Core.Path.{_≡_, sym, _∙_}
+use mathlib.Core.Path.{sym, _∙_}
 use native.Mathlib.Omega.{arith}
 use Rattle.planner.proofs.Numbers.{plan-many, plan-short, plan-none, plan-fine, number-plan}
 use Rattle.planner.proofs.checks.check_plan.Statement.{statement}

@@ -1,6 +1,6 @@
 -- `add_core` meets its contract: questions 3 to 5 refuse, or memory holds the plan of the clashes that its rows name and `add_held` edits it.
 use borrow.Author.Needs.{needs}
-use mathlib.Core.Path.{_≡_, refl, sym, _∙_}
+use mathlib.Core.Path.{refl, sym, _∙_}
 use Rattle.rule.specs.Reach.{adding}
 use Rattle.planner.specs.Calls.{memoryOf}
 use Rattle.planner.proofs.Outcomes.{call-refused, call-held}

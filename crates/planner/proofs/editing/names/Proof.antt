@@ -1,10 +1,9 @@
 -- `names` meets its contract: none of the cells passed is the bank.
 use borrow.Author.Needs.{needs}
-use Prim.Native.Nat.{ℕ, _-_, _≤_}
-use lib.Dec.{T}
-use lib.ListN.{length, getD, take}
+use Prim.Native.Nat.{_-_, _≤_}
+use lib.ListN.{length, take}
 use lib.Seq.{take-all}
-use mathlib.Core.Bool.{true, false}
+use mathlib.Core.Bool.{false}
 use mathlib.Core.Path.{_≡_, sym, ap, _∙_}
 use native.Mathlib.Omega.{arith}
 use Rattle.rule.specs.Lists.{memb}

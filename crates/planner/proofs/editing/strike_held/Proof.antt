@@ -1,6 +1,6 @@
 -- `strike_held` meets its contract: what it refuses is as it was, and what `strike_edit` leaves is the edit that the definition accepts.
 use borrow.Author.Needs.{needs}
-use mathlib.Core.Path.{_≡_, refl, sym, _∙_}
+use mathlib.Core.Path.{refl, sym, _∙_}
 use Rattle.rule.specs.Reach.{striking}
 use Rattle.planner.specs.Calls.{memoryOf}
 use Rattle.planner.proofs.Outcomes.{edit-refused, editable, edit-accepted}

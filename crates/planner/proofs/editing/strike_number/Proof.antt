@@ -1,7 +1,7 @@
 -- `strike_number` meets its contract: each return is one case of `editNumber`.
 use borrow.Author.Needs.{needs}
 use borrow.Author.Tests.{not-true, not-false}
-use mathlib.Core.Path.{_≡_, sym, _∙_}
+use mathlib.Core.Path.{sym, _∙_}
 use native.Mathlib.Omega.{arith}
 use Rattle.rule.specs.Reach.{striking}
 use Rattle.memory.proofs.Views.{tally-banks}

@@ -1,7 +1,7 @@
 -- `open_core` meets its contract: each return is one case of `opened`.
 use borrow.Author.Needs.{needs}
 use borrow.Author.Tests.{not-true, not-false}
-use mathlib.Core.Path.{_≡_, sym, _∙_}
+use mathlib.Core.Path.{sym, _∙_}
 use native.Mathlib.Omega.{arith}
 use Rattle.memory.specs.Plan.{slicesOf}
 use Rattle.memory.proofs.Theorems.{long}

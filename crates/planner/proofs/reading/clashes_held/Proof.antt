@@ -2,7 +2,7 @@
 use borrow.Author.Needs.{needs}
 use Prim.Native.Nat.{ℕ}
 use lib.ListN.{getD}
-use mathlib.Core.Path.{_≡_, ap, _∙_}
+use mathlib.Core.Path.{ap, _∙_}
 use native.Mathlib.Omega.{arith}
 use Rattle.planner.proofs.Rows.{few-cells, degree-cell, row-cells, row-part}
 use Rattle.planner.proofs.reading.clashes_held.Statement.{statement}

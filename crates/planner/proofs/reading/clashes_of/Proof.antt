@@ -1,7 +1,6 @@
 -- `clashes_of` meets its contract: refused it returns no cell, else the neighbours in the plan that memory holds.
 use borrow.Author.Needs.{needs}
-use mathlib.Core.Path.{_≡_, sym, _∙_}
-use native.Mathlib.Omega.{arith}
+use mathlib.Core.Path.{sym, _∙_}
 use Rattle.planner.proofs.Rows.{clashes-refused, clashes-found}
 use Rattle.planner.proofs.reading.clashes_of.Statement.{statement}
 use Rattle.planner.proofs.reading.clashes_of.Tie as tie

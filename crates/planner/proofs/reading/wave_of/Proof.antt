@@ -2,7 +2,7 @@
 use borrow.Author.Needs.{needs}
 use Prim.Native.Nat.{ℕ}
 use lib.ListN.{getD}
-use mathlib.Core.Path.{_≡_, sym, ap, _∙_}
+use mathlib.Core.Path.{sym, ap, _∙_}
 use native.Mathlib.Omega.{arith}
 use Rattle.planner.proofs.Rows.{wave-cell, plan-wave, wave-refused, wave-found}
 use Rattle.planner.proofs.reading.wave_of.Statement.{statement}
