@@ -1,20 +1,19 @@
 -- The work-list when nothing waits.
 use mathlib.Core.Bool.{_&&_}
-use mathlib.Core.List.{List, []}
+use mathlib.Core.List.{List}
 use mathlib.Core.Logic.{inl, inr}
 use mathlib.Core.Path.{_≡_, sym, ap, _∙_}
 use Prim.Native.Nat.{ℕ, _*_, _/_, _%_, _≤_, _<_}
 use native.Mathlib.Nat.{div-add-mod'}
 use native.Mathlib.Omega.{arith}
 use lib.Dec.{T, eqb, ltb, ltb→lt, lt→ltb}
-use lib.ListN.{length, getD, take, drop, length-take, drop-of-length-le}
-use Rattle.rule.specs.Lists.{memb, filter, Sorted}
+use lib.ListN.{length, getD, take, length-take}
+use Rattle.rule.specs.Lists.{memb, filter}
 use Rattle.rule.specs.Graph.{Graph, earlier, earlierNeighbours}
 use Rattle.rule.specs.Wave.{wave, waves}
 use Rattle.rule.specs.Reach.{changed, moved}
 use Rattle.rule.specs.WorkList.{isTaken, taken}
 use Rattle.rule.proofs.Booleans.{and-l, and-r, both, T-along, test-ext, passes?, cond-yes, cond-no}
-use Rattle.rule.proofs.Lists.{in-none}
 use Rattle.rule.proofs.Sorting.{sorted-filter, memb-filter}
 use Rattle.rule.proofs.Spread.{not-taken}
 use Rattle.rule.proofs.Waves.{earlierNeighbours-in}
@@ -27,7 +26,9 @@ use Rattle.memory.proofs.Cells.{cells-over}
 use Rattle.memory.proofs.Fronts.{front-over}
 use Rattle.edits.specs.declared.can_step.Progress.{Progress}
 use Rattle.edits.specs.Lent.{Lent}
+use Rattle.edits.specs.Queue.{waits}
 use Rattle.edits.specs.Work.{Edit, new, Working, Settled}
+use Rattle.edits.proofs.BitQueue.{none-waits}
 use Rattle.edits.proofs.Counting.{counted-cong}
 use Rattle.edits.proofs.Stepping.{changed-not}
 
@@ -39,35 +40,23 @@ counts-over G cs was ct beyond =
     cells-over (24 * G .banks) (λ i. length (filter (λ v. eqb (wave G v) (i % 24)) (earlierNeighbours G (i / 24)))) cs was (omega (arith, ct .wide-counts))
     (λ i l. ap (λ (k : ℕ). getD cs k 0) (sym (div-add-mod' i 24)) ∙ ct .cell (i / 24) (i % 24) (omega arith) (omega arith)) (rw e beyond)
 
-module _ {e : Edit} {m : Lent} {q : List ℕ} {p : Progress} (wk : Working e m q p) (left : p .queued ≤ p .taken) where
+module _ {e : Edit} {m : Lent} {q : List ℕ} {p : Progress} (wk : Working e m q p) (left : 384 ≤ p .word) where
   abbrev G : Graph
   G = new e
 
   abbrev D : List ℕ
-  D = take (p .taken) q
+  D = take (p .taken) (m .trail)
 
-  abbrev rest : List ℕ
-  rest = drop (p .taken) (take (p .queued) q)
-
-  all : p .taken ≡ p .queued
-  all = omega (arith, wk .order)
-
-  none : (x : ℕ) → x < G .banks → T (memb x rest) → ⊥
-  none x l i =
-      let empty : rest ≡ [] = drop-of-length-le (take (p .queued) q) {i = p .taken} (omega (arith, length-take (p .queued) q)) in
-      in-none x (rw empty at i)
-
-  names : (x : ℕ) → T (memb x D) → x < G .banks
-  names x i = wk .queue .names x (rw all at i)
-
-  sorted : Sorted (earlier G) D
-  sorted = rw all (wk .queue .sorted)
+  none : (x : ℕ) → x < G .banks → T (waits G q x) → ⊥
+  none =
+      let end : p .word ≡ 384 = omega (arith, wk .first .high) in
+      none-waits (wk .queue) (rw end at (wk .first))
 
   stored : (x : ℕ) → x < G .banks → getD (m .waves) x 0 ≡ wave G x
   stored x l =
       wk .stored x l ∙ elim (passes? (memb x D)) [
         | inl t ↦ cond-yes (memb x D) (wave G x) (wave (e .old) x) t
-        | inr f ↦ cond-no (memb x D) (wave G x) (wave (e .old) x) f ∙ settled-end (e .old) G (e .a) (e .b) (wk .edit) (λ y. memb y D) (λ y. memb y rest) (wk .list) none x l f
+        | inr f ↦ cond-no (memb x D) (wave G x) (wave (e .old) x) f ∙ settled-end (e .old) G (e .a) (e .b) (wk .edit) (λ y. memb y D) (waits G q) (wk .list) none x l f
       ]
 
   counted : Counted G (m .counts) (λ b v. wave G v)
@@ -80,13 +69,13 @@ module _ {e : Edit} {m : Lent} {q : List ℕ} {p : Progress} (wk : Working e m q
   members : (x : ℕ) → memb x D ≡ (ltb x (G .banks) && isTaken (e .old) G (e .a) (e .b) x)
   members x =
       let is : x < G .banks → memb x D ≡ isTaken (e .old) G (e .a) (e .b) x =
-      done-is-taken (e .old) G (e .a) (e .b) (wk .edit) (λ y. memb y D) (λ y. memb y rest) (wk .list) none x in
+      done-is-taken (e .old) G (e .a) (e .b) (wk .edit) (λ y. memb y D) (waits G q) (wk .list) none x in
       test-ext (memb x D) (ltb x (G .banks) && isTaken (e .old) G (e .a) (e .b) x)
-      (λ i. both (ltb x (G .banks)) _ (lt→ltb x (G .banks) (names x i)) (T-along (is (names x i)) i))
+      (λ i. both (ltb x (G .banks)) _ (lt→ltb x (G .banks) (wk .names x i)) (T-along (is (wk .names x i)) i))
       (λ t. T-along (sym (is (ltb→lt x (G .banks) (and-l (ltb x (G .banks)) _ t)))) (and-r (ltb x (G .banks)) _ t))
 
   trail-is : take (p .taken) (m .trail) ≡ taken (e .old) G (e .a) (e .b)
-  trail-is = wk .trailed ∙ is-taken (e .old) G (e .a) (e .b) D sorted members
+  trail-is = is-taken (e .old) G (e .a) (e .b) D (wk .sorted) members
 
   -- a bank that changed is taken up
   changed-done : (x : ℕ) → x < G .banks → T (changed (e .old) G x) → T (memb x D)
@@ -97,15 +86,15 @@ module _ {e : Edit} {m : Lent} {q : List ℕ} {p : Progress} (wk : Working e m q
       ]
 
   moved-is : take (p .moved) (m .moved) ≡ moved (e .old) G
-  moved-is = wk .moves ∙ is-moved (e .old) G (filter (changed (e .old) G) D) (sorted-filter (earlier G) (changed (e .old) G) D sorted) (λ x.
+  moved-is = wk .moves ∙ is-moved (e .old) G (filter (changed (e .old) G) D) (sorted-filter (earlier G) (changed (e .old) G) D (wk .sorted)) (λ x.
       memb-filter (changed (e .old) G) D x ∙ test-ext (memb x D && changed (e .old) G x) (ltb x (G .banks) && changed (e .old) G x)
-      (λ t. both (ltb x (G .banks)) _ (lt→ltb x (G .banks) (names x (and-l (memb x D) _ t))) (and-r (memb x D) _ t))
+      (λ t. both (ltb x (G .banks)) _ (lt→ltb x (G .banks) (wk .names x (and-l (memb x D) _ t))) (and-r (memb x D) _ t))
       (λ t. (let c = and-r (ltb x (G .banks)) _ t in both (memb x D) _ (changed-done x (ltb→lt x (G .banks) (and-l (ltb x (G .banks)) _ t)) c) c)))
 
   pub settled : Settled e m p
   settled =
-      let lt : p .taken ≤ length (m .trail) = omega (arith, all, wk .queue .room, wk .wide-trail) in
-      let lm : p .moved ≤ length (m .moved) = omega (arith, all, wk .queue .room, wk .wide-moved, wk .few) in
+      let lt : p .taken ≤ length (m .trail) = omega (arith, wk .room, wk .wide-trail) in
+      let lm : p .moved ≤ length (m .moved) = omega (arith, wk .room, wk .wide-moved, wk .few) in
       record {
         rightWaves = all-waves;
         rightCounts = counts-over G (m .counts) (e .was .counts) counted (wk .countsBeyond);
@@ -113,7 +102,7 @@ module _ {e : Edit} {m : Lent} {q : List ℕ} {p : Progress} (wk : Working e m q
         rightMoved = front-over (p .moved) (m .moved) (e .was .moved) (moved (e .old) G) moved-is lm (wk .movedBeyond);
         trailCount = omega (arith, ap length trail-is, length-take (p .taken) (m .trail));
         movedCount = omega (arith, ap length moved-is, length-take (p .moved) (m .moved));
-        few = omega (arith, all, wk .queue .room);
+        few = wk .room;
         fewer = wk .few;
         wide-waves = wk .wide-waves;
         stored = stored;

@@ -12,8 +12,8 @@ use lib.Seq.{getD-set-same, getD-set-other, getD-take, getD-drop, take-take, get
 use Rattle.rule.specs.Lists.{memb, Sorted, Strict}
 use Rattle.rule.proofs.Lists.{in-head, in-cons, in-none, in-append}
 use Rattle.memory.proofs.Fronts.{take-next, drop-next}
-use Rattle.edits.specs.Queue.{Inserted}
 use Rattle.edits.proofs.SortedLists.{sorted-cut, sorted-front, sorted-back, sorted-put, memb-put}
+use Rattle.edits.specs.Rows.{Inserted}
 
 -- one cell more moved on
 pub shifted : (q q₀ : List ℕ) (i end : ℕ) → 0 < i → i < length q → ((j : ℕ) → j < i + 1 → getD q j 0 ≡ getD q₀ j 0)

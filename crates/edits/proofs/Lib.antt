@@ -1,7 +1,8 @@
 -- Theorems: what to cite. The others: lemmas over lists and records, which the functions' proofs cite.
 pub mod SortedLists
 pub mod Insertion
-pub mod Lines
+pub mod Bits
+pub mod BitQueue
 pub mod RowCells
 pub mod Rewriting
 pub mod Counting

@@ -1,7 +1,6 @@
 -- The later neighbours of a bank: what it is to notify them all, and one neighbour notified or passed over.
 use mathlib.Core.Bool.{Bool, true, false, cond, _&&_, _||_}
 use mathlib.Core.List.{List, []}
-use mathlib.Core.Logic.{inl, inr}
 use mathlib.Core.Path.{_≡_, refl, sym, ap, _∙_}
 use Prim.Native.Nat.{ℕ, _+_, _*_, _<_}
 use native.Mathlib.Decide.{ℕ-discrete}
@@ -12,15 +11,14 @@ use Rattle.rule.specs.Lists.{memb, some}
 use Rattle.rule.specs.Graph.{Graph, neighbours, earlier, earlierNeighbours}
 use Rattle.rule.proofs.Booleans.{and-l, and-r, both, or-r, T-along, eq→eqb, cond-yes, cond-no, or-false}
 use Rattle.rule.proofs.Neighbours.{neighbours-in, in-neighbours}
-use Rattle.rule.proofs.Order.{earlier-trans}
 use Rattle.rule.proofs.Waves.{earlierNeighbours-in, in-earlierNeighbours}
 use Rattle.memory.specs.Counts.{byCells}
 use Rattle.memory.specs.View.{Shown}
 use Rattle.memory.proofs.Theorems.{cells-earlier}
-use Rattle.edits.specs.Queue.{Line, Enqueued}
+use Rattle.edits.specs.Queue.{waits, Enqueuable, Enqueued}
 use Rattle.edits.specs.Work.{Movable, oneMoved, laterNeighbour, Notice, Notifiable, Notified, Notifying}
 use Rattle.edits.proofs.Counting.{moved-elsewhere, moved-here, moved-length}
-use Rattle.edits.proofs.Shows.{row-cell, cell-bank, cell-clash, cell-degree, cell-new, row-memb, whole-row, line-of}
+use Rattle.edits.proofs.Shows.{row-cell, cell-bank, cell-clash, cell-degree, cell-new, row-memb, whole-row, enqueuable-of}
 
 pub memb-none : (x : ℕ) → memb x [] ≡ false
 unfolding memb some
@@ -67,30 +65,25 @@ module _ {G : Graph} {ns ds : List ℕ} (sh : Shown G ns ds) (b x : ℕ) where
       both (memb x (neighbours G b)) (earlier G b x) (in-neighbours G b x lx (T-along (sh .symmetric x b lx (r .0)) (and-l (G .clash x b) (earlier G b x) (r .1)))) (and-r (G .clash x b) (earlier G b x) (r .1))
 
 -- equal tests name the same banks
-notified-cong : {G : Graph} {cs cs′ q q′ : List ℕ} {from end end′ o w : ℕ} (f g : ℕ → Bool) → ((x : ℕ) → f x ≡ g x)
-    → Notified G cs cs′ q q′ from end end′ o w f → Notified G cs cs′ q q′ from end end′ o w g
-notified-cong {cs = cs} {q = q} {end = end} {o = o} {w = w} f g same n = record {
+notified-cong : {G : Graph} {cs cs′ q q′ : List ℕ} {o w : ℕ} (f g : ℕ → Bool) → ((x : ℕ) → f x ≡ g x) → Notified G cs cs′ q q′ o w f → Notified G cs cs′ q q′ o w g
+notified-cong {G} {cs} {q = q} {o = o} {w = w} f g same n = record {
   long = n .long;
   counts = λ x c l. n .counts x c l ∙ ap (λ (t : Bool). cond t (getD (oneMoved cs x o w) (x * 24 + c) 0) (getD cs (x * 24 + c) 0)) (same x);
   queue = n .queue;
-  order = n .order;
-  kept = n .kept;
-  members = λ x. n .members x ∙ ap (λ (t : Bool). memb x (take end q) || t) (same x);
+  members = λ x l. n .members x l ∙ ap (λ (t : Bool). waits G q x || t) (same x);
 }
 
-module _ {G : Graph} {ns ds cs q : List ℕ} {from end b : ℕ} {changed : Bool} {o w : ℕ} (nf : Notifiable G ns ds cs q from end b changed o w) where
+module _ {G : Graph} {ns ds cs q : List ℕ} {b : ℕ} {changed : Bool} {o w : ℕ} (nf : Notifiable G ns ds cs q b changed o w) where
   -- no bank is notified
-  pub none-notified : (f : ℕ → Bool) → ((x : ℕ) → f x ≡ false) → Notified G cs cs q q from end end o w f
+  pub none-notified : (f : ℕ → Bool) → ((x : ℕ) → f x ≡ false) → Notified G cs cs q q o w f
   none-notified f no-one = record {
     long = refl;
     counts = λ x c l. sym (ap (λ (t : Bool). cond t (getD (oneMoved cs x o w) (x * 24 + c) 0) (getD cs (x * 24 + c) 0)) (no-one x));
     queue = nf .queue;
-    order = omega arith;
-    kept = refl;
-    members = λ x. sym (or-false (memb x (take end q))) ∙ ap (λ (t : Bool). memb x (take end q) || t) (sym (no-one x));
+    members = λ x l. sym (or-false (waits G q x)) ∙ ap (λ (t : Bool). waits G q x || t) (sym (no-one x));
   }
 
-module _ {s : Notice} {ns ds cs q : List ℕ} {from end h o w i : ℕ} (nt : Notifying s ns ds cs q from end h o w i) (lt : i < getD ds h 0) where
+module _ {s : Notice} {ns ds cs q : List ℕ} {h o w i : ℕ} (nt : Notifying s ns ds cs q h o w i) (lt : i < getD ds h 0) where
   abbrev G : Graph
   G = s .graph
 
@@ -119,7 +112,7 @@ module _ {s : Notice} {ns ds cs q : List ℕ} {from end h o w i : ℕ} (nt : Not
   order-is = cells-earlier (nt .start .shown) h v (nt .start .bank) v-bank
 
   -- v is earlier: nothing to do
-  pub passed : (T (earlier G h v) → ⊥) → Notifying s ns ds cs q from end h o w (i + 1)
+  pub passed : (T (earlier G h v) → ⊥) → Notifying s ns ds cs q h o w (i + 1)
   passed not-later = record {
     start = nt .start;
     made = notified-cong _ _
@@ -149,12 +142,10 @@ module _ {s : Notice} {ns ds cs q : List ℕ} {from end h o w i : ℕ} (nt : Not
       few = omega (arith, untold w (before .high), before .few);
     }
 
-    pub line : Line G ds q from end v
-    line =
-        line-of (nt .start .shown) (nt .made .queue) (omega (arith, nt .start .order, nt .made .order)) v-bank
-        (λ x m. elim (nt .start .front x (rw (nt .made .kept) at m)) [ inl t ↦ earlier-trans G x h v t later | inr e ↦ rw e later ])
+    pub enqueuable : Enqueuable G ds q v
+    enqueuable = enqueuable-of (nt .start .shown) (nt .made .queue) v-bank
 
-    module _ {q′ : List ℕ} {r : ℕ} (put : Enqueued G q q′ from end v r) where
+    module _ {q′ : List ℕ} (put : Enqueued G q q′ v) where
       -- both were moved alike
       same : (c : ℕ) → c < 24 → getD (oneMoved cs v o w) (v * 24 + c) 0 ≡ getD (oneMoved (s .counts) v o w) (v * 24 + c) 0
       same c lc =
@@ -181,7 +172,7 @@ module _ {s : Notice} {ns ds cs q : List ℕ} {from end h o w i : ℕ} (nt : Not
               ∙ ap (λ (t : Bool). cond (t && earlier G h x) (getD (oneMoved (s .counts) x o w) (x * 24 + c) 0) (getD (s .counts) (x * 24 + c) 0))
               (sym (next-memb x ∙ or-not (memb x (take i N)) (eqb x v) (λ t. d (eqb→eq x v t))))
 
-      pub notified : Notifying s ns ds (oneMoved cs v o w) q′ from r h o w (i + 1)
+      pub notified : Notifying s ns ds (oneMoved cs v o w) q′ h o w (i + 1)
       unfolding told
       notified = record {
         start = nt .start;
@@ -189,25 +180,23 @@ module _ {s : Notice} {ns ds cs q : List ℕ} {from end h o w i : ℕ} (nt : Not
           long = moved-length cs v o w (movable .row) (before .low) (before .high) (nt .start .differ tt) ∙ nt .made .long;
           counts = cells-after;
           queue = put .queue;
-          order = omega (arith, nt .made .order, put .low);
-          kept = put .kept ∙ nt .made .kept;
-          members = λ x. put .members x ∙ ap (λ (t : Bool). t || eqb x v) (nt .made .members x)
-              ∙ more-and (memb x (take (s .end) (s .queue))) (memb x (take i N)) (eqb x v) (earlier G h x) (λ t. rw (eqb→eq x v t) later)
-              ∙ ap (λ (t : Bool). memb x (take (s .end) (s .queue)) || (t && earlier G h x)) (sym (next-memb x));
+          members = λ x l. put .members x l ∙ ap (λ (t : Bool). t || eqb x v) (nt .made .members x l)
+              ∙ more-and (waits G (s .queue) x) (memb x (take i N)) (eqb x v) (earlier G h x) (λ t. rw (eqb→eq x v t) later)
+              ∙ ap (λ (t : Bool). waits G (s .queue) x || (t && earlier G h x)) (sym (next-memb x));
         };
       }
 
-abbrev pub noticeOf : Graph → List ℕ → List ℕ → ℕ → Notice
-noticeOf G cs q end = record { graph = G; counts = cs; queue = q; end = end }
+abbrev pub noticeOf : Graph → List ℕ → List ℕ → Notice
+noticeOf G cs q = record { graph = G; counts = cs; queue = q }
 
 -- no neighbour is looked at
-pub start-notifying : {G : Graph} {ns ds cs q : List ℕ} {from end b o w : ℕ} {changed : Bool} → changed ≡ true → Notifiable G ns ds cs q from end b changed o w
-    → Notifying (noticeOf G cs q end) ns ds cs q from end b o w 0
+pub start-notifying : {G : Graph} {ns ds cs q : List ℕ} {b o w : ℕ} {changed : Bool} → changed ≡ true → Notifiable G ns ds cs q b changed o w
+    → Notifying (noticeOf G cs q) ns ds cs q b o w 0
 start-notifying {G} {b = b} said nf = record { start = rw said at nf; made = none-notified nf _ (λ x. ap (λ (t : Bool). t && earlier G b x) (memb-none x)) }
 
 -- all are
-pub all-notified : {s : Notice} {ns ds cs q : List ℕ} {from end h o w : ℕ} {changed : Bool} → changed ≡ true → Notifying s ns ds cs q from end h o w (getD ds h 0)
-    → Notified (s .graph) (s .counts) cs (s .queue) q from (s .end) end o w (λ x. changed && laterNeighbour (s .graph) h x)
+pub all-notified : {s : Notice} {ns ds cs q : List ℕ} {h o w : ℕ} {changed : Bool} → changed ≡ true → Notifying s ns ds cs q h o w (getD ds h 0)
+    → Notified (s .graph) (s .counts) cs (s .queue) q o w (λ x. changed && laterNeighbour (s .graph) h x)
 unfolding laterNeighbour
 all-notified {s} {h = h} said nt =
     notified-cong _ _ (λ x. rw said (ap (λ (xs : List ℕ). memb x xs && earlier (s .graph) h x) (whole-row (nt .start .shown) h (nt .start .bank)))) (nt .made)

@@ -6,7 +6,7 @@ use mathlib.Core.Path.{_≡_, refl, sym, ap, ap₂, _∙_}
 use Prim.Native.Nat.{ℕ, _+_, _*_, _/_, _%_, _≤_, _<_}
 use native.Mathlib.Nat.{div-add-mod'}
 use native.Mathlib.Omega.{arith}
-use lib.ListN.{length, getD, take, drop}
+use lib.ListN.{length, getD, take, replicate}
 use Rattle.rule.specs.Lists.{memb, filter}
 use Rattle.rule.specs.Graph.{Graph, neighbours, degree, earlierNeighbours}
 use Rattle.rule.specs.Wave.{wave, waveCount}
@@ -30,11 +30,12 @@ use Rattle.edits.specs.declared.can_step.Progress.{Progress}
 use Rattle.edits.specs.declared.rows.Degrees.{Degrees}
 use Rattle.edits.specs.Lent.{Lent, lentOf}
 use Rattle.edits.specs.Edits.{Editable, Outcome}
+use Rattle.edits.specs.Queue.{waits, First}
 use Rattle.edits.specs.Rows.{Rewritten}
 use Rattle.edits.specs.Work.{Edit, new, Working, Settled}
 use Rattle.edits.specs.Seeds.{Seedable, Seeded}
-use Rattle.edits.specs.Recount.{Recounting}
 use Rattle.edits.specs.Change.{Origin, editAt, Changed}
+use Rattle.edits.proofs.BitQueue.{empty-queue, no-one}
 use Rattle.edits.proofs.Notices.{memb-none}
 use Rattle.edits.proofs.Stepping.{progress}
 
@@ -81,16 +82,6 @@ module _ {e : Edit} {m : Lent} {before : Degrees} {n clashes : ℕ} (ch : Change
   shows : Shown G (m .neighbours) (m .degrees)
   shows = shown (ch .rewritten .rowed)
 
-  pub seedable : Seedable e (m .neighbours) (m .degrees) before
-  seedable = record {
-    edit = edit;
-    shown = shows;
-    bankA = omega (arith, ch .acceptable .bankA, edit .sameBanks);
-    bankB = omega (arith, ch .acceptable .bankB, edit .sameBanks);
-    degreeA = ch .rewritten .degreeA;
-    degreeB = ch .rewritten .degreeB;
-  }
-
   stored : (x : ℕ) → x < G .banks → getD (m .waves) x 0 ≡ wave (e .old) x
   stored x l = rw (ch .sameWaves) (ch .held .waves x (omega (arith, edit .sameBanks)))
 
@@ -99,55 +90,68 @@ module _ {e : Edit} {m : Lent} {before : Degrees} {n clashes : ℕ} (ch : Change
       let k : x < e .old .banks = omega (arith, edit .sameBanks) in
       omega (arith, wave-small (e .old) x k (ch .held .rowed .small x k))
 
-  module _ {q : List ℕ} {end : ℕ} (sd : Seeded e q end) where
-    pub recount-start : Recounting (new e) (m .neighbours) (m .degrees) (m .waves) (m .counts) (m .counts) q n end 0
-    recount-start = record {
+  -- before the seeds, with an empty queue
+  pub seedable : Seedable e (m .neighbours) (m .degrees) (m .waves) (m .counts) (replicate 384 0) n before
+  seedable = record {
+    edit = edit;
+    counts = record {
       banks = banks;
       shown = shows;
       wide-waves = rw (ch .sameWaves) (ch .held .wide-waves);
       small = λ x h. (let l : x < G .banks = omega (arith, banks) in omega (arith, stored x l, small x l));
       wide-counts = rw (ch .sameCounts) (omega (arith, ch .held .counted .wide-counts, edit .sameBanks));
-      queue = sd .queue;
-      right = λ x c i h. absurd (in-none x i);
-      kept = λ x c i h. refl;
+      queue = empty-queue G;
+      right = λ x c l t h. absurd (T-along (no-one G x) t);
+      kept = λ x c l t h. refl;
       beyond = beyond-refl (new e .banks * 24) (m .counts);
+    };
+    empty = no-one G;
+    bankA = omega (arith, ch .acceptable .bankA, ch .held .banks);
+    bankB = omega (arith, ch .acceptable .bankB, ch .held .banks);
+    degreeA = ch .rewritten .degreeA;
+    degreeB = ch .rewritten .degreeB;
+  }
+
+  module _ {cs q : List ℕ} {word : ℕ} (sd : Seeded e (m .neighbours) (m .degrees) (m .waves) (m .counts) cs q n) (sought : First q 0 word) where
+    seeds-are : (x : ℕ) → x < G .banks → waits G q x ≡ seed (e .old) G (e .a) (e .b) x
+    seeds-are x l = sd .seeds x (omega (arith, banks))
+
+    -- a bank that is no seed has the earlier neighbours that it had
+    cell-is : (x c : ℕ) → x < G .banks → c < 24 → getD cs (x * 24 + c) 0 ≡ standing (λ v. getD (m .waves) v 0) c (earlierNeighbours G x)
+    cell-is x c lx lc =
+        elim (passes? (waits G q x)) [
+          | inl i ↦ sd .counts .right x c lx i lc
+          | inr f ↦
+              sd .counts .kept x c lx f lc ∙ ap (λ (xs : List ℕ). getD xs (x * 24 + c) 0) (ch .sameCounts)
+              ∙ ch .held .counted .cell x c (omega (arith, edit .sameBanks)) lc
+              ∙ ap (standing (wave (e .old)) c) (same-neighbours (e .old) G (e .a) (e .b) edit x lx (λ s. f (T-along (sym (seeds-are x lx)) s)))
+              ∙ standing-cong (wave (e .old)) (λ v. getD (m .waves) v 0) c (earlierNeighbours G x) (λ v i. sym (stored v (earlierNeighbours-in G x v i .0)))
+        ]
+
+    pub working : Working e (lentOf (m .neighbours) (m .degrees) (m .waves) cs (m .trail) (m .moved)) q (progress 0 0 word)
+    working = record {
+      edit = edit;
+      shown = shows;
+      queue = sd .counts .queue;
+      first = sought;
+      list = list-cong (e .old) G (e .a) (e .b) (λ x. false) (seed (e .old) G (e .a) (e .b)) (λ x. memb x (take 0 (m .trail))) (waits G q)
+          (λ x. sym (memb-none x)) (λ x l. sym (seeds-are x l)) (start (e .old) G (e .a) (e .b) edit);
+      wide-waves = omega (arith, sd .counts .wide-waves, banks);
+      stored = λ x l. stored x l ∙ ap (λ (b : Bool). cond b (wave G x) (wave (e .old) x)) (sym (memb-none x));
+      small = small;
+      wavesBeyond = beyond-same (G .banks) (m .waves) (e .was .waves) (ch .sameWaves);
+      counted = record { wide-counts = sd .counts .wide-counts; cell = cell-is };
+      countsBeyond = rw (← (ch .sameCounts)) (sd .counts .beyond);
+      wide-trail = rw (ch .sameTrail) (omega (arith, ch .wide-trail, banks));
+      room = omega arith;
+      names = λ x i. absurd (in-none x i);
+      sorted = tt;
+      trailBeyond = beyond-same 0 (m .trail) (e .was .trail) (ch .sameTrail);
+      wide-moved = rw (ch .sameMoved) (omega (arith, ch .wide-moved, banks));
+      few = omega arith;
+      moves = filter-none (changed (e .old) G);
+      movedBeyond = beyond-same 0 (m .moved) (e .was .moved) (ch .sameMoved);
     }
-
-    module _ {cs : List ℕ} (rc : Recounting (new e) (m .neighbours) (m .degrees) (m .waves) (m .counts) cs q n end end) where
-      -- a bank that is no seed has the earlier neighbours that it had
-      cell-is : (x c : ℕ) → x < G .banks → c < 24 → getD cs (x * 24 + c) 0 ≡ standing (λ v. getD (m .waves) v 0) c (earlierNeighbours G x)
-      cell-is x c lx lc =
-          elim (passes? (memb x (take end q))) [
-            | inl i ↦ rc .right x c i lc
-            | inr f ↦
-                rc .kept x c f lc ∙ ap (λ (xs : List ℕ). getD xs (x * 24 + c) 0) (ch .sameCounts)
-                ∙ ch .held .counted .cell x c (omega (arith, edit .sameBanks)) lc
-                ∙ ap (standing (wave (e .old)) c) (same-neighbours (e .old) G (e .a) (e .b) edit x lx (λ s. f (T-along (sym (sd .seeds x lx)) s)))
-                ∙ standing-cong (wave (e .old)) (λ v. getD (m .waves) v 0) c (earlierNeighbours G x) (λ v i. sym (stored v (earlierNeighbours-in G x v i .0)))
-          ]
-
-      pub working : Working e (lentOf (m .neighbours) (m .degrees) (m .waves) cs (m .trail) (m .moved)) q (progress 0 end 0)
-      working = record {
-        edit = edit;
-        shown = shows;
-        queue = sd .queue;
-        order = omega arith;
-        list = list-cong (e .old) G (e .a) (e .b) (λ x. false) (seed (e .old) G (e .a) (e .b)) (λ x. memb x (take 0 q)) (λ x. memb x (drop 0 (take end q)))
-            (λ x. sym (memb-none x)) (λ x l. sym (sd .seeds x l)) (start (e .old) G (e .a) (e .b) edit);
-        wide-waves = omega (arith, rc .wide-waves, banks);
-        stored = λ x l. stored x l ∙ ap (λ (b : Bool). cond b (wave G x) (wave (e .old) x)) (sym (memb-none x));
-        small = small;
-        wavesBeyond = beyond-same (G .banks) (m .waves) (e .was .waves) (ch .sameWaves);
-        counted = record { wide-counts = rc .wide-counts; cell = cell-is };
-        countsBeyond = rw (← (ch .sameCounts)) (rc .beyond);
-        wide-trail = rw (ch .sameTrail) (omega (arith, ch .wide-trail, banks));
-        trailed = refl;
-        trailBeyond = beyond-same 0 (m .trail) (e .was .trail) (ch .sameTrail);
-        wide-moved = rw (ch .sameMoved) (omega (arith, ch .wide-moved, banks));
-        few = omega arith;
-        moves = filter-none (changed (e .old) G);
-        movedBeyond = beyond-same 0 (m .moved) (e .was .moved) (ch .sameMoved);
-      }
 
   -- nothing waits
   module _ {ws cs tr mv : List ℕ} {p : Progress} (st : Settled e (lentOf (m .neighbours) (m .degrees) ws cs tr mv) p) where

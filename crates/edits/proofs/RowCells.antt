@@ -17,8 +17,7 @@ use Rattle.rule.proofs.Order.{ltb-strict}
 use Rattle.rule.proofs.Sorting.{sorted-unique, sorted-insertBy, memb-insertBy, sorted-filter, memb-filter}
 use Rattle.memory.proofs.Fronts.{getD-any, cell-of, drop-next, in-front}
 use Rattle.memory.proofs.Parts.{put-below, put-above}
-use Rattle.edits.specs.Queue.{Inserted}
-use Rattle.edits.specs.Rows.{Row, Room, Has, without, RowPlace, Removed, rowAt, rowAfter, degreeAfter, Altering, Altered}
+use Rattle.edits.specs.Rows.{Row, Room, Has, without, RowPlace, Removed, rowAt, rowAfter, degreeAfter, Altering, Altered, Inserted}
 use Rattle.edits.proofs.Insertion.{inserted-list, put-sorted, put-members}
 use Rattle.edits.proofs.SortedLists.{sorted-cut, sorted-back, sorted-cells, memb-put}
 

@@ -3,7 +3,7 @@ use mathlib.Core.Bool.{Bool, true, false, _&&_, _||_, not, Bool·beq}
 use mathlib.Core.List.{List}
 use mathlib.Core.Logic.{_≢_}
 use mathlib.Core.Path.{_≡_, refl, sym, ap, _∙_}
-use Prim.Native.Nat.{ℕ, _+_, _*_, _<_}
+use Prim.Native.Nat.{ℕ, _+_, _*_, _≤_, _<_}
 use native.Mathlib.Omega.{arith}
 use lib.Dec.{T, eqb, eqb→eq}
 use lib.ListN.{length, getD, take}
@@ -13,37 +13,43 @@ use Rattle.rule.specs.Graph.{Graph, neighbours, degree, earlier}
 use Rattle.rule.specs.Reach.{isNamed}
 use Rattle.rule.specs.WorkList.{turned, seed}
 use Rattle.rule.proofs.Booleans.{or-l, or-r, T-along, eq→eqb, or-false}
-use Rattle.rule.proofs.Lists.{in-none}
 use Rattle.rule.proofs.Neighbours.{memb-neighbours}
 use Rattle.rule.proofs.Spread.{degree-elsewhere}
 use Rattle.memory.specs.Counts.{byCells}
-use Rattle.memory.specs.View.{Shown}
 use Rattle.memory.proofs.Theorems.{cells-earlier}
 use Rattle.edits.specs.declared.rows.Degrees.{Degrees}
-use Rattle.edits.specs.Queue.{Queued, Line, Enqueued}
+use Rattle.edits.specs.Queue.{waits}
+use Rattle.edits.specs.Recount.{Recounting, SeedQueued}
 use Rattle.edits.specs.Work.{Edit, new}
 use Rattle.edits.specs.Seeds.{turnedFrom, Search, Turning, Seedable, Seeded}
 use Rattle.edits.proofs.Notices.{memb-none, no-and, more-and}
-use Rattle.edits.proofs.Shows.{row-cell, cell-bank, cell-degree, row-memb, line-of, whole-row}
+use Rattle.edits.proofs.Shows.{row-cell, cell-bank, cell-degree, row-memb, whole-row}
 
-module _ {s : Search} {ns ds q : List ℕ} {end y d i : ℕ} (tn : Turning s ns ds q end y d i) (lt : i < getD ds y 0) where
+module _ {s : Search} {ns ds ws cs queue : List ℕ} {n y d i : ℕ} (tn : Turning s ns ds ws cs queue n y d i) where
+  y-bank : y < s .graph .banks
+  y-bank = omega (arith, tn .bank, tn .counts .banks)
+
+  pub y-inside : y < length ds
+  y-inside = omega (arith, y-bank, tn .counts .shown .wide-degrees)
+
+  pub y-small : getD ds y 0 ≤ 23
+  y-small = omega (arith, tn .counts .shown .degrees y y-bank, tn .counts .shown .small y y-bank)
+
+module _ {s : Search} {ns ds ws cs queue : List ℕ} {n y d i : ℕ} (tn : Turning s ns ds ws cs queue n y d i) (lt : i < getD ds y 0) where
   abbrev v : ℕ
   v = getD ns (y * 23 + i) 0
 
   pub in-row : y * 23 + i < length ns
-  in-row = row-cell (tn .shown) y i (tn .bank) lt
+  in-row = row-cell (tn .counts .shown) y i (y-bank tn) lt
 
   pub v-degree : v < length ds
-  v-degree = cell-degree (tn .shown) y i (tn .bank) lt
+  v-degree = cell-degree (tn .counts .shown) y i (y-bank tn) lt
 
-  pub y-degree : y < length ds
-  y-degree = omega (arith, tn .bank, tn .shown .wide-degrees)
-
-  v-bank : v < s .graph .banks
-  v-bank = cell-bank (tn .shown) y i (tn .bank) lt
+  pub v-bank : v < n
+  v-bank = omega (arith, cell-bank (tn .counts .shown) y i (y-bank tn) lt, tn .counts .banks)
 
   next-memb : (x : ℕ) → memb x (take (i + 1) (neighbours (s .graph) y)) ≡ (memb x (take i (neighbours (s .graph) y)) || eqb x v)
-  next-memb = row-memb (tn .shown) y i (tn .bank) lt
+  next-memb = row-memb (tn .counts .shown) y i (y-bank tn) lt
 
   -- what the two tests say
   module _ {was is : Bool} (p : was ≡ earlierBy (getD ds v 0) v d y) (r : is ≡ byCells ds v y) where
@@ -57,36 +63,33 @@ module _ {s : Search} {ns ds q : List ℕ} {end y d i : ℕ} (tn : Turning s ns 
     pub has-turned : Bool·beq was is ≡ false → T (turnedFrom ds d y v)
     has-turned e = T-along (sym (tests ∙ ap not e)) tt
 
-  pub passed : (T (turnedFrom ds d y v) → ⊥) → Turning s ns ds q end y d (i + 1)
+  pub passed : (T (turnedFrom ds d y v) → ⊥) → Turning s ns ds ws cs queue n y d (i + 1)
   passed kept = record {
-    shown = tn .shown;
+    counts = tn .counts;
     bank = tn .bank;
-    queue = tn .queue;
-    members = λ x. tn .members x ∙ ap (λ (b : Bool). memb x (s .given) || b)
+    members = λ x h. tn .members x h ∙ ap (λ (b : Bool). s .given x || b)
         (no-and (memb x (take i (neighbours (s .graph) y))) (eqb x v) (turnedFrom ds d y x) (λ u e. kept (rw (eqb→eq x v u) at e))
         ∙ ap (λ (b : Bool). b && turnedFrom ds d y x) (sym (next-memb x)));
   }
 
-  pub line : Line (s .graph) ds q 0 end v
-  line = line-of (tn .shown) (tn .queue) (omega arith) v-bank (λ x m. absurd (in-none x m))
-
-  pub queued : T (turnedFrom ds d y v) → {q′ : List ℕ} {r : ℕ} → Enqueued (s .graph) q q′ 0 end v r → Turning s ns ds q′ r y d (i + 1)
-  queued went put = record {
-    shown = tn .shown;
+  pub queued : T (turnedFrom ds d y v) → {cs′ queue′ : List ℕ} → SeedQueued (s .graph) ns ds ws (s .counts) cs′ queue queue′ n v → Turning s ns ds ws cs′ queue′ n y d (i + 1)
+  queued went re = record {
+    counts = re .counts;
     bank = tn .bank;
-    queue = put .queue;
-    members = λ x. put .members x ∙ ap (λ (b : Bool). b || eqb x v) (tn .members x)
-        ∙ more-and (memb x (s .given)) (memb x (take i (neighbours (s .graph) y))) (eqb x v) (turnedFrom ds d y x) (λ u. rw (eqb→eq x v u) went)
-        ∙ ap (λ (b : Bool). memb x (s .given) || (b && turnedFrom ds d y x)) (sym (next-memb x));
+    members = λ x h. re .put .members x (omega (arith, tn .counts .banks)) ∙ ap (λ (b : Bool). b || eqb x v) (tn .members x h)
+        ∙ more-and (s .given x) (memb x (take i (neighbours (s .graph) y))) (eqb x v) (turnedFrom ds d y x) (λ u. rw (eqb→eq x v u) went)
+        ∙ ap (λ (b : Bool). s .given x || (b && turnedFrom ds d y x)) (sym (next-memb x));
   }
 
 -- nothing looked at yet
-turn-start : {G : Graph} {ns ds q : List ℕ} {end : ℕ} (y d : ℕ) → Shown G ns ds → y < G .banks → Queued G q end → Turning (record { graph = G; given = take end q }) ns ds q end y d 0
-turn-start {G} {ns} {ds} {q} {end} y d shown bank queue = record {
-  shown = shown;
+abbrev searchOf : Graph → List ℕ → List ℕ → Search
+searchOf G was queue = record { graph = G; counts = was; given = waits G queue }
+
+turn-start : {G : Graph} {ns ds ws was cs queue : List ℕ} {n : ℕ} (y d : ℕ) → Recounting G ns ds ws was cs queue n → y < n → Turning (searchOf G was queue) ns ds ws cs queue n y d 0
+turn-start {G} {ns} {ds} {queue = queue} y d rc bank = record {
+  counts = rc;
   bank = bank;
-  queue = queue;
-  members = λ x. sym (or-false (memb x (take end q))) ∙ ap (λ (t : Bool). memb x (take end q) || (t && turnedFrom ds d y x)) (sym (memb-none x));
+  members = λ x h. sym (or-false (waits G queue x)) ∙ ap (λ (t : Bool). waits G queue x || (t && turnedFrom ds d y x)) (sym (memb-none x));
 }
 
 -- the parts of a seed, one by one
@@ -99,7 +102,7 @@ was-earlier : (H : Graph) (dx d x y : ℕ) → dx ≡ degree H x → d ≡ degre
 unfolding earlierBy earlier
 was-earlier H dx d x y e f = cc
 
-module _ {e : Edit} {ns ds : List ℕ} {before : Degrees} (sd : Seedable e ns ds before) where
+module _ {e : Edit} {ns ds ws cs queue : List ℕ} {n : ℕ} {before : Degrees} (sd : Seedable e ns ds ws cs queue n before) where
   abbrev G : Graph
   G = new e
 
@@ -108,39 +111,35 @@ module _ {e : Edit} {ns ds : List ℕ} {before : Degrees} (sd : Seedable e ns ds
       → (memb x (take (getD ds y 0) (neighbours G y)) && turnedFrom ds d y x) ≡ turned (e .old) G y x
   unfolding turned turnedFrom
   turned-is y d x ly is lx na nb =
-      ap (λ (xs : List ℕ). memb x xs && turnedFrom ds d y x) (whole-row (sd .shown) y ly)
+      ap (λ (xs : List ℕ). memb x xs && turnedFrom ds d y x) (whole-row (sd .counts .shown) y ly)
       ∙ ap (λ (t : Bool). t && turnedFrom ds d y x) (memb-neighbours G y x lx)
       ∙ ap (λ (t : Bool). G .clash y x && not (Bool·beq t (byCells ds x y))) was
-      ∙ ap (λ (t : Bool). G .clash y x && not (Bool·beq (earlier (e .old) x y) t)) (cells-earlier (sd .shown) x y lx ly)
+      ∙ ap (λ (t : Bool). G .clash y x && not (Bool·beq (earlier (e .old) x y) t)) (cells-earlier (sd .counts .shown) x y lx ly)
     where
       was : earlierBy (getD ds x 0) x d y ≡ earlier (e .old) x y
-      was = was-earlier (e .old) (getD ds x 0) d x y (sd .shown .degrees x lx ∙ sym (degree-elsewhere (e .old) G (e .a) (e .b) (sd .edit) x lx na nb)) is
+      was = was-earlier (e .old) (getD ds x 0) d x y (sd .counts .shown .degrees x lx ∙ sym (degree-elsewhere (e .old) G (e .a) (e .b) (sd .edit) x lx na nb)) is
 
-  pub line-a : (q : List ℕ) → length q ≡ 1024 → Line (new e) ds q 0 0 (e .a)
-  line-a q long =
-      line-of (sd .shown) (record { room = omega arith; wide-queue = omega (arith, sd .shown .few); names = λ x m. absurd (in-none x m); sorted = tt }) (omega arith) (sd .bankA) (λ x m. absurd (in-none x m))
+  module _ {cs1 q1 cs2 q2 : List ℕ} (one : SeedQueued (new e) ns ds ws cs cs1 queue q1 n (e .a)) (two : SeedQueued (new e) ns ds ws cs cs2 q1 q2 n (e .b)) where
+    pub turn-a : Turning (searchOf (new e) cs q2) ns ds ws cs2 q2 n (e .a) (before .a) 0
+    turn-a = turn-start (e .a) (before .a) (two .counts) (sd .bankA)
 
-  module _ {q q1 : List ℕ} {one : ℕ} (put1 : Enqueued (new e) q q1 0 0 (e .a) one) where
-    pub line-b : Line (new e) ds q1 0 one (e .b)
-    line-b = line-of (sd .shown) (put1 .queue) (omega arith) (sd .bankB) (λ x m. absurd (in-none x m))
+    module _ {cs3 q3 : List ℕ} (ta : Turning (searchOf (new e) cs q2) ns ds ws cs3 q3 n (e .a) (before .a) (getD ds (e .a) 0)) where
+      pub turn-b : Turning (searchOf (new e) cs q3) ns ds ws cs3 q3 n (e .b) (before .b) 0
+      turn-b = turn-start (e .b) (before .b) (ta .counts) (sd .bankB)
 
-    module _ {q2 : List ℕ} {two : ℕ} (put2 : Enqueued (new e) q1 q2 0 one (e .b) two) where
-      pub turn-a : Turning (record { graph = new e; given = take two q2 }) ns ds q2 two (e .a) (before .a) 0
-      turn-a = turn-start (e .a) (before .a) (sd .shown) (sd .bankA) (put2 .queue)
-
-      module _ {q3 : List ℕ} {three : ℕ} (ta : Turning (record { graph = new e; given = take two q2 }) ns ds q3 three (e .a) (before .a) (getD ds (e .a) 0)) where
-        pub turn-b : Turning (record { graph = new e; given = take three q3 }) ns ds q3 three (e .b) (before .b) 0
-        turn-b = turn-start (e .b) (before .b) (sd .shown) (sd .bankB) (ta .queue)
-
-        pub seeded : {q4 : List ℕ} {four : ℕ} → Turning (record { graph = new e; given = take three q3 }) ns ds q4 four (e .b) (before .b) (getD ds (e .b) 0) → Seeded e q4 four
-        unfolding seed isNamed
-        seeded {q4} {four} tb = record {
-          queue = tb .queue;
-          seeds = λ x l. tb .members x
-              ∙ ap (λ (t : Bool). t || (memb x (take (getD ds (e .b) 0) (neighbours G (e .b))) && turnedFrom ds (before .b) (e .b) x)) (ta .members x
-              ∙ ap (λ (t : Bool). t || (memb x (take (getD ds (e .a) 0) (neighbours G (e .a))) && turnedFrom ds (before .a) (e .a) x)) (put2 .members x
-              ∙ ap (λ (t : Bool). t || eqb x (e .b)) (put1 .members x ∙ ap (λ (t : Bool). t || eqb x (e .a)) (memb-none x))))
-              ∙ seed-parts (eqb x (e .a)) (eqb x (e .b)) _ _ (turned (e .old) G (e .a) x) (turned (e .old) G (e .b) x)
-              (λ f. turned-is (e .a) (before .a) x (sd .bankA) (sd .degreeA) l (λ k. f (or-l (eqb x (e .a)) (eqb x (e .b)) (eq→eqb x (e .a) k))) (λ k. f (or-r (eqb x (e .a)) (eqb x (e .b)) (eq→eqb x (e .b) k))))
-              (λ f. turned-is (e .b) (before .b) x (sd .bankB) (sd .degreeB) l (λ k. f (or-l (eqb x (e .a)) (eqb x (e .b)) (eq→eqb x (e .a) k))) (λ k. f (or-r (eqb x (e .a)) (eqb x (e .b)) (eq→eqb x (e .b) k))));
-        }
+      pub seeded : {cs4 q4 : List ℕ} → Turning (searchOf (new e) cs q3) ns ds ws cs4 q4 n (e .b) (before .b) (getD ds (e .b) 0) → Seeded e ns ds ws cs cs4 q4 n
+      unfolding seed isNamed
+      seeded {cs4} {q4} tb = record {
+        counts = tb .counts;
+        seeds = λ x h.
+            let l : x < G .banks = omega (arith, sd .counts .banks) in
+            let la : e .a < G .banks = omega (arith, sd .bankA, sd .counts .banks) in
+            let lb : e .b < G .banks = omega (arith, sd .bankB, sd .counts .banks) in
+            tb .members x h
+            ∙ ap (λ (t : Bool). t || (memb x (take (getD ds (e .b) 0) (neighbours G (e .b))) && turnedFrom ds (before .b) (e .b) x)) (ta .members x h
+            ∙ ap (λ (t : Bool). t || (memb x (take (getD ds (e .a) 0) (neighbours G (e .a))) && turnedFrom ds (before .a) (e .a) x)) (two .put .members x l
+            ∙ ap (λ (t : Bool). t || eqb x (e .b)) (one .put .members x l ∙ ap (λ (t : Bool). t || eqb x (e .a)) (sd .empty x))))
+            ∙ seed-parts (eqb x (e .a)) (eqb x (e .b)) _ _ (turned (e .old) G (e .a) x) (turned (e .old) G (e .b) x)
+            (λ f. turned-is (e .a) (before .a) x la (sd .degreeA) l (λ k. f (or-l (eqb x (e .a)) (eqb x (e .b)) (eq→eqb x (e .a) k))) (λ k. f (or-r (eqb x (e .a)) (eqb x (e .b)) (eq→eqb x (e .b) k))))
+            (λ f. turned-is (e .b) (before .b) x lb (sd .degreeB) l (λ k. f (or-l (eqb x (e .a)) (eqb x (e .b)) (eq→eqb x (e .a) k))) (λ k. f (or-r (eqb x (e .a)) (eqb x (e .b)) (eq→eqb x (e .b) k))));
+      }

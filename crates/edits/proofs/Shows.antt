@@ -8,13 +8,13 @@ use lib.Dec.{T, eqb, ltb}
 use lib.ListN.{length, getD, take, drop, take-append-drop}
 use lib.Seq.{take-all}
 use Rattle.rule.specs.Lists.{memb, Sorted}
-use Rattle.rule.specs.Graph.{Graph, neighbours, degree, earlier, earlierNeighbours}
+use Rattle.rule.specs.Graph.{Graph, neighbours, degree, earlierNeighbours}
 use Rattle.rule.proofs.Lists.{in-head}
 use Rattle.rule.proofs.Neighbours.{degree-length, neighbours-in, neighbours-sorted, fewer-earlier}
 use Rattle.rule.proofs.Order.{ltb-strict}
 use Rattle.memory.specs.View.{Shown}
 use Rattle.memory.proofs.Fronts.{take-next, drop-next, in-cell, memb-snoc}
-use Rattle.edits.specs.Queue.{Queued, Line}
+use Rattle.edits.specs.Queue.{Keyed, Queue, Enqueuable}
 use Rattle.edits.proofs.SortedLists.{sorted-apart}
 
 module _ {G : Graph} {ns ds : List ℕ} (sh : Shown G ns ds) where
@@ -24,9 +24,12 @@ module _ {G : Graph} {ns ds : List ℕ} (sh : Shown G ns ds) where
   pub whole-row : (h : ℕ) → h < G .banks → take (getD ds h 0) (neighbours G h) ≡ neighbours G h
   whole-row h bank = take-all (getD ds h 0) (neighbours G h) (omega (arith, sh .degrees h bank, degree-length G h))
 
-  -- one more bank for the queue
-  pub line-of : {q : List ℕ} {from end v : ℕ} → Queued G q end → from ≤ end → v < G .banks → ((x : ℕ) → T (memb x (take from q)) → T (earlier G x v)) → Line G ds q from end v
-  line-of qd order bank before = record { wide-degrees = sh .wide-degrees; degrees = sh .degrees; queue = qd; order = order; bank = bank; before = before }
+  -- the banks have a place in the queue
+  pub keyed : Keyed G ds
+  keyed = record { few = sh .few; small = sh .small; wide-degrees = sh .wide-degrees; degrees = sh .degrees }
+
+  pub enqueuable-of : {queue : List ℕ} {v : ℕ} → Queue G queue → v < G .banks → Enqueuable G ds queue v
+  enqueuable-of q bank = record { keyed = keyed; queue = q; bank = bank }
 
   module _ (h i : ℕ) (bank : h < G .banks) (lt : i < getD ds h 0) where
     abbrev v : ℕ

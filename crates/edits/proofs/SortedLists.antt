@@ -2,15 +2,15 @@
 use mathlib.Core.Bool.{Bool, true, _&&_, _||_, not}
 use mathlib.Core.List.{List, [], _∷_, _++_}
 use mathlib.Core.Logic.{inl, inr}
-use mathlib.Core.Path.{_≡_, refl, sym, subst}
+use mathlib.Core.Path.{_≡_, refl}
 use Prim.Native.Nat.{ℕ, zero, suc, _≤_, _<_}
 use native.Mathlib.Omega.{arith}
 use lib.Dec.{T, eqb, eqb→eq, not-T, T-not}
-use lib.ListN.{length, getD, take, drop, take-append-drop}
+use lib.ListN.{length, getD}
 use Rattle.rule.specs.Lists.{filter, memb, upto, Sorted}
 use Rattle.rule.proofs.Booleans.{and-l, and-r, both, or-l, or-r, or-cases, test-ext, eq→eqb}
 use Rattle.rule.proofs.Lists.{in-head, in-tail, in-cons, in-none, in-append, in-append-l, in-append-r, in-upto, count-lt, filter-true, length-upto}
-use Rattle.memory.proofs.Fronts.{in-cell, in-cut, in-drop}
+use Rattle.memory.proofs.Fronts.{in-cell}
 
 module _ (R : ℕ → ℕ → Bool) where
   pub sorted-cut : (xs ys : List ℕ) → Sorted R (xs ++ ys) → (x y : ℕ) → T (memb x xs) → T (memb y ys) → T (R x y)
@@ -50,17 +50,6 @@ module _ (R : ℕ → ℕ → Bool) where
   module _ (irrefl : (x : ℕ) → T (R x x) → ⊥) where
     pub sorted-apart : (xs ys : List ℕ) (x : ℕ) → Sorted R (xs ++ ys) → T (memb x xs) → T (memb x ys) → ⊥
     sorted-apart xs ys x s a b = irrefl x (sorted-cut xs ys s x x a b)
-
-    -- what is left after a front: the members that are not in the front
-    pub rest-memb : (k : ℕ) (xs : List ℕ) → Sorted R xs → (x : ℕ) → memb x (drop k xs) ≡ (memb x xs && not (memb x (take k xs)))
-    rest-memb k xs s x =
-        test-ext (memb x (drop k xs)) (memb x xs && not (memb x (take k xs)))
-        (λ m. both (memb x xs) (not (memb x (take k xs))) (in-drop k xs x m)
-        (not-T (memb x (take k xs)) (λ t. sorted-apart (take k xs) (drop k xs) x (subst (Sorted R) (sym (take-append-drop k xs)) s) t m)))
-        (λ t. elim (in-cut k xs x (and-l (memb x xs) (not (memb x (take k xs))) t)) [
-          | inl u ↦ absurd (T-not (memb x (take k xs)) (and-r (memb x xs) (not (memb x (take k xs))) t) u)
-          | inr u ↦ u
-        ])
 
     -- no longer than what it is taken from
     short : (p : ℕ → Bool) (zs xs : List ℕ) → Sorted R xs → ((x : ℕ) → T (memb x xs) → T (memb x zs)) → ((x : ℕ) → T (memb x xs) → T (p x)) → length xs ≤ length (filter p zs)

@@ -1,57 +1,67 @@
--- The queue of an edit: banks in the rule order.
-use mathlib.Core.Bool.{true, false, _||_}
+-- The priority queue of an edit: a bit for each degree and number, in the rule order. The bit of bank x is bit x % 64 of word 16 * (23 - its degree) + x / 64.
+use mathlib.Core.Bool.{Bool, _&&_, _||_, not}
 use mathlib.Core.List.{List}
 use mathlib.Core.Path.{_≡_}
-use Prim.Native.Nat.{ℕ, _+_, _-_, _<_, _≤_}
+use Prim.Native.Nat.{ℕ, _+_, _*_, _-_, _/_, _%_, _^_, _<_, _≤_}
 use lib.Dec.{T, eqb}
-use lib.ListN.{length, getD, take}
-use Rattle.rule.specs.Lists.{memb, Sorted}
+use lib.ListN.{length, getD}
 use Rattle.rule.specs.Graph.{Graph, degree, earlier}
-use Rattle.memory.specs.Counts.{byCells}
-use Rattle.edits.specs.declared.queue.Span.{Span}
 
--- the first `end` cells are banks of G, in its order
-pub record Queued (G : Graph) (q : List ℕ) (end : ℕ) : Type 0 where
-  pub room : end ≤ G .banks
-  pub wide-queue : G .banks ≤ length q
-  pub names : (x : ℕ) → T (memb x (take end q)) → x < G .banks
-  pub sorted : Sorted (earlier G) (take end q)
+-- bit k of a number
+unfoldable pub bit : ℕ → ℕ → Bool
+bit a k = eqb (a / 2 ^ k % 2) 1
 
--- v can be put into the first `end` cells, from `from` on: those before it come before v
-pub record Line (G : Graph) (ds q : List ℕ) (from end v : ℕ) : Type 0 where
+-- the word of a bank's bit
+abbrev pub wordOf : Graph → ℕ → ℕ
+wordOf G x = (23 - degree G x) * 16 + x / 64
+
+-- bank x is in the queue
+unfoldable pub waits : Graph → List ℕ → ℕ → Bool
+waits G words x = bit (getD words (wordOf G x) 0) (x % 64)
+
+-- the degrees of G can be told by 24 numbers, its banks by 1,024, and the cells hold the degrees
+pub record Keyed (G : Graph) (ds : List ℕ) : Type 0 where
+  pub few : G .banks ≤ 1024
+  pub small : (b : ℕ) → b < G .banks → degree G b ≤ 23
   pub wide-degrees : G .banks ≤ length ds
   pub degrees : (b : ℕ) → b < G .banks → getD ds b 0 ≡ degree G b
-  pub queue : Queued G q end
-  pub order : from ≤ end
+
+-- the set bits are those of banks of G
+pub record Queue (G : Graph) (words : List ℕ) : Type 0 where
+  pub long : length words ≡ 384
+  pub fits : (i : ℕ) → getD words i 0 < 2 ^ 64
+  pub names : (i k : ℕ) → k < 64 → T (bit (getD words i 0) k) → (i % 16 * 64 + k < G .banks) × (i ≡ wordOf G (i % 16 * 64 + k))
+
+-- v can be put into the queue
+pub record Enqueuable (G : Graph) (ds words : List ℕ) (v : ℕ) : Type 0 where
+  pub keyed : Keyed G ds
+  pub queue : Queue G words
   pub bank : v < G .banks
-  pub before : (x : ℕ) → T (memb x (take from q)) → T (earlier G x v)
 
--- v is among the first r cells, with what stood in the first `end`; those before `from` stay
-pub record Enqueued (G : Graph) (old new : List ℕ) (from end v r : ℕ) : Type 0 where
-  pub queue : Queued G new r
-  pub low : end ≤ r
-  pub kept : take from new ≡ take from old
-  pub members : (x : ℕ) → memb x (take r new) ≡ (memb x (take end old) || eqb x v)
+-- v is in the queue, with those that were
+pub record Enqueued (G : Graph) (old new : List ℕ) (v : ℕ) : Type 0 where
+  pub queue : Queue G new
+  pub members : (x : ℕ) → x < G .banks → waits G new x ≡ (waits G old x || eqb x v)
 
--- r is the first place from `from` on whose bank is not earlier than v, by the degree cells
-pub record Placed (ds q : List ℕ) (from end v r : ℕ) : Type 0 where
+-- r is the first word from `from` on that is not 0, or 384 if none is
+pub record First (words : List ℕ) (from r : ℕ) : Type 0 where
   pub low : from ≤ r
-  pub high : r ≤ end
-  pub after : from < r → byCells ds (getD q (r - 1) 0) v ≡ true
-  pub until : r < end → byCells ds (getD q r 0) v ≡ false
+  pub high : r ≤ 384
+  pub none : (i : ℕ) → from ≤ i → i < r → getD words i 0 ≡ 0
+  pub some : r < 384 → getD words r 0 ≡ 0 → ⊥
 
--- the half r of a span: those that it leaves out below are earlier than v, and those above are not, by the degree cells
-pub record Halved (ds q : List ℕ) (span : Span) (v : ℕ) (r : Span) : Type 0 where
-  pub less : r .high - r .low < span .high - span .low
-  pub low : span .low ≤ r .low
-  pub ordered : r .low ≤ r .high
-  pub high : r .high ≤ span .high
-  pub after : (i : ℕ) → i + 1 ≡ r .low → span .low ≤ i → byCells ds (getD q i 0) v ≡ true
-  pub until : (i : ℕ) → i ≡ r .high → i < span .high → byCells ds (getD q i 0) v ≡ false
+-- a bank waits, the earliest in this word
+pub record Head (G : Graph) (ds words : List ℕ) (word : ℕ) : Type 0 where
+  pub keyed : Keyed G ds
+  pub queue : Queue G words
+  pub first : First words 0 word
+  pub inside : word < 384
 
--- v put at `at`, and what stood from there to `end` one cell on
-pub record Inserted (old new : List ℕ) (at end v : ℕ) : Type 0 where
-  pub below : (j : ℕ) → j < at → getD new j 0 ≡ getD old j 0
-  pub here : getD new at 0 ≡ v
-  pub above : (j : ℕ) → at < j → j < end + 1 → getD new j 0 ≡ getD old (j - 1) 0
-  pub beyond : (j : ℕ) → end < j → getD new j 0 ≡ getD old j 0
+-- h, the earliest bank of the queue, is out of it
+pub record Dequeued (G : Graph) (old new : List ℕ) (word h : ℕ) : Type 0 where
+  pub queue : Queue G new
+  pub bank : h < G .banks
+  pub here : word ≡ wordOf G h
+  pub waited : T (waits G old h)
+  pub earliest : (x : ℕ) → x < G .banks → T (waits G old x) → T (earlier G x h) → ⊥
+  pub members : (x : ℕ) → x < G .banks → waits G new x ≡ (waits G old x && not (eqb x h))

@@ -1,5 +1,5 @@
 -- The seeds of an edit: the banks that it takes up whatever the waves become.
-use mathlib.Core.Bool.{Bool, _&&_, _||_, not, Bool·beq}
+use mathlib.Core.Bool.{Bool, false, _&&_, _||_, not, Bool·beq}
 use mathlib.Core.List.{List}
 use mathlib.Core.Path.{_≡_}
 use Prim.Native.Nat.{ℕ, _<_}
@@ -9,37 +9,38 @@ use Rattle.rule.specs.Order.{earlierBy}
 use Rattle.rule.specs.Graph.{Graph, neighbours, degree}
 use Rattle.rule.specs.WorkList.{OneEdit, seed}
 use Rattle.memory.specs.Counts.{byCells}
-use Rattle.memory.specs.View.{Shown}
 use Rattle.edits.specs.declared.rows.Degrees.{Degrees}
-use Rattle.edits.specs.Queue.{Queued}
+use Rattle.edits.specs.Queue.{waits}
+use Rattle.edits.specs.Recount.{Recounting}
 use Rattle.edits.specs.Work.{Edit, new}
 
 -- the order of x and y is not what it was when y had the degree d, by the degree cells
 unfoldable pub turnedFrom : List ℕ → ℕ → ℕ → ℕ → Bool
 turnedFrom ds d y x = not (Bool·beq (earlierBy (getD ds x 0) x d y) (byCells ds x y))
 
--- what the search for turned neighbours starts from: the clashes, and the queue's banks
+-- what the search for turned neighbours starts from: the clashes, Counts before the edit, and the queue's banks
 pub record Search : Type 0 where
   pub graph : Graph
-  pub given : List ℕ
+  pub counts : List ℕ
+  pub given : ℕ → Bool
 
--- of the first i neighbours of y, which had the degree d, those whose order turned are queued
-pub record Turning (s : Search) (ns ds q : List ℕ) (end y d i : ℕ) : Type 0 where
-  pub shown : Shown (s .graph) ns ds
-  pub bank : y < s .graph .banks
-  pub queue : Queued (s .graph) q end
-  pub members : (x : ℕ) → memb x (take end q) ≡ (memb x (s .given) || (memb x (take i (neighbours (s .graph) y)) && turnedFrom ds d y x))
+-- of the first i neighbours of y, which had the degree d, those whose order turned are queued, and Counts of all queued are counted anew
+pub record Turning (s : Search) (ns ds ws cs q : List ℕ) (n y d i : ℕ) : Type 0 where
+  pub counts : Recounting (s .graph) ns ds ws (s .counts) cs q n
+  pub bank : y < n
+  pub members : (x : ℕ) → x < n → waits (s .graph) q x ≡ (s .given x || (memb x (take i (neighbours (s .graph) y)) && turnedFrom ds d y x))
 
--- rows and degrees are those of the new clashes, and a and b had these degrees before
-pub record Seedable (e : Edit) (ns ds : List ℕ) (before : Degrees) : Type 0 where
+-- rows and degrees are those of the new clashes, a and b had these degrees before, and the queue is empty
+pub record Seedable (e : Edit) (ns ds ws cs q : List ℕ) (n : ℕ) (before : Degrees) : Type 0 where
   pub edit : OneEdit (e .old) (new e) (e .a) (e .b)
-  pub shown : Shown (new e) ns ds
-  pub bankA : e .a < new e .banks
-  pub bankB : e .b < new e .banks
+  pub counts : Recounting (new e) ns ds ws cs cs q n
+  pub empty : (x : ℕ) → waits (new e) q x ≡ false
+  pub bankA : e .a < n
+  pub bankB : e .b < n
   pub degreeA : before .a ≡ degree (e .old) (e .a)
   pub degreeB : before .b ≡ degree (e .old) (e .b)
 
--- the first `end` cells of the queue are the seeds
-pub record Seeded (e : Edit) (q : List ℕ) (end : ℕ) : Type 0 where
-  pub queue : Queued (new e) q end
-  pub seeds : (x : ℕ) → x < new e .banks → memb x (take end q) ≡ seed (e .old) (new e) (e .a) (e .b) x
+-- the queue has the seeds, and their Counts are counted anew
+pub record Seeded (e : Edit) (ns ds ws cs cs′ q : List ℕ) (n : ℕ) : Type 0 where
+  pub counts : Recounting (new e) ns ds ws cs cs′ q n
+  pub seeds : (x : ℕ) → x < n → waits (new e) q x ≡ seed (e .old) (new e) (e .a) (e .b) x

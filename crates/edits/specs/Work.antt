@@ -1,22 +1,22 @@
 -- The work-list part of an edit: what `can_step` and its three parts do to the cells, and the state between two of its calls.
 use mathlib.Core.Bool.{Bool, true, cond, not, _&&_, _||_}
 use mathlib.Core.List.{List, map}
-use mathlib.Core.Logic.{_⊎_, _≢_}
+use mathlib.Core.Logic.{_≢_}
 use mathlib.Core.Path.{_≡_}
 use Prim.Native.Nat.{ℕ, _+_, _*_, _-_, _<_, _≤_}
 use lib.Dec.{T, eqb, ltb}
-use lib.ListN.{length, getD, take, drop, set}
-use Rattle.rule.specs.Lists.{upto, filter, memb}
+use lib.ListN.{length, getD, take, set}
+use Rattle.rule.specs.Lists.{upto, filter, memb, Sorted}
 use Rattle.rule.specs.Graph.{Graph, neighbours, earlier, earlierNeighbours}
 use Rattle.rule.specs.Wave.{lowestFree, wave, waves}
 use Rattle.rule.specs.Reach.{Kind, edited, changed, moved}
-use Rattle.rule.specs.WorkList.{OneEdit, WorkList, taken}
+use Rattle.rule.specs.WorkList.{OneEdit, WorkList, Next, taken}
 use Rattle.memory.specs.Cells.{Beyond, over}
 use Rattle.memory.specs.Plan.{countCells}
 use Rattle.memory.specs.View.{Shown, Counted}
 use Rattle.edits.specs.declared.can_step.Progress.{Progress}
 use Rattle.edits.specs.Lent.{Lent}
-use Rattle.edits.specs.Queue.{Queued}
+use Rattle.edits.specs.Queue.{waits, Queue, First}
 
 -- a set of waves, in 24 cells: those whose cell is not 0
 unfoldable pub wavesIn : List ℕ → List ℕ
@@ -58,38 +58,32 @@ pub record Movable (cs : List ℕ) (v o w : ℕ) : Type 0 where
 abbrev pub oneMoved : List ℕ → ℕ → ℕ → ℕ → List ℕ
 oneMoved cs v o w = set (set cs (v * 24 + o) (getD cs (v * 24 + o) 0 - 1)) (v * 24 + w) (getD cs (v * 24 + w) 0 + 1)
 
--- what notifying asks: if b changed, it went from wave o to another, w; each later neighbour has a count in o, and goes behind the queue's
--- first `from`
-pub record Notifiable (G : Graph) (ns ds cs q : List ℕ) (from end b : ℕ) (changed : Bool) (o w : ℕ) : Type 0 where
+-- what notifying asks: if b changed, it went from wave o to another, w; each later neighbour has a count in o
+pub record Notifiable (G : Graph) (ns ds cs q : List ℕ) (b : ℕ) (changed : Bool) (o w : ℕ) : Type 0 where
   pub shown : Shown G ns ds
   pub bank : b < G .banks
   pub differ : T changed → o ≢ w
   pub movable : (x : ℕ) → T (laterNeighbour G b x) → Movable cs x o w
-  pub queue : Queued G q end
-  pub order : from ≤ end
-  pub front : (x : ℕ) → T (memb x (take from q)) → T (earlier G x b) ⊎ (x ≡ b)
+  pub queue : Queue G q
 
 -- what notifying these banks does (000, definition 4.9): of each one count goes from wave o to w, and every other cell of Counts stays; each is
--- queued with those that were, and the queue's first `from` stay
-pub record Notified (G : Graph) (cs cs′ q q′ : List ℕ) (from end end′ o w : ℕ) (these : ℕ → Bool) : Type 0 where
+-- queued with those that were
+pub record Notified (G : Graph) (cs cs′ q q′ : List ℕ) (o w : ℕ) (these : ℕ → Bool) : Type 0 where
   pub long : length cs′ ≡ length cs
   pub counts : (x c : ℕ) → c < 24 → getD cs′ (x * 24 + c) 0 ≡ cond (these x) (getD (oneMoved cs x o w) (x * 24 + c) 0) (getD cs (x * 24 + c) 0)
-  pub queue : Queued G q′ end′
-  pub order : end ≤ end′
-  pub kept : take from q′ ≡ take from q
-  pub members : (x : ℕ) → memb x (take end′ q′) ≡ (memb x (take end q) || these x)
+  pub queue : Queue G q′
+  pub members : (x : ℕ) → x < G .banks → waits G q′ x ≡ (waits G q x || these x)
 
 -- what the notifying of a bank's later neighbours starts from: the clashes, Counts and the queue
 pub record Notice : Type 0 where
   pub graph : Graph
   pub counts : List ℕ
   pub queue : List ℕ
-  pub end : ℕ
 
 -- of the first i neighbours of b the later ones are notified
-pub record Notifying (s : Notice) (ns ds cs q : List ℕ) (from end b o w i : ℕ) : Type 0 where
-  pub start : Notifiable (s .graph) ns ds (s .counts) (s .queue) from (s .end) b true o w
-  pub made : Notified (s .graph) (s .counts) cs (s .queue) q from (s .end) end o w (λ x. memb x (take i (neighbours (s .graph) b)) && earlier (s .graph) b x)
+pub record Notifying (s : Notice) (ns ds cs q : List ℕ) (b o w i : ℕ) : Type 0 where
+  pub start : Notifiable (s .graph) ns ds (s .counts) (s .queue) b true o w
+  pub made : Notified (s .graph) (s .counts) cs (s .queue) q o w (λ x. memb x (take i (neighbours (s .graph) b)) && earlier (s .graph) b x)
 
 -- an edit: its kind, the old clashes, the two banks, and the slices as it found them
 pub record Edit : Type 0 where
@@ -103,30 +97,37 @@ pub record Edit : Type 0 where
 abbrev pub new : Edit → Graph
 new e = edited (e .kind) (e .old) (e .a) (e .b)
 
--- the first p.taken of the queue are taken up, the others of its first p.queued wait
+-- the banks taken up so far: the trail's front
+abbrev pub done : Lent → Progress → List ℕ
+done m p = take (p .taken) (m .trail)
+
+-- the done banks have their rule waves under the new clashes, the others their old ones; those in the queue wait, the first of them in word p.word
 pub record Working (e : Edit) (m : Lent) (q : List ℕ) (p : Progress) : Type 0 where
   pub edit : OneEdit (e .old) (new e) (e .a) (e .b)
   pub shown : Shown (new e) (m .neighbours) (m .degrees)
-  pub queue : Queued (new e) q (p .queued)
-  pub order : p .taken ≤ p .queued
-  pub list : WorkList (e .old) (new e) (e .a) (e .b) (λ x. memb x (take (p .taken) q)) (λ x. memb x (drop (p .taken) (take (p .queued) q)))
+  pub queue : Queue (new e) q
+  pub first : First q 0 (p .word)
+  pub list : WorkList (e .old) (new e) (e .a) (e .b) (λ x. memb x (done m p)) (waits (new e) q)
   pub wide-waves : new e .banks ≤ length (m .waves)
-  pub stored : (x : ℕ) → x < new e .banks → getD (m .waves) x 0 ≡ cond (memb x (take (p .taken) q)) (wave (new e) x) (wave (e .old) x)
+  pub stored : (x : ℕ) → x < new e .banks → getD (m .waves) x 0 ≡ cond (memb x (done m p)) (wave (new e) x) (wave (e .old) x)
   pub small : (x : ℕ) → x < new e .banks → wave (e .old) x < 24
   pub wavesBeyond : Beyond (new e .banks) (m .waves) (e .was .waves)
   pub counted : Counted (new e) (m .counts) (λ b v. getD (m .waves) v 0)
   pub countsBeyond : Beyond (new e .banks * 24) (m .counts) (e .was .counts)
   pub wide-trail : new e .banks ≤ length (m .trail)
-  pub trailed : take (p .taken) (m .trail) ≡ take (p .taken) q
+  pub room : p .taken ≤ new e .banks
+  pub names : (x : ℕ) → T (memb x (done m p)) → x < new e .banks
+  pub sorted : Sorted (earlier (new e)) (done m p)
   pub trailBeyond : Beyond (p .taken) (m .trail) (e .was .trail)
   pub wide-moved : new e .banks ≤ length (m .moved)
   pub few : p .moved ≤ p .taken
-  pub moves : take (p .moved) (m .moved) ≡ filter (changed (e .old) (new e)) (take (p .taken) q)
+  pub moves : take (p .moved) (m .moved) ≡ filter (changed (e .old) (new e)) (done m p)
   pub movedBeyond : Beyond (p .moved) (m .moved) (e .was .moved)
 
--- what one call does, for the bank h at the head of the queue: h gets the lowest wave that no earlier neighbour holds; every other wave and
--- the trail so far stay; h stands at the trail's end, which is one further on
-pub record Treated (G : Graph) (m m′ : Lent) (h : ℕ) (p p′ : Progress) : Type 0 where
+-- what one call does, for the bank h that is next: h gets the lowest wave that no earlier neighbour holds; every other wave and the trail so
+-- far stay; h stands at the trail's end, which is one further on
+pub record Treated (G : Graph) (m m′ : Lent) (q : List ℕ) (h : ℕ) (p p′ : Progress) : Type 0 where
+  pub next : Next G (waits G q) h
   pub own : getD (m′ .waves) h 0 ≡ lowestFree (collected G (m .waves) h)
   pub others : (x : ℕ) → x ≢ h → getD (m′ .waves) x 0 ≡ getD (m .waves) x 0
   pub one : p′ .taken ≡ p .taken + 1

@@ -2,20 +2,23 @@
 use crate::assign::assign_colour;
 use crate::collect::collect_colours;
 use crate::notify::notify_colours;
+use crate::queue::WORDS;
+use crate::queue::dequeue;
+use crate::queue::next_word;
 use rule::Bank;
 use rule::Wave;
 ghost use mathlib.Core.Bool.{cond};
 ghost use mathlib.Core.Path.{_≡_};
-ghost use Prim.Native.Nat.{_+_, _<_};
-ghost use lib.ListN.{length, getD, set};
+ghost use Prim.Native.Nat.{ℕ, _+_, _<_};
+ghost use lib.ListN.{length, set};
 ghost use Rattle.edits.specs.Lent.{lentOf};
 ghost use Rattle.edits.specs.Work.{Edit, new, Working, Treated};
 
-// How far an edit is: queue[..taken] is done, queue[taken..queued] waits, and `moved` banks changed their wave.
+// How far an edit is: so many banks are taken up, and so many of them changed their wave. The queue's first word that is not 0 is `word`.
 pub struct Progress {
     pub taken: usize,
-    pub queued: usize,
     pub moved: usize,
+    pub word: usize,
 }
 
 // Puts b at the end of the moved list if it changed. Answers the list's length.
@@ -31,7 +34,7 @@ fn list_moved(moved: &mut [u16], count: usize, b: Bank, changed: bool) -> usize
     count + 1
 }
 
-// Takes up the queue's first bank: puts it at the trail's end, collects, assigns, puts it at the end of moved if its wave changed, and notifies.
+// Takes up the earliest bank of the queue: puts it at the trail's end, collects, assigns, puts it at the end of moved if its wave changed, and notifies.
 pub fn can_step(
     neighbours: &[u16],
     degrees: &[u16],
@@ -39,19 +42,19 @@ pub fn can_step(
     counts: &mut [u16],
     trail: &mut [u16],
     moved: &mut [u16],
-    queue: &mut [u16],
+    queue: &mut [u64; WORDS],
     p: Progress,
 ) -> Progress
     requires { ⌜ ((e : Edit) × Working e (lentOf (now neighbours) (now degrees) (now waves) (now counts) (now trail) (now moved)) (now queue) p) ⌝ }
-    requires { ⌜ p .taken < p .queued ⌝ }
-    ensures { λ r. ⌜ ((e : Edit) → Working e (lentOf (now (neighbours .entry)) (now (degrees .entry)) (now (waves .entry)) (now (counts .entry)) (now (trail .entry)) (now (moved .entry))) (now (queue .entry)) p → Treated (new e) (lentOf (now (neighbours .entry)) (now (degrees .entry)) (now (waves .entry)) (now (counts .entry)) (now (trail .entry)) (now (moved .entry))) (lentOf (now (neighbours .entry)) (now (degrees .entry)) (now (waves .exit)) (now (counts .exit)) (now (trail .exit)) (now (moved .exit))) (getD (now (queue .entry)) (p .taken) 0) p r) ⌝ }
+    requires { ⌜ p .word < 384 ⌝ }
+    ensures { λ r. ⌜ ((e : Edit) → Working e (lentOf (now (neighbours .entry)) (now (degrees .entry)) (now (waves .entry)) (now (counts .entry)) (now (trail .entry)) (now (moved .entry))) (now (queue .entry)) p → (h : ℕ) × Treated (new e) (lentOf (now (neighbours .entry)) (now (degrees .entry)) (now (waves .entry)) (now (counts .entry)) (now (trail .entry)) (now (moved .entry))) (lentOf (now (neighbours .entry)) (now (degrees .entry)) (now (waves .exit)) (now (counts .exit)) (now (trail .exit)) (now (moved .exit))) (now (queue .entry)) h p r) ⌝ }
     ensures { λ r. ⌜ ((e : Edit) → Working e (lentOf (now (neighbours .entry)) (now (degrees .entry)) (now (waves .entry)) (now (counts .entry)) (now (trail .entry)) (now (moved .entry))) (now (queue .entry)) p → Working e (lentOf (now (neighbours .entry)) (now (degrees .entry)) (now (waves .exit)) (now (counts .exit)) (now (trail .exit)) (now (moved .exit))) (now (queue .exit)) r) ⌝ }
 {
     let taken = p.taken;
-    let queued = p.queued;
     let changes = p.moved;
+    let word = p.word;
     let next = taken + 1;
-    let b = Bank(queue[taken]);
+    let b = dequeue(queue, word);
     let at = b.0 as usize;
     trail[taken] = b.0;
     let old = Wave(waves[at]);
@@ -59,21 +62,11 @@ pub fn can_step(
     let changed = assign_colour(waves, b, colours);
     let new = Wave(waves[at]);
     let moves = list_moved(moved, changes, b, changed);
-    let end = notify_colours(
-        neighbours,
-        degrees,
-        counts,
-        queue,
-        next,
-        queued,
-        b,
-        changed,
-        old,
-        new,
-    );
+    notify_colours(neighbours, degrees, counts, queue, b, changed, old, new);
+    let first = next_word(queue, word);
     Progress {
         taken: next,
-        queued: end,
         moved: moves,
+        word: first,
     }
 }

@@ -1,6 +1,7 @@
 // The edits, on memory that holds a plan, where no refusal is due.
 use crate::can_step::Progress;
-use crate::recount::recount;
+use crate::queue::WORDS;
+use crate::queue::next_word;
 use crate::rows::Degrees;
 use crate::rows::insert_clash;
 use crate::rows::remove_clash;
@@ -9,7 +10,6 @@ use crate::settle::settle;
 use memory::Tally;
 use memory::wave_count;
 use rule::Bank;
-use rule::MOST_BANKS;
 ghost use Rattle.rule.specs.Graph.{Graph};
 ghost use Rattle.rule.specs.Reach.{adding, striking};
 ghost use Rattle.edits.specs.Lent.{lentOf};
@@ -41,13 +41,23 @@ fn propagate(
     requires { ⌜ ((o : Origin) × Changed (editAt o (a .0) (b .0)) (lentOf (now neighbours) (now degrees) (now waves) (now counts) (now trail) (now moved)) before banks clashes) ⌝ }
     ensures { λ r. ⌜ ((o : Origin) → Changed (editAt o (a .0) (b .0)) (lentOf (now (neighbours .entry)) (now (degrees .entry)) (now (waves .entry)) (now (counts .entry)) (now (trail .entry)) (now (moved .entry))) before banks clashes → Result (o .kind) (o .graph) (a .0) (b .0) (o .lent) (lentOf (now (neighbours .entry)) (now (degrees .entry)) (now (waves .exit)) (now (counts .exit)) (now (trail .exit)) (now (moved .exit))) r) ⌝ }
 {
-    let mut queue = [0u16; MOST_BANKS];
-    let queued = queue_seeds(neighbours, degrees, &mut queue, a, b, before);
-    recount(neighbours, degrees, waves, counts, banks, &queue, queued);
+    let mut queue = [0u64; WORDS];
+    queue_seeds(
+        neighbours,
+        degrees,
+        waves,
+        counts,
+        &mut queue,
+        banks,
+        a,
+        b,
+        before,
+    );
+    let first = next_word(&queue, 0);
     let start = Progress {
         taken: 0,
-        queued: queued,
         moved: 0,
+        word: first,
     };
     let done = settle(
         neighbours,

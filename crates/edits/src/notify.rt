@@ -1,5 +1,6 @@
 // Operator NC of 000 (definition 4.9; NotifyColor in algorithm 2): notifies a bank's later neighbours that its colour changed. Their Counts learn
 // it, and they are queued.
+use crate::queue::WORDS;
 use crate::queue::enqueue;
 use memory::is_earlier;
 use rule::Bank;
@@ -27,69 +28,52 @@ fn move_count(counts: &mut [u16], v: Bank, old: Wave, new: Wave)
     counts[to] = more;
 }
 
-// Neighbour i of b: if it is later than b, its Counts learn that b went from `old` to `new`, and it is queued. Answers the queue's end.
+// Neighbour i of b: if it is later than b, its Counts learn that b went from `old` to `new`, and it is queued.
 fn notify_one(
     neighbours: &[u16],
     degrees: &[u16],
     counts: &mut [u16],
-    queue: &mut [u16],
-    from: usize,
-    end: usize,
+    queue: &mut [u64; WORDS],
     b: Bank,
     old: Wave,
     new: Wave,
     i: usize,
-) -> usize
-    requires { ⌜ ((s : Notice) × Notifying s (now neighbours) (now degrees) (now counts) (now queue) from end (b .0) (old .0) (new .0) i) ⌝ }
+)
+    requires { ⌜ ((s : Notice) × Notifying s (now neighbours) (now degrees) (now counts) (now queue) (b .0) (old .0) (new .0) i) ⌝ }
     requires { ⌜ i < getD (now degrees) (b .0) 0 ⌝ }
-    ensures { λ r. ⌜ ((s : Notice) → Notifying s (now (neighbours .entry)) (now (degrees .entry)) (now (counts .entry)) (now (queue .entry)) from end (b .0) (old .0) (new .0) i → Notifying s (now (neighbours .entry)) (now (degrees .entry)) (now (counts .exit)) (now (queue .exit)) from r (b .0) (old .0) (new .0) (i + 1)) ⌝ }
+    ensures { λ _. ⌜ ((s : Notice) → Notifying s (now (neighbours .entry)) (now (degrees .entry)) (now (counts .entry)) (now (queue .entry)) (b .0) (old .0) (new .0) i → Notifying s (now (neighbours .entry)) (now (degrees .entry)) (now (counts .exit)) (now (queue .exit)) (b .0) (old .0) (new .0) (i + 1)) ⌝ }
 {
     let at = b.0 as usize;
     let v = Bank(neighbours[at * ROW_CELLS + i]);
     if !is_earlier(degrees, b, v) {
-        return end;
+        return;
     }
     move_count(counts, v, old, new);
-    enqueue(degrees, queue, from, end, v)
+    enqueue(degrees, queue, v);
 }
 
-// If b changed, notifies its later neighbours that it went from `old` to `new`. Answers the queue's end.
+// If b changed, notifies its later neighbours that it went from `old` to `new`.
 pub fn notify_colours(
     neighbours: &[u16],
     degrees: &[u16],
     counts: &mut [u16],
-    queue: &mut [u16],
-    from: usize,
-    end: usize,
+    queue: &mut [u64; WORDS],
     b: Bank,
     changed: bool,
     old: Wave,
     new: Wave,
-) -> usize
-    requires { ⌜ ((G : Graph) × Notifiable G (now neighbours) (now degrees) (now counts) (now queue) from end (b .0) changed (old .0) (new .0)) ⌝ }
-    ensures { λ r. ⌜ ((G : Graph) → Notifiable G (now (neighbours .entry)) (now (degrees .entry)) (now (counts .entry)) (now (queue .entry)) from end (b .0) changed (old .0) (new .0) → Notified G (now (counts .entry)) (now (counts .exit)) (now (queue .entry)) (now (queue .exit)) from end r (old .0) (new .0) (λ x. changed && laterNeighbour G (b .0) x)) ⌝ }
+)
+    requires { ⌜ ((G : Graph) × Notifiable G (now neighbours) (now degrees) (now counts) (now queue) (b .0) changed (old .0) (new .0)) ⌝ }
+    ensures { λ _. ⌜ ((G : Graph) → Notifiable G (now (neighbours .entry)) (now (degrees .entry)) (now (counts .entry)) (now (queue .entry)) (b .0) changed (old .0) (new .0) → Notified G (now (counts .entry)) (now (counts .exit)) (now (queue .entry)) (now (queue .exit)) (old .0) (new .0) (λ x. changed && laterNeighbour G (b .0) x)) ⌝ }
 {
     if !changed {
-        return end;
+        return;
     }
     let at = b.0 as usize;
     let degree = degrees[at] as usize;
-    let mut queued = end;
     let mut i = 0;
     while i < degree {
-        queued = notify_one(
-            neighbours,
-            degrees,
-            counts,
-            queue,
-            from,
-            queued,
-            b,
-            old,
-            new,
-            i,
-        );
+        notify_one(neighbours, degrees, counts, queue, b, old, new, i);
         i += 1;
     }
-    queued
 }

@@ -1,79 +1,48 @@
-// The priority queue of an edit: the banks of queue[..end] stand in the rule order, none twice. Those before `from` are done.
-use memory::is_earlier;
+// The priority queue of an edit: a bit for each degree and number, so that the set bits stand in the rule order and no bank stands there twice.
 use rule::Bank;
-ghost use mathlib.Core.Path.{_≡_};
-ghost use Prim.Native.Nat.{ℕ, _<_, _≤_};
-ghost use lib.ListN.{length, getD};
+use rule::MOST_CLASHES;
+ghost use mathlib.Core.List.{List};
+ghost use Prim.Native.Nat.{ℕ, _≤_};
 ghost use Rattle.rule.specs.Graph.{Graph};
-ghost use Rattle.edits.specs.Queue.{Line, Enqueued, Halved, Placed, Inserted};
+ghost use Rattle.edits.specs.Queue.{Enqueuable, Enqueued, First, Head, Dequeued};
 
-// What is left of a search: the place is from `low` to `high`.
-pub struct Span {
-    pub low: usize,
-    pub high: usize,
+// The words of a queue: 64 banks to a word, 16 words to a degree, the highest degree first.
+pub const WORDS: usize = 384;
+
+// Puts v into the queue, if it is not there.
+pub fn enqueue(degrees: &[u16], queue: &mut [u64; WORDS], v: Bank)
+    requires { ⌜ ((G : Graph) × Enqueuable G (now degrees) (now queue) (v .0)) ⌝ }
+    ensures { λ _. ⌜ ((G : Graph) → Enqueuable G (now (degrees .entry)) (now (queue .entry)) (v .0) → Enqueued G (now (queue .entry)) (now (queue .exit)) (v .0)) ⌝ }
+{
+    let at = v.0 as usize;
+    let degree = degrees[at];
+    let word = (MOST_CLASHES - degree) as usize * 16 + at / 64;
+    queue[word] = queue[word] | (1u64 << (at % 64));
 }
 
-// The half of the span in which the place of v is.
-fn halved(degrees: &[u16], queue: &[u16], span: Span, v: Bank) -> Span
-    requires { ⌜ (span .low < span .high) × (span .high ≤ length (now queue)) × (v .0 < length (now degrees)) ⌝ }
-    requires { ⌜ ((i : ℕ) → i < span .high → getD (now queue) i 0 < length (now degrees)) ⌝ }
-    ensures { λ r. ⌜ Halved (now (degrees .entry)) (now (queue .entry)) span (v .0) r ⌝ }
+// The first word from `from` on in which a bank waits, or the number of words.
+pub fn next_word(queue: &[u64; WORDS], from: usize) -> usize
+    requires { ⌜ from ≤ 384 ⌝ }
+    ensures { λ r. ⌜ First (now (queue .entry)) from r ⌝ }
 {
-    let low = span.low;
-    let high = span.high;
-    let middle = (low + high) / 2;
-    if is_earlier(degrees, Bank(queue[middle]), v) {
-        return Span {
-            low: middle + 1,
-            high: high,
-        };
-    }
-    Span {
-        low: low,
-        high: middle,
-    }
-}
-
-// The place of v in queue[from..end]: the first whose bank is not earlier than v.
-fn place(degrees: &[u16], queue: &[u16], from: usize, end: usize, v: Bank) -> usize
-    requires { ⌜ (from ≤ end) × (end ≤ length (now queue)) × (v .0 < length (now degrees)) ⌝ }
-    requires { ⌜ ((i : ℕ) → i < end → getD (now queue) i 0 < length (now degrees)) ⌝ }
-    ensures { λ r. ⌜ Placed (now (degrees .entry)) (now (queue .entry)) from end (v .0) r ⌝ }
-{
-    let mut span = Span {
-        low: from,
-        high: end,
-    };
-    while span.low < span.high {
-        span = halved(degrees, queue, span, v);
-    }
-    span.low
-}
-
-// Puts v at `at`, and what stands from there to `end` one cell on.
-pub fn insert_at(cells: &mut [u16], at: usize, end: usize, v: Bank)
-    requires { ⌜ (at ≤ end) × (end < length (now cells)) ⌝ }
-    ensures { λ _. ⌜ Inserted (now (cells .entry)) (now (cells .exit)) at end (v .0) ⌝ }
-{
-    let mut i = end;
-    while at < i {
-        cells[i] = cells[i - 1];
-        i -= 1;
-    }
-    cells[i] = v.0;
-}
-
-// Puts v into queue[from..end] unless it is there, and answers the new end.
-pub fn enqueue(degrees: &[u16], queue: &mut [u16], from: usize, end: usize, v: Bank) -> usize
-    requires { ⌜ ((G : Graph) × Line G (now degrees) (now queue) from end (v .0)) ⌝ }
-    ensures { λ r. ⌜ ((G : Graph) → Line G (now (degrees .entry)) (now (queue .entry)) from end (v .0) → Enqueued G (now (queue .entry)) (now (queue .exit)) from end (v .0) r) ⌝ }
-{
-    let at = place(degrees, queue, from, end, v);
-    if at < end {
-        if queue[at] == v.0 {
-            return end;
+    let mut i = from;
+    while i < WORDS {
+        if queue[i] != 0 {
+            return i;
         }
+        i += 1;
     }
-    insert_at(queue, at, end, v);
-    end + 1
+    i
+}
+
+// Takes the earliest bank out of the queue; it is in this word, and no bank is in a word before.
+pub fn dequeue(queue: &mut [u64; WORDS], word: usize) -> Bank
+    requires { ⌜ ((G : Graph) × (ds : List ℕ) × Head G ds (now queue) word) ⌝ }
+    ensures { λ r. ⌜ ((G : Graph) → (ds : List ℕ) → Head G ds (now (queue .entry)) word → Dequeued G (now (queue .entry)) (now (queue .exit)) word (r .0)) ⌝ }
+{
+    let bits = queue[word];
+    let low = u64::trailing_zeros(bits);
+    queue[word] = bits ^ (1u64 << low);
+    let number = word % 16 * 64 + low as usize;
+    Bank(number as u16)
 }

@@ -1,29 +1,54 @@
-// The seeds of an edit (000, lemmas 4.2 and 4.3): its two banks, and each neighbour whose order towards one of them turned over.
+// The seeds of an edit (000, lemmas 4.2 and 4.3): its two banks, and each neighbour whose order towards one of them turned over. Their earlier
+// neighbours may differ, so Counts of each are counted anew.
+use crate::queue::WORDS;
 use crate::queue::enqueue;
+use crate::recount::recount_one;
 use crate::rows::Degrees;
 use memory::is_earlier;
 use rule::Bank;
 use rule::ROW_CELLS;
 use rule::earlier;
-ghost use mathlib.Core.Path.{_≡_};
+ghost use mathlib.Core.List.{List};
 ghost use Prim.Native.Nat.{ℕ, _+_, _<_};
-ghost use lib.ListN.{length, getD};
+ghost use lib.ListN.{getD};
+ghost use Rattle.rule.specs.Graph.{Graph};
+ghost use Rattle.edits.specs.Recount.{Recounting, SeedQueued};
 ghost use Rattle.edits.specs.Seeds.{Search, Turning, Seedable, Seeded};
 ghost use Rattle.edits.specs.Change.{Origin, editAt};
 
-// Queues neighbour i of b if their order turned over, where b had the degree `old`. Answers the queue's end.
+// Counts anew for v, and queues it.
+fn queue_seed(
+    neighbours: &[u16],
+    degrees: &[u16],
+    waves: &[u16],
+    counts: &mut [u16],
+    queue: &mut [u64; WORDS],
+    banks: u16,
+    v: Bank,
+)
+    requires { ⌜ ((G : Graph) × (was : List ℕ) × Recounting G (now neighbours) (now degrees) (now waves) was (now counts) (now queue) banks) ⌝ }
+    requires { ⌜ v .0 < banks ⌝ }
+    ensures { λ _. ⌜ ((G : Graph) → (was : List ℕ) → Recounting G (now (neighbours .entry)) (now (degrees .entry)) (now (waves .entry)) was (now (counts .entry)) (now (queue .entry)) banks → SeedQueued G (now (neighbours .entry)) (now (degrees .entry)) (now (waves .entry)) was (now (counts .exit)) (now (queue .entry)) (now (queue .exit)) banks (v .0)) ⌝ }
+{
+    recount_one(neighbours, degrees, waves, counts, banks, v);
+    enqueue(degrees, queue, v);
+}
+
+// If the order of b and its neighbour i turned over, where b had the degree `old`: the neighbour is a seed.
 fn queue_turned_one(
     neighbours: &[u16],
     degrees: &[u16],
-    queue: &mut [u16],
-    end: usize,
+    waves: &[u16],
+    counts: &mut [u16],
+    queue: &mut [u64; WORDS],
+    banks: u16,
     b: Bank,
     old: u16,
     i: usize,
-) -> usize
-    requires { ⌜ ((s : Search) × Turning s (now neighbours) (now degrees) (now queue) end (b .0) old i) ⌝ }
+)
+    requires { ⌜ ((s : Search) × Turning s (now neighbours) (now degrees) (now waves) (now counts) (now queue) banks (b .0) old i) ⌝ }
     requires { ⌜ i < getD (now degrees) (b .0) 0 ⌝ }
-    ensures { λ r. ⌜ ((s : Search) → Turning s (now (neighbours .entry)) (now (degrees .entry)) (now (queue .entry)) end (b .0) old i → Turning s (now (neighbours .entry)) (now (degrees .entry)) (now (queue .exit)) r (b .0) old (i + 1)) ⌝ }
+    ensures { λ _. ⌜ ((s : Search) → Turning s (now (neighbours .entry)) (now (degrees .entry)) (now (waves .entry)) (now (counts .entry)) (now (queue .entry)) banks (b .0) old i → Turning s (now (neighbours .entry)) (now (degrees .entry)) (now (waves .entry)) (now (counts .exit)) (now (queue .exit)) banks (b .0) old (i + 1)) ⌝ }
 {
     let at = b.0 as usize;
     let v = Bank(neighbours[at * ROW_CELLS + i]);
@@ -31,49 +56,53 @@ fn queue_turned_one(
     let was = earlier(degrees[at_v], v, old, b);
     let is = is_earlier(degrees, v, b);
     if was == is {
-        return end;
+        return;
     }
-    enqueue(degrees, queue, 0, end, v)
+    queue_seed(neighbours, degrees, waves, counts, queue, banks, v);
 }
 
-// Queues the neighbours of b whose order towards b turned over, where b had the degree `old`. Answers the queue's end.
+// The same for every neighbour of b.
 fn queue_turned(
     neighbours: &[u16],
     degrees: &[u16],
-    queue: &mut [u16],
-    end: usize,
+    waves: &[u16],
+    counts: &mut [u16],
+    queue: &mut [u64; WORDS],
+    banks: u16,
     b: Bank,
     old: u16,
-) -> usize
-    requires { ⌜ ((s : Search) × Turning s (now neighbours) (now degrees) (now queue) end (b .0) old 0) ⌝ }
-    ensures { λ r. ⌜ ((s : Search) → Turning s (now (neighbours .entry)) (now (degrees .entry)) (now (queue .entry)) end (b .0) old 0 → Turning s (now (neighbours .entry)) (now (degrees .entry)) (now (queue .exit)) r (b .0) old (getD (now (degrees .entry)) (b .0) 0)) ⌝ }
+)
+    requires { ⌜ ((s : Search) × Turning s (now neighbours) (now degrees) (now waves) (now counts) (now queue) banks (b .0) old 0) ⌝ }
+    ensures { λ _. ⌜ ((s : Search) → Turning s (now (neighbours .entry)) (now (degrees .entry)) (now (waves .entry)) (now (counts .entry)) (now (queue .entry)) banks (b .0) old 0 → Turning s (now (neighbours .entry)) (now (degrees .entry)) (now (waves .entry)) (now (counts .exit)) (now (queue .exit)) banks (b .0) old (getD (now (degrees .entry)) (b .0) 0)) ⌝ }
 {
     let at = b.0 as usize;
     let degree = degrees[at] as usize;
-    let mut queued = end;
     let mut i = 0;
     while i < degree {
-        queued = queue_turned_one(neighbours, degrees, queue, queued, b, old, i);
+        queue_turned_one(neighbours, degrees, waves, counts, queue, banks, b, old, i);
         i += 1;
     }
-    queued
 }
 
-// Queues the seeds of the edit of a and b, which had the degrees `before`. Answers the queue's end.
+// Queues the seeds of the edit of a and b, which had the degrees `before`, and counts anew for each.
 pub fn queue_seeds(
     neighbours: &[u16],
     degrees: &[u16],
-    queue: &mut [u16],
+    waves: &[u16],
+    counts: &mut [u16],
+    queue: &mut [u64; WORDS],
+    banks: u16,
     a: Bank,
     b: Bank,
     before: Degrees,
-) -> usize
-    requires { ⌜ ((o : Origin) × Seedable (editAt o (a .0) (b .0)) (now neighbours) (now degrees) before) ⌝ }
-    requires { ⌜ length (now queue) ≡ 1024 ⌝ }
-    ensures { λ r. ⌜ ((o : Origin) → Seedable (editAt o (a .0) (b .0)) (now (neighbours .entry)) (now (degrees .entry)) before → Seeded (editAt o (a .0) (b .0)) (now (queue .exit)) r) ⌝ }
+)
+    requires { ⌜ ((o : Origin) × Seedable (editAt o (a .0) (b .0)) (now neighbours) (now degrees) (now waves) (now counts) (now queue) banks before) ⌝ }
+    ensures { λ _. ⌜ ((o : Origin) → Seedable (editAt o (a .0) (b .0)) (now (neighbours .entry)) (now (degrees .entry)) (now (waves .entry)) (now (counts .entry)) (now (queue .entry)) banks before → Seeded (editAt o (a .0) (b .0)) (now (neighbours .entry)) (now (degrees .entry)) (now (waves .entry)) (now (counts .entry)) (now (counts .exit)) (now (queue .exit)) banks) ⌝ }
 {
-    let one = enqueue(degrees, queue, 0, 0, a);
-    let two = enqueue(degrees, queue, 0, one, b);
-    let three = queue_turned(neighbours, degrees, queue, two, a, before.a);
-    queue_turned(neighbours, degrees, queue, three, b, before.b)
+    let old_a = before.a;
+    let old_b = before.b;
+    queue_seed(neighbours, degrees, waves, counts, queue, banks, a);
+    queue_seed(neighbours, degrees, waves, counts, queue, banks, b);
+    queue_turned(neighbours, degrees, waves, counts, queue, banks, a, old_a);
+    queue_turned(neighbours, degrees, waves, counts, queue, banks, b, old_b);
 }

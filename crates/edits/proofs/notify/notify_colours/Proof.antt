@@ -11,58 +11,53 @@ use Rattle.edits.proofs.notify.notify_colours.Statement.{statement}
 use Rattle.edits.proofs.notify.notify_colours.Tie as tie
 
 abbrev Inv-loop : tie.InvT-loop
-Inv-loop neighbours degrees counts₀ queue₀ from end b changed old new at degree queued₀ i₀ counts queue queued i =
+Inv-loop neighbours degrees counts₀ queue₀ b changed old new at degree i₀ counts queue i =
     (i ≤ degree)
     × (length counts ≡ length counts₀)
-    × (length queue ≡ length queue₀)
-    × ((s : Notice) → Notifying s neighbours degrees counts₀ queue₀ from end (b .0) (old .0) (new .0) 0 → Notifying s neighbours degrees counts queue from queued (b .0) (old .0) (new .0) i)
+    × ((s : Notice) → Notifying s neighbours degrees counts₀ queue₀ (b .0) (old .0) (new .0) 0 → Notifying s neighbours degrees counts queue (b .0) (old .0) (new .0) i)
 
 abbrev μ-loop : tie.MeasureT-loop
-μ-loop neighbours degrees counts₀ queue₀ from end b changed old new at degree queued₀ i₀ counts queue queued i =
-    degree - i
+μ-loop neighbours degrees counts₀ queue₀ b changed old new at degree i₀ counts queue i = degree - i
 
 returns : tie.Need-returns Inv-loop μ-loop
-returns c = λ G nf. none-notified nf _ (λ x. rw (not-true (c .before .before .before .before .before .args .changed) (c .if1 .taken)) refl)
+returns c = λ G nf. none-notified nf _ (λ x. rw (not-true (c .before .before .before .before .args .changed) (c .if1 .taken)) refl)
 
 cast-at : tie.Need-cast-at Inv-loop μ-loop
 cast-at c = search needs
 
 mul-degree : tie.Need-mul-degree Inv-loop μ-loop
-mul-degree c = let nf = c .before .before .before .before .before .before .pre .1 in omega (arith, nf .bank, nf .shown .few)
+mul-degree c = let nf = c .before .before .before .before .before .pre .1 in omega (arith, nf .bank, nf .shown .few)
 
 shared-slice-read-degree : tie.Need-shared-slice-read-degree Inv-loop μ-loop
-shared-slice-read-degree c = let nf = c .before .before .before .before .before .before .before .pre .1 in omega (arith, nf .bank, nf .shown .wide-degrees)
+shared-slice-read-degree c = let nf = c .before .before .before .before .before .before .pre .1 in omega (arith, nf .bank, nf .shown .wide-degrees)
 
 cast-degree : tie.Need-cast-degree Inv-loop μ-loop
-cast-degree c = let nf = c .before .before .before .before .before .before .before .pre .1 in omega (arith, nf .shown .degrees (c .before .before .before .before .before .before .before .args .b .0) (nf .bank), nf .shown .small (c .before .before .before .before .before .before .before .args .b .0) (nf .bank))
+cast-degree c = let nf = c .before .before .before .before .before .before .pre .1 in omega (arith, nf .shown .degrees (c .before .before .before .before .before .before .args .b .0) (nf .bank), nf .shown .small (c .before .before .before .before .before .before .args .b .0) (nf .bank))
 
 loop-holds : tie.Need-loop-holds Inv-loop μ-loop
-loop-holds c = (omega arith, refl, refl, λ s nt. nt)
+loop-holds c = (omega arith, refl, λ s nt. nt)
 
 notify-one-requires : tie.Need-notify-one-requires Inv-loop μ-loop
-notify-one-requires c κs = ((_, c .before .before .before .loop .inv .3 _ (start-notifying (not-false _ (c .before .before .before .before .before .before .if1 .left)) (c .before .before .before .before .before .before .before .before .before .before .before .pre .1))), c .before .before .loop-test .taken)
+notify-one-requires c κs = ((_, c .before .before .before .loop .inv .2 _ (start-notifying (not-false _ (c .before .before .before .before .before .before .if1 .left)) (c .before .before .before .before .before .before .before .before .before .before .pre .1))), c .before .before .loop-test .taken)
 
 add-i : tie.Need-add-i Inv-loop μ-loop
-add-i c = let nf = c .before .before .before .before .before .before .before .before .before .before .before .before .before .before .before .before .pre .1 in omega (arith, nf .shown .degrees (c .before .before .before .before .before .before .before .before .before .before .before .before .before .before .before .before .args .b .0) (nf .bank), nf .shown .small (c .before .before .before .before .before .before .before .before .before .before .before .before .before .before .before .before .args .b .0) (nf .bank), c .before .before .before .before .before .before .before .loop-test .taken)
+add-i c = let nf = c .before .before .before .before .before .before .before .before .before .before .before .before .before .pre .1 in omega (arith, nf .shown .degrees (c .before .before .before .before .before .before .before .before .before .before .before .before .before .args .b .0) (nf .bank), nf .shown .small (c .before .before .before .before .before .before .before .before .before .before .before .before .before .args .b .0) (nf .bank), c .before .before .before .before .before .loop-test .taken)
 
 loop-less : tie.Need-loop-less Inv-loop μ-loop
 loop-less c = omega arith
 
 loop-again : tie.Need-loop-again Inv-loop μ-loop
-loop-again c = (omega arith, c .before .before .before .before .notify-one .kept .1 .1 .0 ∙ c .before .before .before .before .before .before .before .before .loop .inv .1, c .before .before .before .before .notify-one .kept .1 .1 .1 .0 ∙ c .before .before .before .before .before .before .before .before .loop .inv .2, λ s nt. c .before .before .before .before .notify-one .ensures s (c .before .before .before .before .before .before .before .before .loop .inv .3 s nt))
+loop-again c = (omega arith, c .before .before .notify-one .kept .1 .1 .0 ∙ c .before .before .before .before .before .before .loop .inv .1, λ s nt. c .before .before .notify-one .ensures s (c .before .before .before .before .before .before .loop .inv .2 s nt))
 
 same-length : tie.Need-same-length Inv-loop μ-loop
 same-length c = c .before .loop .inv .1
-
-same-length-2 : tie.Need-same-length-2 Inv-loop μ-loop
-same-length-2 c = c .before .loop .inv .2
 
 returns-2 : tie.Need-returns-2 Inv-loop μ-loop
 returns-2 c =
     λ G nf.
     let said = not-false _ (c .before .before .before .before .if1 .left) in
-    let e : c .before .loop .i ≡ getD (c .before .before .before .before .before .before .before .before .before .args .degrees .now) (c .before .before .before .before .before .before .before .before .before .args .b .0) 0 = omega (arith, c .before .loop .inv .0, c .loop-test .left) in
-    all-notified said (rw e at (c .before .loop .inv .3 (noticeOf G _ _ _) (start-notifying said nf)))
+    let e : c .before .loop .i ≡ getD (c .before .before .before .before .before .before .before .before .args .degrees .now) (c .before .before .before .before .before .before .before .before .args .b .0) 0 = omega (arith, c .before .loop .inv .0, c .loop-test .left) in
+    all-notified said (rw e at (c .before .loop .inv .2 (noticeOf G _ _) (start-notifying said nf)))
 
 pub notify-colours-spec : {M : Type 1} → statement M
 notify-colours-spec =
@@ -81,5 +76,4 @@ notify-colours-spec =
     loop-less
     loop-again
     same-length
-    same-length-2
     returns-2)

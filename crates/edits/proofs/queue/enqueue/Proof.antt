@@ -1,55 +1,66 @@
--- `enqueue`: v stands at its place already, or is put there.
+-- `enqueue`: the bit of v is set.
+use borrow.Author.Needs.{needs}
 use native.Mathlib.Omega.{arith}
-use mathlib.Core.Path.{refl}
-use mathlib.Core.Logic.{⊎-elim}
-use Rattle.edits.proofs.Lines.{in-degrees, stands-there, room-for, put-there}
+use Rattle.edits.proofs.BitQueue.{enqueued}
 use Rattle.edits.proofs.queue.enqueue.Statement.{statement}
 use Rattle.edits.proofs.queue.enqueue.Tie as tie
 
-place-requires : tie.Need-place-requires
-place-requires c κs =
-    let p = c .before .before .before .pre .1 in
-    ((p .order, omega (arith, p .queue .room, p .queue .wide-queue), omega (arith, p .bank, p .wide-degrees)), in-degrees p)
+cast-at : tie.Need-cast-at
+cast-at c = search needs
 
-mul-if2 : tie.Need-mul-if2
-mul-if2 c = omega arith
+mul-degree : tie.Need-mul-degree
+mul-degree c = search needs
 
-slice-read-if2 : tie.Need-slice-read-if2
-slice-read-if2 c = omega arith
+shared-slice-read-degree : tie.Need-shared-slice-read-degree
+shared-slice-read-degree c = search needs
 
-same-length : tie.Need-same-length
-same-length c = refl
+sub-word : tie.Need-sub-word
+sub-word c =
+    let p = c .before .before .pre .1 in
+    let v = c .before .before .args .v .0 in
+    omega (arith, p .keyed .degrees v (p .bank), p .keyed .small v (p .bank))
+
+cast-word : tie.Need-cast-word
+cast-word c = search needs
+
+mul-word : tie.Need-mul-word
+mul-word c = search needs
+
+add-word : tie.Need-add-word
+add-word c = search needs
+
+mul-queue : tie.Need-mul-queue
+mul-queue c = search needs
+
+element-copy-out-queue : tie.Need-element-copy-out-queue
+element-copy-out-queue c = search needs
+
+shl-queue : tie.Need-shl-queue
+shl-queue c = search needs
+
+mul-queue-2 : tie.Need-mul-queue-2
+mul-queue-2 c = search needs
+
+element-write-queue : tie.Need-element-write-queue
+element-write-queue c = search needs
 
 returns : tie.Need-returns
-returns c = λ G line. stands-there line (c .before .before .before .before .place .result) (c .before .before .before .if1 .taken) (c .if2 .taken)
-
-insert-at-requires : tie.Need-insert-at-requires
-insert-at-requires c κs =
-    let p = c .before .before .before .before .before .before .pre .1 in
-    (c .before .before .place .ensures .high, omega (arith, room-for p (c .before .before .place .result) (c .before .before .place .ensures) (⊎-elim (λ w l. w .3 .left) (λ w l. (let z : ⊥ = omega arith in absurd z)) (c .before .if1 .came)), p .queue .wide-queue))
-
-add-result : tie.Need-add-result
-add-result c = omega arith
-
-same-length-2 : tie.Need-same-length-2
-same-length-2 c = c .before .before .insert-at .kept .0
-
-returns-2 : tie.Need-returns-2
-returns-2 c =
-    λ G line. put-there line (c .before .before .before .before .before .place .result) (c .before .before .before .before .before .place .ensures)
-    (⊎-elim (λ w l. w .3 .left) (λ w l. (let z : ⊥ = omega arith in absurd z)) (c .before .before .before .before .if1 .came))
-    (c .before .before .insert-at .last .0) (c .before .before .insert-at .kept .0) (c .before .before .insert-at .ensures)
+returns c = λ G line. enqueued line
 
 pub enqueue-spec : {M : Type 1} → statement M
 enqueue-spec =
     tie.close
     (tie.spec
-    place-requires
-    mul-if2
-    slice-read-if2
-    same-length
-    returns
-    insert-at-requires
-    add-result
-    same-length-2
-    returns-2)
+    cast-at
+    mul-degree
+    shared-slice-read-degree
+    sub-word
+    cast-word
+    mul-word
+    add-word
+    mul-queue
+    element-copy-out-queue
+    shl-queue
+    mul-queue-2
+    element-write-queue
+    returns)

@@ -4,44 +4,45 @@ use Prim.Native.Nat.{_-_, _≤_}
 use mathlib.Core.Path.{_≡_, refl, _∙_}
 use lib.ListN.{length, getD}
 use Rattle.edits.specs.Seeds.{Search, Turning}
+use Rattle.edits.proofs.Seeding.{y-small, y-inside}
 use Rattle.edits.proofs.seeds.queue_turned.Statement.{statement}
 use Rattle.edits.proofs.seeds.queue_turned.Tie as tie
 
 abbrev Inv-loop : tie.InvT-loop
-Inv-loop neighbours degrees queue₀ end b old at degree queued₀ i₀ queue queued i =
+Inv-loop neighbours degrees waves counts₀ queue₀ banks b old at degree i₀ counts queue i =
     (i ≤ degree)
-    × (length queue ≡ length queue₀)
-    × ((s : Search) → Turning s neighbours degrees queue₀ end (b .0) old 0 → Turning s neighbours degrees queue queued (b .0) old i)
+    × (length counts ≡ length counts₀)
+    × ((s : Search) → Turning s neighbours degrees waves counts₀ queue₀ banks (b .0) old 0 → Turning s neighbours degrees waves counts queue banks (b .0) old i)
 
 abbrev μ-loop : tie.MeasureT-loop
-μ-loop neighbours degrees queue₀ end b old at degree queued₀ i₀ queue queued i = degree - i
+μ-loop neighbours degrees waves counts₀ queue₀ banks b old at degree i₀ counts queue i = degree - i
 
 cast-at : tie.Need-cast-at Inv-loop μ-loop
 cast-at c = omega arith
 
 mul-degree : tie.Need-mul-degree Inv-loop μ-loop
-mul-degree c = let tn = c .before .before .before .before .pre .1 in omega (arith, tn .bank, tn .shown .few)
+mul-degree c = omega arith
 
 shared-slice-read-degree : tie.Need-shared-slice-read-degree Inv-loop μ-loop
-shared-slice-read-degree c = let tn = c .before .before .before .before .before .pre .1 in omega (arith, tn .bank, tn .shown .wide-degrees)
+shared-slice-read-degree c = y-inside (c .before .before .before .before .before .before .pre .1)
 
 cast-degree : tie.Need-cast-degree Inv-loop μ-loop
-cast-degree c = let tn = c .before .before .before .before .before .pre .1 in omega (arith, tn .shown .degrees (c .before .before .before .before .before .args .b .0) (tn .bank), tn .shown .small (c .before .before .before .before .before .args .b .0) (tn .bank))
+cast-degree c = omega (arith, y-small (c .before .before .before .before .before .before .pre .1))
 
 loop-holds : tie.Need-loop-holds Inv-loop μ-loop
 loop-holds c = (omega arith, refl, λ s tn. tn)
 
 queue-turned-one-requires : tie.Need-queue-turned-one-requires Inv-loop μ-loop
-queue-turned-one-requires c κs = ((c .before .before .before .before .before .before .before .before .pre .0, c .before .before .loop .inv .2 (c .before .before .before .before .before .before .before .before .pre .0) (c .before .before .before .before .before .before .before .before .pre .1)), c .before .loop-test .taken)
+queue-turned-one-requires c κs = ((c .before .before .before .before .before .before .before .before .before .before .pre .0, c .before .before .before .loop .inv .2 (c .before .before .before .before .before .before .before .before .before .before .pre .0) (c .before .before .before .before .before .before .before .before .before .before .pre .1)), c .before .before .loop-test .taken)
 
 add-i : tie.Need-add-i Inv-loop μ-loop
-add-i c = let tn = c .before .before .before .before .before .before .before .before .before .before .before .pre .1 in omega (arith, tn .shown .degrees (c .before .before .before .before .before .before .before .before .before .before .before .args .b .0) (tn .bank), tn .shown .small (c .before .before .before .before .before .before .before .before .before .before .before .args .b .0) (tn .bank), c .before .before .before .before .loop-test .taken)
+add-i c = omega (arith, y-small (c .before .before .before .before .before .before .before .before .before .before .before .before .before .pre .1), c .before .before .before .before .before .loop-test .taken)
 
 loop-less : tie.Need-loop-less Inv-loop μ-loop
 loop-less c = omega arith
 
 loop-again : tie.Need-loop-again Inv-loop μ-loop
-loop-again c = (omega arith, c .before .before .queue-turned-one .kept .1 .1 .0 ∙ c .before .before .before .before .before .loop .inv .1, λ s tn. c .before .before .queue-turned-one .ensures s (c .before .before .before .before .before .loop .inv .2 s tn))
+loop-again c = (omega arith, c .before .before .queue-turned-one .kept .1 .1 .1 .0 ∙ c .before .before .before .before .before .before .loop .inv .1, λ s tn. c .before .before .queue-turned-one .ensures s (c .before .before .before .before .before .before .loop .inv .2 s tn))
 
 same-length : tie.Need-same-length Inv-loop μ-loop
 same-length c = c .before .loop .inv .1
@@ -49,7 +50,7 @@ same-length c = c .before .loop .inv .1
 returns : tie.Need-returns Inv-loop μ-loop
 returns c =
     λ s tn.
-    let e : c .before .loop .i ≡ getD (c .before .before .before .before .before .before .before .args .degrees .now) (c .before .before .before .before .before .before .before .args .b .0) 0 = omega (arith, c .before .loop .inv .0, c .loop-test .left) in
+    let e : c .before .loop .i ≡ getD (c .before .before .before .before .before .before .before .before .args .degrees .now) (c .before .before .before .before .before .before .before .before .args .b .0) 0 = omega (arith, c .before .loop .inv .0, c .loop-test .left) in
     rw e at (c .before .loop .inv .2 s tn)
 
 pub queue-turned-spec : {M : Type 1} → statement M

@@ -15,29 +15,29 @@ Inv-loop neighbours degrees waves₀ counts₀ trail₀ moved₀ queue₀ p₀ w
     × (length counts ≡ length counts₀)
     × (length trail ≡ length trail₀)
     × (length moved ≡ length moved₀)
-    × (length queue ≡ length queue₀)
     × ((e : Edit) → Working e (lentOf neighbours degrees waves₀ counts₀ trail₀ moved₀) queue₀ p₀ → Working e (lentOf neighbours degrees waves counts trail moved) queue p)
 
 abbrev μ-loop : tie.MeasureT-loop
-μ-loop neighbours degrees waves₀ counts₀ trail₀ moved₀ queue₀ p₀ waves counts trail moved queue p = length queue₀ - p .taken
+μ-loop neighbours degrees waves₀ counts₀ trail₀ moved₀ queue₀ p₀ waves counts trail moved queue p = 1025 - p .taken
 
 loop-holds : tie.Need-loop-holds Inv-loop μ-loop
-loop-holds c = (refl, refl, refl, refl, refl, λ e wk. wk)
+loop-holds c = (refl, refl, refl, refl, λ e wk. wk)
 
 can-step-requires : tie.Need-can-step-requires Inv-loop μ-loop
-can-step-requires c κs = ((c .before .before .before .before .before .before .before .before .before .before .before .before .before .before .before .pre .0, c .before .before .before .before .before .before .before .loop .inv .5 (c .before .before .before .before .before .before .before .before .before .before .before .before .before .before .before .pre .0) (c .before .before .before .before .before .before .before .before .before .before .before .before .before .before .before .pre .1)), c .before .before .before .before .before .if1 .taken)
+can-step-requires c κs = ((c .before .before .before .before .before .before .before .before .before .before .before .before .before .before .pre .0, c .before .before .before .before .before .before .before .loop .inv .4 (c .before .before .before .before .before .before .before .before .before .before .before .before .before .before .pre .0) (c .before .before .before .before .before .before .before .before .before .before .before .before .before .before .pre .1)), c .before .before .before .before .before .if1 .taken)
 
 loop-less : tie.Need-loop-less Inv-loop μ-loop
-loop-less c = let wk = c .before .before .before .before .before .before .before .before .before .before .before .before .before .before .before .before .before .before .loop .inv .5 (c .before .before .before .before .before .before .before .before .before .before .before .before .before .before .before .before .before .before .before .before .before .before .before .before .before .before .pre .0) (c .before .before .before .before .before .before .before .before .before .before .before .before .before .before .before .before .before .before .before .before .before .before .before .before .before .before .pre .1) in omega (arith, c .before .before .before .before .before .before .before .before .before .before .can-step .ensures .0 (c .before .before .before .before .before .before .before .before .before .before .before .before .before .before .before .before .before .before .before .before .before .before .before .before .before .before .pre .0) wk .one, wk .queue .room, wk .queue .wide-queue, c .before .before .before .before .before .before .before .before .before .before .before .before .before .before .before .before .before .before .loop .inv .4, c .before .before .before .before .before .before .before .before .before .before .before .before .before .before .before .before .if1 .taken)
+loop-less c =
+    let wk = c .before .before .before .before .before .before .before .before .before .before .before .before .before .before .before .before .loop .inv .4 (c .before .before .before .before .before .before .before .before .before .before .before .before .before .before .before .before .before .before .before .before .before .before .before .pre .0) (c .before .before .before .before .before .before .before .before .before .before .before .before .before .before .before .before .before .before .before .before .before .before .before .pre .1) in
+    omega (arith, c .before .before .before .before .before .before .before .before .can-step .ensures .0 (c .before .before .before .before .before .before .before .before .before .before .before .before .before .before .before .before .before .before .before .before .before .before .before .pre .0) wk .1 .one, wk .room, wk .shown .few)
 
 loop-again : tie.Need-loop-again Inv-loop μ-loop
 loop-again c = (
-  c .before .before .before .before .before .before .before .before .before .before .can-step .kept .1 .1 .0 ∙ c .before .before .before .before .before .before .before .before .before .before .before .before .before .before .before .before .before .before .loop .inv .0,
-  c .before .before .before .before .before .before .before .before .before .before .can-step .kept .1 .1 .1 .0 ∙ c .before .before .before .before .before .before .before .before .before .before .before .before .before .before .before .before .before .before .loop .inv .1,
-  c .before .before .before .before .before .before .before .before .before .before .can-step .kept .1 .1 .1 .1 .0 ∙ c .before .before .before .before .before .before .before .before .before .before .before .before .before .before .before .before .before .before .loop .inv .2,
-  c .before .before .before .before .before .before .before .before .before .before .can-step .kept .1 .1 .1 .1 .1 .0 ∙ c .before .before .before .before .before .before .before .before .before .before .before .before .before .before .before .before .before .before .loop .inv .3,
-  c .before .before .before .before .before .before .before .before .before .before .can-step .kept .1 .1 .1 .1 .1 .1 .0 ∙ c .before .before .before .before .before .before .before .before .before .before .before .before .before .before .before .before .before .before .loop .inv .4,
-  λ e wk. c .before .before .before .before .before .before .before .before .before .before .can-step .ensures .1 e (c .before .before .before .before .before .before .before .before .before .before .before .before .before .before .before .before .before .before .loop .inv .5 e wk),
+  c .before .before .before .before .before .before .before .before .can-step .kept .1 .1 .0 ∙ c .before .before .before .before .before .before .before .before .before .before .before .before .before .before .before .before .loop .inv .0,
+  c .before .before .before .before .before .before .before .before .can-step .kept .1 .1 .1 .0 ∙ c .before .before .before .before .before .before .before .before .before .before .before .before .before .before .before .before .loop .inv .1,
+  c .before .before .before .before .before .before .before .before .can-step .kept .1 .1 .1 .1 .0 ∙ c .before .before .before .before .before .before .before .before .before .before .before .before .before .before .before .before .loop .inv .2,
+  c .before .before .before .before .before .before .before .before .can-step .kept .1 .1 .1 .1 .1 .0 ∙ c .before .before .before .before .before .before .before .before .before .before .before .before .before .before .before .before .loop .inv .3,
+  λ e wk. c .before .before .before .before .before .before .before .before .can-step .ensures .1 e (c .before .before .before .before .before .before .before .before .before .before .before .before .before .before .before .before .loop .inv .4 e wk),
 )
 
 same-length : tie.Need-same-length Inv-loop μ-loop
@@ -52,11 +52,8 @@ same-length-3 c = c .before .before .loop .inv .2
 same-length-4 : tie.Need-same-length-4 Inv-loop μ-loop
 same-length-4 c = c .before .before .loop .inv .3
 
-same-length-5 : tie.Need-same-length-5 Inv-loop μ-loop
-same-length-5 c = c .before .before .loop .inv .4
-
 returns : tie.Need-returns Inv-loop μ-loop
-returns c = λ e wk. settled (c .before .before .loop .inv .5 e wk) (c .if1 .left)
+returns c = λ e wk. settled (c .before .before .loop .inv .4 e wk) (c .if1 .left)
 
 pub settle-spec : {M : Type 1} → statement M
 settle-spec =
@@ -72,5 +69,4 @@ settle-spec =
     same-length-2
     same-length-3
     same-length-4
-    same-length-5
     returns)
