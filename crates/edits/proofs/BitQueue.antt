@@ -1,18 +1,19 @@
 -- The queue's bits against the banks that wait, and the order of its words against the rule order.
-use mathlib.Core.Bool.{Bool, false, _&&_, _||_, not}
+use mathlib.Core.Bool.{Bool, true, false, _&&_, _||_, not}
 use mathlib.Core.List.{List}
 use mathlib.Core.Logic.{_⊎_, inl, inr, _≢_}
 use mathlib.Core.Path.{_≡_, refl, sym, ap, ap₂, _∙_, subst}
 use Prim.Native.Nat.{ℕ, _+_, _*_, _-_, _/_, _%_, _^_, _<_}
 use native.Mathlib.Decide.{ℕ-discrete}
-use native.Mathlib.Nat.{one-mul}
+use native.Mathlib.Nat.{one-mul, zero-mul}
 use native.Mathlib.Omega.{arith}
-use lib.Bits.{bitOr, bitXor, or-lt, xor-lt}
+use lib.Bits.{bitOr, bitXor, or-lt, xor-lt, or-zero-r}
 use lib.Count.{trailingZeros}
 use lib.Dec.{T, ltb, eqb, eqb→eq, ltb→lt}
 use lib.ListN.{length, getD, set, length-set, replicate, length-replicate, getD-replicate, List·getD-eq-default}
 use lib.Pow.{pow-lt, shl-exact}
-use lib.Seq.{getD-set-same, getD-set-other}
+use lib.Seq.{getD-set-same, getD-set-other, set-getD}
+use mir.Val.{boolByte}
 use Rattle.rule.specs.Order.{earlierBy}
 use Rattle.rule.specs.Graph.{Graph, degree, earlier}
 use Rattle.rule.proofs.Booleans.{and-l, and-r, or-cases, test-ext, is-false, T-along, or-false, and-true, eq→eqb, lt-or-ge}
@@ -107,9 +108,10 @@ bit-waits {G} {words} queue i k l t =
     subst (λ (w : ℕ). T (bit (getD words w 0) ((i % 16 * 64 + k) % 64))) (queue .names i k l t .1) (subst (λ (m : ℕ). T (bit (getD words i 0) m)) e t)
 
 -- what `enqueue` writes
-pub enqueued : {G : Graph} {ds words : List ℕ} {v : ℕ} → Enqueuable G ds words v
-    → Enqueued G words (set words ((23 - getD ds v 0) * 16 + v / 64) (bitOr (getD words ((23 - getD ds v 0) * 16 + v / 64) 0) (1 * 2 ^ (v % 64) % 18446744073709551616))) v
-enqueued {G} {ds} {words} {v} line =
+pub enqueued : {G : Graph} {ds words : List ℕ} {v : ℕ} (put : Bool) → Enqueuable G ds words v
+    → Enqueued G words (set words ((23 - getD ds v 0) * 16 + v / 64) (bitOr (getD words ((23 - getD ds v 0) * 16 + v / 64) 0) (boolByte put * 2 ^ (v % 64) % 18446744073709551616))) v put
+enqueued {G} {words = words} false line = rw (zero-mul, or-zero-r, set-getD) (record { queue = line .queue; members = λ x l. sym (or-false (waits G words x)) })
+enqueued {G} {ds} {words} {v} true line =
     let j = v % 64 in
     let inside : j < 64 = omega arith in
     let w = wordOf G v in

@@ -1,14 +1,16 @@
 -- Counts when one bank goes to another wave.
-use mathlib.Core.Bool.{Bool}
+use mathlib.Core.Bool.{Bool, true, false, cond}
 use mathlib.Core.List.{List, [], _∷_}
 use mathlib.Core.Logic.{inl, inr, _≢_}
 use mathlib.Core.Path.{_≡_, refl, sym, ap, subst, _∙_}
 use Prim.Native.Nat.{ℕ, _+_, _*_, _-_, _≤_, _<_}
 use native.Mathlib.Decide.{ℕ-discrete}
+use native.Mathlib.Nat.{add-zero, sub-zero}
 use native.Mathlib.Omega.{arith}
 use lib.Dec.{T, eqb}
 use lib.ListN.{length, getD, set, length-set}
-use lib.Seq.{getD-set-same, getD-set-other}
+use lib.Seq.{getD-set-same, getD-set-other, set-getD}
+use mir.Val.{boolByte}
 use Rattle.rule.specs.Lists.{memb, Sorted}
 use Rattle.rule.specs.Graph.{Graph, earlierNeighbours}
 use Rattle.rule.proofs.Lists.{in-cons, in-none}
@@ -42,9 +44,25 @@ module _ (R : ℕ → ℕ → Bool) (irrefl : (x : ℕ) → T (R x x) → ⊥) (
           let p : bit (eqb (f y) c) ≡ bit (eqb (g y) c) = ap (λ (k : ℕ). bit (eqb k c)) (others y n) in
           omega (arith, standing-cons f c y ys, standing-cons g c y ys)
 
+-- a test, taken as the number that it casts to: at most 1
+pub at-most-one : (told : Bool) → boolByte told ≤ 1
+at-most-one true = omega arith
+at-most-one false = omega arith
+
+-- at most n, if n is positive where the test passes
+pub at-most : (told : Bool) (n : ℕ) → (T told → 0 < n) → boolByte told ≤ n
+at-most true n some = omega (arith, some tt)
+at-most false n some = omega arith
+
+-- that many moved: one count, or none
+pub moved-if : (told : Bool) (cs : List ℕ) (v o w : ℕ)
+    → set (set cs (v * 24 + o) (getD cs (v * 24 + o) 0 - boolByte told)) (v * 24 + w) (getD cs (v * 24 + w) 0 + boolByte told) ≡ cond told (oneMoved cs v o w) cs
+moved-if true cs v o w = refl
+moved-if false cs v o w = simp (sub-zero, add-zero, set-getD)
+
 -- one count of v moved from o to w
 module _ (cs : List ℕ) (v o w : ℕ) (row : v * 24 + 24 ≤ length cs) (lo : o < 24) (lw : w < 24) (differ : o ≢ w) where
-  pub moved-elsewhere : (b c : ℕ) → c < 24 → b ≢ v → getD (oneMoved cs v o w) (b * 24 + c) 0 ≡ getD cs (b * 24 + c) 0
+  moved-elsewhere : (b c : ℕ) → c < 24 → b ≢ v → getD (oneMoved cs v o w) (b * 24 + c) 0 ≡ getD cs (b * 24 + c) 0
   moved-elsewhere b c lc n =
       getD-set-other (set cs (v * 24 + o) _) (v * 24 + w) (b * 24 + c) _ 0 (λ e. n (omega arith))
       ∙ getD-set-other cs (v * 24 + o) (b * 24 + c) _ 0 (λ e. n (omega arith))
@@ -73,5 +91,12 @@ module _ (cs : List ℕ) (v o w : ℕ) (row : v * 24 + 24 ≤ length cs) (lo : o
             bit-no w c (λ d. n (sym d)),
           )
 
-  pub moved-length : length (oneMoved cs v o w) ≡ length cs
-  moved-length = simp length-set
+  -- no other bank's counts differ, whether v is told or not
+  pub told-elsewhere : (told : Bool) (b c : ℕ) → c < 24 → b ≢ v → getD (cond told (oneMoved cs v o w) cs) (b * 24 + c) 0 ≡ getD cs (b * 24 + c) 0
+  told-elsewhere true b c lc n = moved-elsewhere b c lc n
+  told-elsewhere false b c lc n = refl
+
+  -- nor does the length
+  pub told-length : (told : Bool) → length (cond told (oneMoved cs v o w) cs) ≡ length cs
+  told-length true = simp length-set
+  told-length false = refl

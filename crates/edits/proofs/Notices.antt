@@ -1,4 +1,4 @@
--- The later neighbours of a bank: what it is to notify them all, and one neighbour notified or passed over.
+-- The later neighbours of a bank: what it is to notify them all, and one neighbour notified, if it is later.
 use mathlib.Core.Bool.{Bool, true, false, cond, _&&_, _||_}
 use mathlib.Core.List.{List, []}
 use mathlib.Core.Path.{_≡_, refl, sym, ap, _∙_}
@@ -9,7 +9,7 @@ use lib.Dec.{T, eqb, eqb→eq}
 use lib.ListN.{length, getD, take}
 use Rattle.rule.specs.Lists.{memb, some}
 use Rattle.rule.specs.Graph.{Graph, neighbours, earlier, earlierNeighbours}
-use Rattle.rule.proofs.Booleans.{and-l, and-r, both, or-r, T-along, eq→eqb, cond-yes, cond-no, or-false}
+use Rattle.rule.proofs.Booleans.{and-l, and-r, both, or-r, is-true, and-true, and-false, T-along, eq→eqb, cond-no, or-false}
 use Rattle.rule.proofs.Neighbours.{neighbours-in, in-neighbours}
 use Rattle.rule.proofs.Waves.{earlierNeighbours-in, in-earlierNeighbours}
 use Rattle.memory.specs.Counts.{byCells}
@@ -17,29 +17,21 @@ use Rattle.memory.specs.View.{Shown}
 use Rattle.memory.proofs.Theorems.{cells-earlier}
 use Rattle.edits.specs.Queue.{waits, Enqueuable, Enqueued}
 use Rattle.edits.specs.Work.{Movable, oneMoved, laterNeighbour, Notice, Notifiable, Notified, Notifying}
-use Rattle.edits.proofs.Counting.{moved-elsewhere, moved-here, moved-length}
+use Rattle.edits.proofs.Counting.{moved-here, told-elsewhere, told-length}
 use Rattle.edits.proofs.Shows.{row-cell, cell-bank, cell-clash, cell-degree, cell-new, row-memb, whole-row, enqueuable-of}
 
 pub memb-none : (x : ℕ) → memb x [] ≡ false
 unfolding memb some
 memb-none x = refl
 
--- one more that fails the test, and one more that passes it
-pub no-and : (s t e : Bool) → (T t → T e → ⊥) → (s && e) ≡ ((s || t) && e)
-no-and true t e h = refl
-no-and false true true h = absurd (h tt tt)
-no-and false true false h = refl
-no-and false false e h = refl
-
-pub more-and : (g s t e : Bool) → (T t → T e) → ((g || (s && e)) || t) ≡ (g || ((s || t) && e))
-more-and true s t e h = refl
-more-and false true true true h = refl
-more-and false true true false h = absurd (h tt)
-more-and false true false true h = refl
-more-and false true false false h = refl
-more-and false false true true h = refl
-more-and false false true false h = absurd (h tt)
-more-and false false false e h = refl
+-- one more, which is added if u, where u is the test of it
+pub more-and : (g s t e u : Bool) → (T t → u ≡ e) → ((g || (s && e)) || (u && t)) ≡ (g || ((s || t) && e))
+more-and true s t e u h = refl
+more-and false true true true u h = refl
+more-and false true true false u h = and-true u ∙ h tt
+more-and false true false e u h = ap (λ (x : Bool). e || x) (and-false u) ∙ or-false e
+more-and false false true e u h = and-true u ∙ h tt
+more-and false false false e u h = and-false u
 
 or-not : (s t : Bool) → (T t → ⊥) → (s || t) ≡ s
 or-not true t h = refl
@@ -108,83 +100,81 @@ module _ {s : Notice} {ns ds cs q : List ℕ} {h o w i : ℕ} (nt : Notifying s 
   next-memb : (x : ℕ) → memb x (take (i + 1) N) ≡ (memb x (take i N) || eqb x v)
   next-memb = row-memb (nt .start .shown) h i (nt .start .bank) lt
 
-  pub order-is : byCells ds h v ≡ earlier G h v
+  order-is : byCells ds h v ≡ earlier G h v
   order-is = cells-earlier (nt .start .shown) h v (nt .start .bank) v-bank
 
-  -- v is earlier: nothing to do
-  pub passed : (T (earlier G h v) → ⊥) → Notifying s ns ds cs q h o w (i + 1)
-  passed not-later = record {
-    start = nt .start;
-    made = notified-cong _ _
-        (λ x. no-and (memb x (take i N)) (eqb x v) (earlier G h x) (λ t e. not-later (rw (eqb→eq x v t) at e)) ∙ ap (λ (t : Bool). t && earlier G h x) (sym (next-memb x)))
-        (nt .made);
-  }
+  -- v is one of those that h notifies, if it is later
+  is-later : T (earlier G h v) → T (laterNeighbour G h v)
+  unfolding laterNeighbour
+  is-later = both (memb v N) (earlier G h v) (in-neighbours G h v v-bank (cell-clash (nt .start .shown) h i (nt .start .bank) lt))
 
-  -- v is later
-  module _ (later : T (earlier G h v)) where
-    is-later : T (laterNeighbour G h v)
-    unfolding laterNeighbour
-    is-later = both (memb v N) (earlier G h v) (in-neighbours G h v v-bank (cell-clash (nt .start .shown) h i (nt .start .bank) lt)) later
+  before : Movable (s .counts) v o w (laterNeighbour G h v)
+  before = nt .start .movable v v-bank
 
-    before : Movable (s .counts) v o w
-    before = nt .start .movable v is-later
+  -- v is not yet told
+  untold : (c : ℕ) → c < 24 → getD cs (v * 24 + c) 0 ≡ getD (s .counts) (v * 24 + c) 0
+  untold c lc = nt .made .counts v c lc ∙ cond-no (memb v (take i N) && earlier G h v) _ _ (λ t. cell-new (nt .start .shown) h i (nt .start .bank) lt (and-l (memb v (take i N)) (earlier G h v) t))
 
-    -- v is not yet told
-    untold : (c : ℕ) → c < 24 → getD cs (v * 24 + c) 0 ≡ getD (s .counts) (v * 24 + c) 0
-    untold c lc = nt .made .counts v c lc ∙ cond-no (memb v (take i N) && earlier G h v) _ _ (λ t. cell-new (nt .start .shown) h i (nt .start .bank) lt (and-l (memb v (take i N)) (earlier G h v) t))
+  -- what `enqueue` asks
+  pub enqueuable : Enqueuable G ds q v
+  enqueuable = enqueuable-of (nt .start .shown) (nt .made .queue) v-bank
 
-    pub movable : Movable cs v o w
+  -- v is told exactly if it is later
+  module _ {told : Bool} (is : told ≡ byCells ds h v) where
+    told-is : told ≡ earlier G h v
+    told-is = is ∙ order-is
+
+    told-later : T told → T (laterNeighbour G h v)
+    told-later t = is-later (T-along told-is t)
+
+    -- what `move_count` asks
+    pub movable : Movable cs v o w told
     movable = record {
       row = omega (arith, before .row, nt .made .long);
       low = before .low;
       high = before .high;
-      some = omega (arith, untold o (before .low), before .some);
+      some = λ t. omega (arith, untold o (before .low), before .some (told-later t));
       few = omega (arith, untold w (before .high), before .few);
     }
 
-    pub enqueuable : Enqueuable G ds q v
-    enqueuable = enqueuable-of (nt .start .shown) (nt .made .queue) v-bank
+    -- the cells of v go as they would from the start
+    told-here : (t : Bool) → (T t → T told) → (c : ℕ) → c < 24
+        → getD (cond t (oneMoved cs v o w) cs) (v * 24 + c) 0 ≡ cond t (getD (oneMoved (s .counts) v o w) (v * 24 + c) 0) (getD (s .counts) (v * 24 + c) 0)
+    told-here true is-told c lc =
+        omega (
+          arith,
+          moved-here cs v o w (movable .row) (before .low) (before .high) (nt .start .differ tt) c lc (movable .some (is-told tt)),
+          moved-here (s .counts) v o w (before .row) (before .low) (before .high) (nt .start .differ tt) c lc (before .some (told-later (is-told tt))),
+          untold c lc,
+        )
+    told-here false is-told c lc = untold c lc
 
-    module _ {q′ : List ℕ} (put : Enqueued G q q′ v) where
-      -- both were moved alike
-      same : (c : ℕ) → c < 24 → getD (oneMoved cs v o w) (v * 24 + c) 0 ≡ getD (oneMoved (s .counts) v o w) (v * 24 + c) 0
-      same c lc =
-          omega (
-            arith,
-            moved-here cs v o w (movable .row) (before .low) (before .high) (nt .start .differ tt) c lc (movable .some),
-            moved-here (s .counts) v o w (before .row) (before .low) (before .high) (nt .start .differ tt) c lc (before .some),
-            untold c lc,
-          )
-
-      told : ℕ → Bool
-      told x = memb x (take (i + 1) N) && earlier G h x
-
-      cells-after : (x c : ℕ) → c < 24 → getD (oneMoved cs v o w) (x * 24 + c) 0 ≡ cond (told x) (getD (oneMoved (s .counts) x o w) (x * 24 + c) 0) (getD (s .counts) (x * 24 + c) 0)
-      unfolding told
-      cells-after x c lc = go (ℕ-discrete x v)
-        where
-          go : Dec (x ≡ v) → getD (oneMoved cs v o w) (x * 24 + c) 0 ≡ cond (told x) (getD (oneMoved (s .counts) x o w) (x * 24 + c) 0) (getD (s .counts) (x * 24 + c) 0)
-          go (yes e) =
-              rw e (same c lc
-              ∙ sym (cond-yes (memb v (take (i + 1) N) && earlier G h v) _ _ (both (memb v (take (i + 1) N)) (earlier G h v) (T-along (sym (next-memb v)) (or-r (memb v (take i N)) (eqb v v) (eq→eqb v v refl))) later)))
-          go (no d) =
-              moved-elsewhere cs v o w (movable .row) (before .low) (before .high) (nt .start .differ tt) x c lc d ∙ nt .made .counts x c lc
+    cells-after : (x c : ℕ) → c < 24
+        → getD (cond told (oneMoved cs v o w) cs) (x * 24 + c) 0 ≡ cond (memb x (take (i + 1) N) && earlier G h x) (getD (oneMoved (s .counts) x o w) (x * 24 + c) 0) (getD (s .counts) (x * 24 + c) 0)
+    cells-after x c lc =
+        elim (ℕ-discrete x v) [
+          | yes e ↦ rw e (told-here told (λ t. t) c lc
+              ∙ ap (λ (t : Bool). cond t (getD (oneMoved (s .counts) v o w) (v * 24 + c) 0) (getD (s .counts) (v * 24 + c) 0))
+              (told-is ∙ sym (ap (λ (t : Bool). t && earlier G h v) (next-memb v ∙ is-true _ (or-r (memb v (take i N)) (eqb v v) (eq→eqb v v refl))))))
+          | no d ↦
+              told-elsewhere cs v o w (movable .row) (before .low) (before .high) (nt .start .differ tt) told x c lc d ∙ nt .made .counts x c lc
               ∙ ap (λ (t : Bool). cond (t && earlier G h x) (getD (oneMoved (s .counts) x o w) (x * 24 + c) 0) (getD (s .counts) (x * 24 + c) 0))
               (sym (next-memb x ∙ or-not (memb x (take i N)) (eqb x v) (λ t. d (eqb→eq x v t))))
+        ]
 
-      pub notified : Notifying s ns ds (oneMoved cs v o w) q′ h o w (i + 1)
-      unfolding told
-      notified = record {
-        start = nt .start;
-        made = record {
-          long = moved-length cs v o w (movable .row) (before .low) (before .high) (nt .start .differ tt) ∙ nt .made .long;
-          counts = cells-after;
-          queue = put .queue;
-          members = λ x l. put .members x l ∙ ap (λ (t : Bool). t || eqb x v) (nt .made .members x l)
-              ∙ more-and (waits G (s .queue) x) (memb x (take i N)) (eqb x v) (earlier G h x) (λ t. rw (eqb→eq x v t) later)
-              ∙ ap (λ (t : Bool). waits G (s .queue) x || (t && earlier G h x)) (sym (next-memb x));
-        };
-      }
+    -- one neighbour more
+    pub notified : {q′ : List ℕ} → Enqueued G q q′ v told → Notifying s ns ds (cond told (oneMoved cs v o w) cs) q′ h o w (i + 1)
+    notified put = record {
+      start = nt .start;
+      made = record {
+        long = told-length cs v o w (movable .row) (before .low) (before .high) (nt .start .differ tt) told ∙ nt .made .long;
+        counts = cells-after;
+        queue = put .queue;
+        members = λ x l. put .members x l ∙ ap (λ (t : Bool). t || (told && eqb x v)) (nt .made .members x l)
+            ∙ more-and (waits G (s .queue) x) (memb x (take i N)) (eqb x v) (earlier G h x) told (λ t. rw (eqb→eq x v t) told-is)
+            ∙ ap (λ (t : Bool). waits G (s .queue) x || (t && earlier G h x)) (sym (next-memb x));
+      };
+    }
 
 abbrev pub noticeOf : Graph → List ℕ → List ℕ → Notice
 noticeOf G cs q = record { graph = G; counts = cs; queue = q }

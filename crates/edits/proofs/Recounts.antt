@@ -1,5 +1,5 @@
 -- Counts of one seed after the other, counted anew.
-use mathlib.Core.Bool.{_||_}
+use mathlib.Core.Bool.{true, _||_}
 use mathlib.Core.List.{List}
 use mathlib.Core.Logic.{inl, inr, _≢_}
 use mathlib.Core.Path.{_≡_, sym, _∙_}
@@ -43,7 +43,7 @@ module _ {G : Graph} {ns ds ws cs cs′ queue : List ℕ} {n v : ℕ} (rc : Reco
   pub enqueuable : Enqueuable G ds queue v
   enqueuable = enqueuable-of (rc .shown) (rc .queue) v-bank
 
-  module _ {cs″ queue′ : List ℕ} (same : length cs″ ≡ length cs′) (one : Recounted cs′ cs″ v (countsOf ns ds ws v)) (put : Enqueued G queue queue′ v) where
+  module _ {cs″ queue′ : List ℕ} (same : length cs″ ≡ length cs′) (one : Recounted cs′ cs″ v (countsOf ns ds ws v)) (put : Enqueued G queue queue′ v true) where
     other : (y c : ℕ) → y ≢ v → c < 24 → getD cs″ (y * 24 + c) 0 ≡ getD cs′ (y * 24 + c) 0
     other y c d l = go (decLt y v)
       where

@@ -12,7 +12,7 @@ use Rattle.rule.specs.Order.{earlierBy}
 use Rattle.rule.specs.Graph.{Graph, neighbours, degree, earlier}
 use Rattle.rule.specs.Reach.{isNamed}
 use Rattle.rule.specs.WorkList.{turned, seed}
-use Rattle.rule.proofs.Booleans.{or-l, or-r, T-along, eq→eqb, or-false}
+use Rattle.rule.proofs.Booleans.{or-l, or-r, is-true, T-along, eq→eqb, or-false}
 use Rattle.rule.proofs.Neighbours.{memb-neighbours}
 use Rattle.rule.proofs.Spread.{degree-elsewhere}
 use Rattle.memory.specs.Counts.{byCells}
@@ -22,8 +22,15 @@ use Rattle.edits.specs.Queue.{waits}
 use Rattle.edits.specs.Recount.{Recounting, SeedQueued}
 use Rattle.edits.specs.Work.{Edit, new}
 use Rattle.edits.specs.Seeds.{turnedFrom, Search, Turning, Seedable, Seeded}
-use Rattle.edits.proofs.Notices.{memb-none, no-and, more-and}
+use Rattle.edits.proofs.Notices.{memb-none, more-and}
 use Rattle.edits.proofs.Shows.{row-cell, cell-bank, cell-degree, row-memb, whole-row}
+
+-- one more that fails the test
+no-and : (s t e : Bool) → (T t → T e → ⊥) → (s && e) ≡ ((s || t) && e)
+no-and true t e h = refl
+no-and false true true h = absurd (h tt tt)
+no-and false true false h = refl
+no-and false false e h = refl
 
 module _ {s : Search} {ns ds ws cs queue : List ℕ} {n y d i : ℕ} (tn : Turning s ns ds ws cs queue n y d i) where
   y-bank : y < s .graph .banks
@@ -77,7 +84,7 @@ module _ {s : Search} {ns ds ws cs queue : List ℕ} {n y d i : ℕ} (tn : Turni
     counts = re .counts;
     bank = tn .bank;
     members = λ x h. re .put .members x (omega (arith, tn .counts .banks)) ∙ ap (λ (b : Bool). b || eqb x v) (tn .members x h)
-        ∙ more-and (s .given x) (memb x (take i (neighbours (s .graph) y))) (eqb x v) (turnedFrom ds d y x) (λ u. rw (eqb→eq x v u) went)
+        ∙ more-and (s .given x) (memb x (take i (neighbours (s .graph) y))) (eqb x v) (turnedFrom ds d y x) true (λ u. rw (eqb→eq x v u) (sym (is-true _ went)))
         ∙ ap (λ (b : Bool). s .given x || (b && turnedFrom ds d y x)) (sym (next-memb x));
   }
 

@@ -165,12 +165,12 @@ module _ {e : Edit} {m : Lent} {q q₁ : List ℕ} {p : Progress} {h : ℕ} (wk 
         shown = wk .shown;
         bank = (dq .bank);
         differ = differs;
-        movable = λ x t. record {
-          row = omega (arith, later-bank (wk .shown) h x t, wk .counted .wide-counts);
+        movable = λ x l. record {
+          row = omega (arith, l, wk .counted .wide-counts);
           low = indexed .small h (dq .bank);
           high = omega (arith, at-h, one-free);
-          some = some-count x t;
-          few = omega (arith, wk .counted .cell x w (later-bank (wk .shown) h x t) (omega (arith, at-h, one-free)), standing-le (λ v. getD (m .waves) v 0) w (earlierNeighbours G x), few-earlier (wk .shown) x (later-bank (wk .shown) h x t));
+          some = some-count x;
+          few = omega (arith, wk .counted .cell x w l (omega (arith, at-h, one-free)), standing-le (λ v. getD (m .waves) v 0) w (earlierNeighbours G x), few-earlier (wk .shown) x l);
         };
         queue = dq .queue;
       }
@@ -244,11 +244,11 @@ module _ {e : Edit} {m : Lent} {q q₁ : List ℕ} {p : Progress} {h : ℕ} (wk 
             go : T (reached b) ⊎ (T (reached b) → ⊥) → cond (reached b) (getD (oneMoved (m .counts) b o w) (b * 24 + c) 0) (getD (m .counts) (b * 24 + c) 0) ≡ standing (λ v. getD ws v 0) c (earlierNeighbours G b)
             go (inl t) =
                 let later = and-r changes (laterNeighbour G h b) t in
-                let mv = notifiable .movable b later in
+                let mv = notifiable .movable b lb in
                 cond-yes (reached b) _ _ t
                 ∙ omega (
                   arith,
-                  moved-here (m .counts) b o w (mv .row) (mv .low) (mv .high) (differs (and-l changes (laterNeighbour G h b) t)) c lc (mv .some),
+                  moved-here (m .counts) b o w (mv .row) (mv .low) (mv .high) (differs (and-l changes (laterNeighbour G h b) t)) c lc (mv .some later),
                   standing-move ltb (ltb-strict .irrefl) (λ v. getD (m .waves) v 0) (λ v. getD ws v 0) h (λ v d. sym (at-other v d)) c (earlierNeighbours G b) (earlierNeighbours-sorted G b) (later-counts (wk .shown) h b (dq .bank) later),
                   wk .counted .cell b c lb lc,
                 )

@@ -38,10 +38,10 @@ pub record Enqueuable (G : Graph) (ds words : List ℕ) (v : ℕ) : Type 0 where
   pub queue : Queue G words
   pub bank : v < G .banks
 
--- v is in the queue, with those that were
-pub record Enqueued (G : Graph) (old new : List ℕ) (v : ℕ) : Type 0 where
+-- v is in the queue, if it was put there, with those that were
+pub record Enqueued (G : Graph) (old new : List ℕ) (v : ℕ) (put : Bool) : Type 0 where
   pub queue : Queue G new
-  pub members : (x : ℕ) → x < G .banks → waits G new x ≡ (waits G old x || eqb x v)
+  pub members : (x : ℕ) → x < G .banks → waits G new x ≡ (waits G old x || (put && eqb x v))
 
 -- r is the first word from `from` on that is not 0, or 384 if none is
 pub record First (words : List ℕ) (from r : ℕ) : Type 0 where

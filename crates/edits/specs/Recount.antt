@@ -1,4 +1,5 @@
 -- Counts of the seeds, counted anew.
+use mathlib.Core.Bool.{true}
 use mathlib.Core.List.{List}
 use mathlib.Core.Path.{_≡_}
 use Prim.Native.Nat.{ℕ, _+_, _*_, _<_, _≤_}
@@ -31,4 +32,4 @@ pub record Recounting (G : Graph) (ns ds ws cs cs′ q : List ℕ) (n : ℕ) : T
 -- the same with v, which is put into the queue
 pub record SeedQueued (G : Graph) (ns ds ws cs cs′ q q′ : List ℕ) (n v : ℕ) : Type 0 where
   pub counts : Recounting G ns ds ws cs cs′ q′ n
-  pub put : Enqueued G q q′ v
+  pub put : Enqueued G q q′ v true

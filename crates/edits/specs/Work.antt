@@ -46,12 +46,12 @@ pub record Assigns (cells ws ws′ : List ℕ) (b : ℕ) (changed : Bool) : Type
 unfoldable pub laterNeighbour : Graph → ℕ → ℕ → Bool
 laterNeighbour G b x = memb x (neighbours G b) && earlier G b x
 
--- one count of bank v can go from wave o to wave w
-pub record Movable (cs : List ℕ) (v o w : ℕ) : Type 0 where
+-- one count of bank v can go from wave o to wave w, if v is told
+pub record Movable (cs : List ℕ) (v o w : ℕ) (told : Bool) : Type 0 where
   pub row : v * 24 + 24 ≤ length cs
   pub low : o < 24
   pub high : w < 24
-  pub some : 0 < getD cs (v * 24 + o) 0
+  pub some : T told → 0 < getD cs (v * 24 + o) 0
   pub few : getD cs (v * 24 + w) 0 < 65535
 
 -- Counts after that
@@ -63,7 +63,7 @@ pub record Notifiable (G : Graph) (ns ds cs q : List ℕ) (b : ℕ) (changed : B
   pub shown : Shown G ns ds
   pub bank : b < G .banks
   pub differ : T changed → o ≢ w
-  pub movable : (x : ℕ) → T (laterNeighbour G b x) → Movable cs x o w
+  pub movable : (x : ℕ) → x < G .banks → Movable cs x o w (laterNeighbour G b x)
   pub queue : Queue G q
 
 -- what notifying these banks does (000, definition 4.9): of each one count goes from wave o to w, and every other cell of Counts stays; each is

@@ -7,23 +7,24 @@ use rule::Bank;
 use rule::COUNT_CELLS;
 use rule::ROW_CELLS;
 use rule::Wave;
-ghost use mathlib.Core.Bool.{_&&_};
+ghost use mathlib.Core.Bool.{cond, _&&_};
 ghost use mathlib.Core.Path.{_≡_};
 ghost use Prim.Native.Nat.{_+_, _<_};
 ghost use lib.ListN.{getD};
 ghost use Rattle.rule.specs.Graph.{Graph};
 ghost use Rattle.edits.specs.Work.{Movable, oneMoved, Notice, Notifiable, Notified, Notifying, laterNeighbour};
 
-// Moves one count of bank v from wave `old` to wave `new`.
-fn move_count(counts: &mut [u16], v: Bank, old: Wave, new: Wave)
-    requires { ⌜ Movable (now counts) (v .0) (old .0) (new .0) ⌝ }
-    ensures { λ _. ⌜ now (counts .exit) ≡ oneMoved (now (counts .entry)) (v .0) (old .0) (new .0) ⌝ }
+// If `told`, moves one count of bank v from wave `old` to wave `new`. No branch: about half of the neighbours are told.
+fn move_count(counts: &mut [u16], v: Bank, old: Wave, new: Wave, told: bool)
+    requires { ⌜ Movable (now counts) (v .0) (old .0) (new .0) told ⌝ }
+    ensures { λ _. ⌜ now (counts .exit) ≡ cond told (oneMoved (now (counts .entry)) (v .0) (old .0) (new .0)) (now (counts .entry)) ⌝ }
 {
+    let one = told as u16;
     let base = v.0 as usize * COUNT_CELLS;
     let from = base + old.0 as usize;
     let to = base + new.0 as usize;
-    let fewer = counts[from] - 1;
-    let more = counts[to] + 1;
+    let fewer = counts[from] - one;
+    let more = counts[to] + one;
     counts[from] = fewer;
     counts[to] = more;
 }
@@ -45,11 +46,9 @@ fn notify_one(
 {
     let at = b.0 as usize;
     let v = Bank(neighbours[at * ROW_CELLS + i]);
-    if !is_earlier(degrees, b, v) {
-        return;
-    }
-    move_count(counts, v, old, new);
-    enqueue(degrees, queue, v);
+    let later = is_earlier(degrees, b, v);
+    move_count(counts, v, old, new, later);
+    enqueue(degrees, queue, v, later);
 }
 
 // If b changed, notifies its later neighbours that it went from `old` to `new`.

@@ -9,15 +9,15 @@ ghost use Rattle.edits.specs.Queue.{Enqueuable, Enqueued, First, Head, D
 // The words of a queue: 64 banks to a word, 16 words to a degree, the highest degree first.
 pub const WORDS: usize = 384;
 
-// Puts v into the queue, if it is not there.
-pub fn enqueue(degrees: &[u16], queue: &mut [u64; WORDS], v: Bank)
+// Puts v into the queue, if it is to be `put` there. No branch: of a notified bank's neighbours about half are.
+pub fn enqueue(degrees: &[u16], queue: &mut [u64; WORDS], v: Bank, put: bool)
     requires { ⌜ ((G : Graph) × Enqueuable G (now degrees) (now queue) (v .0)) ⌝ }
-    ensures { λ _. ⌜ ((G : Graph) → Enqueuable G (now (degrees .entry)) (now (queue .entry)) (v .0) → Enqueued G (now (queue .entry)) (now (queue .exit)) (v .0)) ⌝ }
+    ensures { λ _. ⌜ ((G : Graph) → Enqueuable G (now (degrees .entry)) (now (queue .entry)) (v .0) → Enqueued G (now (queue .entry)) (now (queue .exit)) (v .0) put) ⌝ }
 {
     let at = v.0 as usize;
     let degree = degrees[at];
     let word = (MOST_CLASHES - degree) as usize * 16 + at / 64;
-    queue[word] = queue[word] | (1u64 << (at % 64));
+    queue[word] = queue[word] | ((put as u64) << (at % 64));
 }
 
 // The first word from `from` on in which a bank waits, or the number of words.

@@ -31,7 +31,7 @@ fn queue_seed(
     ensures { λ _. ⌜ ((G : Graph) → (was : List ℕ) → Recounting G (now (neighbours .entry)) (now (degrees .entry)) (now (waves .entry)) was (now (counts .entry)) (now (queue .entry)) banks → SeedQueued G (now (neighbours .entry)) (now (degrees .entry)) (now (waves .entry)) was (now (counts .exit)) (now (queue .entry)) (now (queue .exit)) banks (v .0)) ⌝ }
 {
     recount_one(neighbours, degrees, waves, counts, banks, v);
-    enqueue(degrees, queue, v);
+    enqueue(degrees, queue, v, true);
 }
 
 // If the order of b and its neighbour i turned over, where b had the degree `old`: the neighbour is a seed.

@@ -2,8 +2,12 @@
 use borrow.Author.Needs.{needs}
 use native.Mathlib.Omega.{arith}
 use lib.ListN.{length-set}
+use Rattle.edits.proofs.Counting.{at-most, at-most-one, moved-if}
 use Rattle.edits.proofs.notify.move_count.Statement.{statement}
 use Rattle.edits.proofs.notify.move_count.Tie as tie
+
+cast-one : tie.Need-cast-one
+cast-one c = search needs
 
 cast-base : tie.Need-cast-base
 cast-base c = omega arith
@@ -30,7 +34,7 @@ slice-read-fewer : tie.Need-slice-read-fewer
 slice-read-fewer c = omega arith
 
 sub-fewer : tie.Need-sub-fewer
-sub-fewer c = omega arith
+sub-fewer c = omega (arith, at-most (c .before .before .before .before .args .told) _ (c .before .before .before .before .pre .some))
 
 mul-more : tie.Need-mul-more
 mul-more c = omega arith
@@ -39,7 +43,7 @@ slice-read-more : tie.Need-slice-read-more
 slice-read-more c = omega arith
 
 add-more : tie.Need-add-more
-add-more c = omega arith
+add-more c = omega (arith, at-most-one (c .before .before .before .before .before .args .told))
 
 mul-counts : tie.Need-mul-counts
 mul-counts c = omega arith
@@ -57,12 +61,13 @@ same-length : tie.Need-same-length
 same-length c = simp length-set
 
 returns : tie.Need-returns
-returns c = search needs
+returns c = let a = c .before .before .before .before .before .args in moved-if (a .told) (a .counts .now) (a .v .0) (a .old .0) (a .new .0)
 
 pub move-count-spec : {M : Type 1} → statement M
 move-count-spec =
     tie.close
     (tie.spec
+    cast-one
     cast-base
     mul-base
     cast-from

@@ -1,4 +1,4 @@
--- `enqueue`: the bit of v is set.
+-- `enqueue`: the bit of v is set, or the word stays.
 use borrow.Author.Needs.{needs}
 use native.Mathlib.Omega.{arith}
 use Rattle.edits.proofs.BitQueue.{enqueued}
@@ -35,6 +35,9 @@ mul-queue c = search needs
 element-copy-out-queue : tie.Need-element-copy-out-queue
 element-copy-out-queue c = search needs
 
+cast-queue : tie.Need-cast-queue
+cast-queue c = search needs
+
 shl-queue : tie.Need-shl-queue
 shl-queue c = search needs
 
@@ -45,7 +48,7 @@ element-write-queue : tie.Need-element-write-queue
 element-write-queue c = search needs
 
 returns : tie.Need-returns
-returns c = λ G line. enqueued line
+returns c = λ G line. enqueued _ line
 
 pub enqueue-spec : {M : Type 1} → statement M
 enqueue-spec =
@@ -60,6 +63,7 @@ enqueue-spec =
     add-word
     mul-queue
     element-copy-out-queue
+    cast-queue
     shl-queue
     mul-queue-2
     element-write-queue
