@@ -6,18 +6,24 @@ ghost use Prim.Native.Nat.{ℕ, _≤_};
 ghost use Rattle.rule.specs.Graph.{Graph};
 ghost use Rattle.edits.specs.Queue.{Enqueuable, Enqueued, First, Head, Dequeued};
 
-// The words of a queue: 64 banks to a word, 16 words to a degree, the highest degree first.
+// The banks of a word: one bit each.
+const WORD_BANKS: usize = 64;
+
+// The words of a degree: a bit for each of the 1,024 banks.
+const DEGREE_WORDS: usize = 16;
+
+// The words of a queue: those of the 24 degrees, the highest degree first.
 pub const WORDS: usize = 384;
 
-// Puts v into the queue, if it is to be `put` there. No branch: of a notified bank's neighbours about half are.
+// If `put`, puts v into the queue. No branch: of a bank's neighbours about half are later.
 pub fn enqueue(degrees: &[u16], queue: &mut [u64; WORDS], v: Bank, put: bool)
     requires { ⌜ ((G : Graph) × Enqueuable G (now degrees) (now queue) (v .0)) ⌝ }
     ensures { λ _. ⌜ ((G : Graph) → Enqueuable G (now (degrees .entry)) (now (queue .entry)) (v .0) → Enqueued G (now (queue .entry)) (now (queue .exit)) (v .0) put) ⌝ }
 {
     let at = v.0 as usize;
     let degree = degrees[at];
-    let word = (MOST_CLASHES - degree) as usize * 16 + at / 64;
-    queue[word] = queue[word] | ((put as u64) << (at % 64));
+    let word = (MOST_CLASHES - degree) as usize * DEGREE_WORDS + at / WORD_BANKS;
+    queue[word] = queue[word] | ((put as u64) << (at % WORD_BANKS));
 }
 
 // The first word from `from` on in which a bank waits, or the number of words.
@@ -43,6 +49,6 @@ pub fn dequeue(queue: &mut [u64; WORDS], word: usize) -> Bank
     let bits = queue[word];
     let low = u64::trailing_zeros(bits);
     queue[word] = bits ^ (1u64 << low);
-    let number = word % 16 * 64 + low as usize;
+    let number = word % DEGREE_WORDS * WORD_BANKS + low as usize;
     Bank(number as u16)
 }
