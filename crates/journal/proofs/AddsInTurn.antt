@@ -10,29 +10,25 @@ use borrow.Author.Tests.{lt-ltb, le-ltb}
 use Rattle.rule.specs.Lists.{upto, filter, some, memb, Once}
 use Rattle.rule.specs.Graph.{Graph, neighbours, degree, empty, pair, added}
 use Rattle.rule.specs.Reach.{adding, edited}
-use Rattle.rule.proofs.Booleans.{and-l, and-r, both, or-l, or-r, or-cases, or-false, and-true, and-false, T-along, eq→eqb, test-ext, is-false, lt-or-ge}
+use Rattle.rule.proofs.Booleans.{and-l, and-r, both, or-l, or-r, or-cases, or-false, and-true, and-false, T-along, test-ext, is-false, lt-or-ge}
 use Rattle.rule.proofs.Lists.{in-head, in-tail, in-upto, in-filter, filter-in, upto-below, count-lt, some-in, in-some}
 use Rattle.rule.proofs.Neighbours.{neighbours-in, in-neighbours, neighbours-sorted}
 use Rattle.rule.proofs.OneClash.{pair-a}
 use Rattle.rule.proofs.Order.{ltb-strict}
+use Rattle.rule.proofs.Pairs.{pair-is, pair-here, pair-there}
 use Rattle.rule.proofs.Reaches.{sorted-once, Same}
 use Rattle.rule.proofs.Sorting.{sorted-filter}
 use Rattle.memory.specs.Plan.{Clashes}
 use Rattle.planner.specs.Calls.{editNumber}
 use Rattle.planner.proofs.Numbers.{add-fine}
 use Rattle.planner.proofs.Outcomes.{acceptable}
-use Rattle.planner.proofs.After.{pair-is, pair-here, pair-clash, clashes-edited}
+use Rattle.planner.proofs.After.{pair-clash, clashes-edited}
 use Rattle.list_rows.specs.Rows.{bank}
 use Rattle.journal_fields.specs.declared.field.Entry.{Entry}
 use Rattle.journal_fields.specs.declared.field.Entry.the-variants.{Add}
 use Rattle.journal.specs.Calls.{addsOf, addsBelow}
 use Rattle.journal_replay.specs.Replay.{entryNumber}
 use Rattle.journal.proofs.Turns.{entryGraph, graphAfter, NoneRefused, after-append, none-append, no-clashes}
-
--- b and a are the pair of a and b too
-pair-there : (a b : ℕ) → T (pair a b b a)
-unfolding pair
-pair-there a b = or-r (eqb b a && eqb a b) (eqb b b && eqb a a) (both (eqb b b) (eqb a a) (eq→eqb b b refl) (eq→eqb a a refl))
 
 -- one of a pair with a is a
 pair-near : (a b x y : ℕ) → T (pair a b x y) → T (ltb x (suc a) || ltb y (suc a))

@@ -1,12 +1,12 @@
 -- What holds after an edit, for all plans and edits.
 use mathlib.Core.Bool.{Bool, true, false, _&&_, _||_, not}
 use mathlib.Core.List.{List}
-use mathlib.Core.Logic.{_⊎_, inl, inr, _≢_}
+use mathlib.Core.Logic.{inl, inr, _≢_}
 use mathlib.Core.Path.{_≡_, refl, sym, ap, _∙_}
 use native.Mathlib.Decide.{ℕ-discrete}
 use native.Mathlib.Omega.{arith}
 use Prim.Native.Nat.{ℕ, zero, suc, _+_, _*_, _≤_, _<_}
-use lib.Dec.{T, eqb, eqb→eq, T-not}
+use lib.Dec.{T, eqb, T-not}
 use lib.ListN.{length, getD}
 use Rattle.rule.specs.Graph.{Graph, neighbours, degree, earlier, earlierNeighbours, pair, added, struck}
 use Rattle.rule.specs.Wave.{wave}
@@ -16,6 +16,7 @@ use Rattle.rule.proofs.Booleans.{and-l, and-r, both, or-l, or-r, or-cases, T-al
 use Rattle.rule.proofs.Spread.{same-neighbours, taken-spread, taken-seed, unchanged}
 use Rattle.rule.proofs.Waves.{earlierNeighbours-in}
 use Rattle.rule.proofs.OneClash.{degrees-more, degrees-less, degree-added, degree-struck, neighbours-added, neighbours-struck}
+use Rattle.rule.proofs.Pairs.{pair-is, pair-here}
 use Rattle.rule.proofs.Turned.{edited-one, onTrail-taken}
 use Rattle.rule.proofs.Theorems.{off-trail}
 use Rattle.memory.specs.Counts.{standing}
@@ -31,24 +32,10 @@ use Rattle.planner.specs.Held.{Ready}
 use Rattle.planner.proofs.Numbers.{strike-fine, add-fine}
 use Rattle.planner.proofs.Outcomes.{acceptable, edited-banks}
 
--- the pair of a and b, one way or the other
-pub pair-is : (a b x y : ℕ) → T (pair a b x y) → ((x ≡ a) × (y ≡ b)) ⊎ ((x ≡ b) × (y ≡ a))
-unfolding pair
-pair-is a b x y t =
-    elim (or-cases (eqb x a && eqb y b) (eqb x b && eqb y a) t) [
-      | inl u ↦ inl (eqb→eq x a (and-l (eqb x a) (eqb y b) u), eqb→eq y b (and-r (eqb x a) (eqb y b) u))
-      | inr u ↦ inr (eqb→eq x b (and-l (eqb x b) (eqb y a) u), eqb→eq y a (and-r (eqb x b) (eqb y a) u))
-    ]
-
--- a and b are that pair
-pub pair-here : (a b : ℕ) → T (pair a b a b)
-unfolding pair
-pair-here a b = or-l (eqb a a && eqb b b) _ (both (eqb a a) (eqb b b) (eq→eqb a a refl) (eq→eqb b b refl))
-
 pair-apart : (a b x : ℕ) → a ≢ b → T (pair a b x x) → ⊥
 pair-apart a b x d t = elim (pair-is a b x x t) [ inl e ↦ d (sym (e .0) ∙ e .1) | inr e ↦ d (sym (e .1) ∙ e .0) ]
 
--- its banks clash where a and b do
+-- the banks of a pair clash where a and b do
 pub pair-clash : (G : Graph) (a b : ℕ) → Clashes G → a < G .banks → b < G .banks → (x y : ℕ) → T (pair a b x y) → G .clash x y ≡ G .clash a b
 pair-clash G a b c la lb x y t =
     elim (pair-is a b x y t) [ inl e ↦ rw (e .0, e .1) | inr e ↦ rw (e .0, e .1) (c .symmetric b a lb la) ]

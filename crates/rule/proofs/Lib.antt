@@ -8,6 +8,7 @@ pub mod Waves
 pub mod Agree
 pub mod Sorting
 pub mod Neighbours
+pub mod Pairs
 pub mod OneClash
 pub mod Spread
 pub mod Steps

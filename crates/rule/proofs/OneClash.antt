@@ -1,14 +1,13 @@
 -- One clash more and one clash less: neighbours and degrees. A clash struck is one that, added again, gives back the neighbours.
-use mathlib.Core.Bool.{Bool, true, false, cond, _&&_, _||_, not, or-comm}
-use mathlib.Core.List.{List, [], _∷_}
-use mathlib.Core.Logic.{_⊎_, inl, inr, _≢_}
+use mathlib.Core.Bool.{Bool, true, false, _&&_, _||_, not, or-comm}
+use mathlib.Core.Logic.{inl, inr, _≢_}
 use mathlib.Core.Path.{_≡_, refl, sym, ap, _∙_}
 use native.Mathlib.Omega.{arith}
-use Prim.Native.Nat.{ℕ, _+_, _≤_, _<_}
+use Prim.Native.Nat.{ℕ, _+_, _<_}
 use lib.Dec.{T, eqb, ltb, eqb→eq, T-not}
 use lib.ListN.{length}
 use borrow.Author.Tests.{eq-eqb, ne-eqb}
-use Rattle.rule.specs.Lists.{upto, filter, memb, insertBy}
+use Rattle.rule.specs.Lists.{upto, memb, insertBy}
 use Rattle.rule.specs.Graph.{Graph, neighbours, degree, pair, added, struck}
 use Rattle.rule.proofs.Booleans.{and-l, and-r, both, or-l, or-r, or-cases, test-ext, T-along, eq→eqb, and-true, or-false}
 use Rattle.rule.proofs.Lists.{filter-cong}

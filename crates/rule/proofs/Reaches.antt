@@ -2,18 +2,18 @@
 -- depends on the clashes between the banks alone.
 use mathlib.Core.Bool.{Bool, true, false, cond, _&&_, _||_, not}
 use mathlib.Core.List.{List, [], _∷_}
-use mathlib.Core.Logic.{_⊎_, inl, inr}
+use mathlib.Core.Logic.{inl, inr}
 use mathlib.Core.Path.{_≡_, refl, sym, ap, ap₂, _∙_}
 use native.Mathlib.Omega.{arith}
-use Prim.Native.Nat.{ℕ, _+_, _≤_, _<_}
+use Prim.Native.Nat.{ℕ, _≤_, _<_}
 use lib.Dec.{T, eqb, ltb, ltb→lt, T-not}
 use lib.ListN.{length}
 use Rattle.rule.specs.Lists.{upto, filter, some, memb, insertBy, sortBy, Sorted, Once}
 use Rattle.rule.specs.Graph.{Graph, earlier, later, order}
-use Rattle.rule.specs.Wave.{wave, waves, waveCount}
+use Rattle.rule.specs.Wave.{wave}
 use Rattle.rule.specs.Reach.{Kind, adding, striking, changed, isNamed, isTurned, isReached, onTrail, trail, moved, inCore, around}
 use Rattle.rule.proofs.Booleans.{and-l, and-r, both, or-l, or-r, or-cases, T-along, eq→eqb}
-use Rattle.rule.proofs.Lists.{in-head, in-tail, in-upto, upto-below, filter-cong, some-in, in-some, count-le}
+use Rattle.rule.proofs.Lists.{in-head, in-tail, in-upto, upto-below, some-in, in-some, count-le}
 use Rattle.rule.proofs.Order.{earlier-strict}
 use Rattle.rule.proofs.Sorting.{sorted-filter, sorted-order, memb-order, memb-filter, ordered-unique}
 use Rattle.rule.proofs.Agree.{earlier-agree, wave-agree}

@@ -1,29 +1,21 @@
 -- What one edit does to the waves, and where it stops.
 use mathlib.Core.Bool.{Bool, true, false, cond, _&&_, _||_, not, Bool·beq}
-use mathlib.Core.List.{List, [], _∷_, map}
+use mathlib.Core.List.{map}
 use mathlib.Core.Logic.{_⊎_, inl, inr, _≢_}
-use mathlib.Core.Path.{_≡_, refl, sym, ap, ap₂, subst, _∙_}
-use native.Mathlib.Omega.{arith}
-use Prim.Native.Nat.{ℕ, zero, suc, _≤_, _<_}
-use lib.Dec.{T, eqb, ltb, eqb→eq, T-not}
+use mathlib.Core.Path.{_≡_, refl, sym, ap, _∙_}
+use Prim.Native.Nat.{ℕ, _<_}
+use lib.Dec.{T, eqb, eqb→eq, T-not}
 use lib.ListN.{length}
-use Rattle.rule.specs.Lists.{upto, filter, memb, some}
-use Rattle.rule.specs.Graph.{Graph, neighbours, degree, earlier, earlierNeighbours, pair, added, struck}
+use Rattle.rule.specs.Lists.{upto, filter}
+use Rattle.rule.specs.Graph.{Graph, neighbours, degree, earlier, earlierNeighbours}
 use Rattle.rule.specs.Wave.{lowestFree, wave}
 use Rattle.rule.specs.Reach.{changed, isNamed, isReached}
 use Rattle.rule.specs.WorkList.{OneEdit, turned, seed, isTaken, WorkList, Next}
 use Rattle.rule.proofs.Booleans.{and-l, and-r, both, or-l, or-r, or-cases, passes?, test-ext, T-along, same-test, stable, eq→eqb}
 use Rattle.rule.proofs.Lists.{in-upto, upto-below, filter-cong, map-cong, some-in, in-some}
 use Rattle.rule.proofs.Order.{earlier-trans, earlier-same, earlier-flip}
+use Rattle.rule.proofs.Pairs.{pair-is}
 use Rattle.rule.proofs.Waves.{earlier-induction, earlierNeighbours-in, wave-equation}
-
-pair-cases : (a b x y : ℕ) → T (pair a b x y) → (x ≡ a) ⊎ (x ≡ b)
-unfolding pair
-pair-cases a b x y t =
-    elim (or-cases (eqb x a && eqb y b) (eqb x b && eqb y a) t) [
-      | inl u ↦ inl (eqb→eq x a (and-l (eqb x a) (eqb y b) u))
-      | inr u ↦ inr (eqb→eq x b (and-l (eqb x b) (eqb y a) u))
-    ]
 
 and-cong : (s t u w : Bool) → s ≡ t → (T t → u ≡ w) → (s && u) ≡ (t && w)
 and-cong s true u w e h = let k = h tt in cc
@@ -39,7 +31,7 @@ module _ (old new : Graph) (a b : ℕ) (edit : OneEdit old new a b) where
   degree-elsewhere x h na nb =
       ap length (ap (λ (n : ℕ). filter (old .clash x) (upto n)) (edit .sameBanks)
       ∙ filter-cong (old .clash x) (new .clash x) (upto (new .banks)) (λ v m.
-      edit .elsewhere x v h (upto-below (new .banks) v m) (λ t. elim (pair-cases a b x v t) [ inl e ↦ na e | inr e ↦ nb e ])))
+      edit .elsewhere x v h (upto-below (new .banks) v m) (λ t. elim (pair-is a b x v t) [ inl e ↦ na (e .0) | inr e ↦ nb (e .0) ])))
 
   -- the order towards y has not turned
   not-turned : (y x : ℕ) → y < new .banks → x < new .banks → x ≢ y → (T (turned old new y x) → ⊥) → T (new .clash x y) → earlier old y x ≡ earlier new y x
@@ -60,7 +52,7 @@ module _ (old new : Graph) (a b : ℕ) (edit : OneEdit old new a b) where
   same-earlier x v hx hv n =
       let s = seed-cases x n in
       and-cong (old .clash x v) (new .clash x v) (earlier old v x) (earlier new v x)
-      (edit .elsewhere x v hx hv (λ t. elim (pair-cases a b x v t) [ inl e ↦ s .0 e | inr e ↦ s .1 e ]))
+      (edit .elsewhere x v hx hv (λ t. elim (pair-is a b x v t) [ inl e ↦ s .0 (e .0) | inr e ↦ s .1 (e .0) ]))
       (λ c. elim (passes? (eqb v a)) [
         | inl t ↦ let e = eqb→eq v a t in rw e (not-turned a x (rw e at hv) hx (s .0) (s .2) (rw e at c))
         | inr na ↦ elim (passes? (eqb v b)) [

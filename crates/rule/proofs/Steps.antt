@@ -1,14 +1,15 @@
 -- The edits, and the work-list from its start, step by step.
-use mathlib.Core.Bool.{Bool, true, false, _&&_, _||_, not, and-comm, or-comm}
+use mathlib.Core.Bool.{Bool, true, false, _&&_, _||_, not}
 use mathlib.Core.Logic.{_⊎_, inl, inr, _≢_}
-use mathlib.Core.Path.{_≡_, refl, sym, ap, ap₂, subst, _∙_}
+use mathlib.Core.Path.{_≡_, refl, sym, ap₂}
 use Prim.Native.Nat.{ℕ, _<_}
 use lib.Dec.{T, eqb, eqb→eq, T-not, not-T}
 use Rattle.rule.specs.Graph.{Graph, earlier, pair, added, struck}
 use Rattle.rule.specs.Reach.{changed}
-use Rattle.rule.specs.WorkList.{OneEdit, seed, isTaken, WorkList, Next}
-use Rattle.rule.proofs.Booleans.{and-l, and-r, both, or-l, or-r, or-cases, passes?, test-ext, T-along, eq→eqb}
+use Rattle.rule.specs.WorkList.{OneEdit, seed, WorkList, Next}
+use Rattle.rule.proofs.Booleans.{and-l, and-r, both, or-l, or-r, or-cases, passes?, T-along, eq→eqb}
 use Rattle.rule.proofs.Order.{earlier-trans, earlier-total}
+use Rattle.rule.proofs.Pairs.{pair-comm}
 use Rattle.rule.proofs.Spread.{taken-seed, taken-spread}
 
 or-fail : (s t : Bool) → (T t → ⊥) → s ≡ (s || t)
@@ -20,10 +21,6 @@ and-pass : (s t : Bool) → (T t → ⊥) → s ≡ (s && not t)
 and-pass true true n = absurd (n tt)
 and-pass true false n = refl
 and-pass false t n = refl
-
-pair-comm : (a b x y : ℕ) → pair a b x y ≡ pair a b y x
-unfolding pair
-pair-comm a b x y = or-comm (eqb x a && eqb y b) (eqb x b && eqb y a) ∙ ap₂ _||_ (and-comm (eqb x b) (eqb y a)) (and-comm (eqb x a) (eqb y b))
 
 -- in a plan whose clashes go both ways, a clash added or struck is one edit
 module _ (G : Graph) (symmetric : (x y : ℕ) → x < G .banks → y < G .banks → G .clash x y ≡ G .clash y x) (a b : ℕ) where

@@ -1,16 +1,14 @@
 -- The lowest neighbour of a bank, and the neighbours that are left when the clash with it is struck.
-use mathlib.Core.Bool.{Bool, true, false, cond, _&&_, _||_, not}
+use mathlib.Core.Bool.{Bool, true, false, _&&_, not}
 use mathlib.Core.List.{List, [], _∷_}
-use mathlib.Core.Logic.{_⊎_, inl, inr}
 use mathlib.Core.Path.{_≡_, refl, sym, ap, subst, _∙_}
 use Prim.Native.Nat.{ℕ, _<_}
-use native.Mathlib.Omega.{arith}
 use lib.Dec.{T, eqb, ltb}
 use borrow.Author.Tests.{eq-eqb, ne-eqb}
-use Rattle.rule.specs.Lists.{upto, filter, memb, Sorted, Strict}
+use Rattle.rule.specs.Lists.{upto, filter, memb, Sorted}
 use Rattle.rule.specs.Graph.{Graph, neighbours, pair, struck}
-use Rattle.rule.proofs.Booleans.{T-along, is-true, or-false}
-use Rattle.rule.proofs.Lists.{in-head, in-tail, in-cons, in-none, upto-below, filter-in, filter-cong, filter-filter}
+use Rattle.rule.proofs.Booleans.{is-true, or-false}
+use Rattle.rule.proofs.Lists.{in-head, in-tail, upto-below, filter-in, filter-cong, filter-filter}
 use Rattle.rule.proofs.Order.{ltb-strict}
 use Rattle.rule.proofs.Sorting.{sorted-upto, sorted-filter}
 

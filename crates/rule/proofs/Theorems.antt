@@ -8,7 +8,7 @@ use Prim.Native.Nat.{ℕ, _≤_, _<_}
 use lib.Dec.{T, ltb, eqb}
 use lib.ListN.{length}
 use Rattle.rule.specs.Lists.{memb, insertBy, Sorted, Once, Strict}
-use Rattle.rule.specs.Graph.{Graph, degree, earlier, earlierNeighbours, order, added, struck}
+use Rattle.rule.specs.Graph.{Graph, degree, earlier, earlierNeighbours, order}
 use Rattle.rule.specs.Wave.{lowestFree, wave}
 use Rattle.rule.specs.Reach.{Kind, edited, changed, isTurned, onTrail, trail, moved, around}
 use Rattle.rule.specs.WorkList.{OneEdit, Allowed, turned, seed, isTaken, taken, WorkList, Next}

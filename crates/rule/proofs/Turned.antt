@@ -1,14 +1,12 @@
 -- (ii) of the trail in 01's words, for an add and for a strike, is "the order turned over": an add raises the degrees of a and b alone, and by
 -- one, so no neighbour gets earlier than they are.
 use mathlib.Core.Bool.{Bool, true, false, _&&_, _||_, not, Bool·beq}
-use mathlib.Core.List.{List}
 use mathlib.Core.Logic.{_⊎_, inl, inr, _≢_}
-use mathlib.Core.Path.{_≡_, refl, sym, ap, ap₂, _∙_}
+use mathlib.Core.Path.{_≡_, refl, sym, ap, ap₂}
 use native.Mathlib.Decide.{ℕ-discrete}
 use native.Mathlib.Omega.{arith}
 use Prim.Native.Nat.{ℕ, _+_, _<_}
 use lib.Dec.{T, eqb, ltb, eqb→eq, ltb→lt, lt→ltb}
-use Rattle.rule.specs.Lists.{filter}
 use Rattle.rule.specs.Order.{earlierBy}
 use Rattle.rule.specs.Graph.{Graph, degree, earlier, later, order, added, struck}
 use Rattle.rule.specs.Reach.{Kind, adding, striking, edited, isNamed, isTurned, isReached, onTrail, trail}
