@@ -1,8 +1,8 @@
--- The walk that tests whether the rows name each other: each bank's cursor counts the banks so far that name it, so if the
--- rows are symmetric it stands at the next bank of its own row that is to come.
+-- The walk over the clashes: the row of a bank names first, up to its cursor, the banks so far that name it, so if the rows
+-- are symmetric its cursor stands at the next bank that is to come. Each clash is counted when it is met.
 use mathlib.Core.Bool.{Bool, true, false, cond, not, _||_}
 use mathlib.Core.List.{List, [], _∷_, _++_}
-use mathlib.Core.Logic.{_⊎_, inl, inr}
+use mathlib.Core.Logic.{_⊎_, inl, inr, _≢_}
 use mathlib.Core.Path.{_≡_, refl, sym, ap, _∙_, subst}
 use Prim.Native.Nat.{ℕ, zero, suc, _+_, _*_, _≤_, _<_}
 use native.Mathlib.Decide.{ℕ-discrete}
@@ -12,15 +12,28 @@ use native.Mathlib.Omega.{arith}
 use borrow.Author.Tests.{not-true, not-false}
 use lib.Dec.{T, eqb, eqb→eq}
 use lib.ListN.{length, getD, take, set, length-append, length-set, length-take, replicate, length-replicate, getD-replicate, List·getD-append}
-use lib.Seq.{getD-take, getD-set-same, getD-set-other, getD-at}
+use lib.Seq.{getD-take, getD-set-same, getD-set-other, getD-at, length-take-le}
 use Rattle.rule.specs.Lists.{upto, filter, memb}
 use Rattle.rule.specs.Graph.{neighbours}
-use Rattle.rule.proofs.Booleans.{or-l, or-r, or-cases, passes?, test-ext, T-along, eq→eqb, cond-yes, cond-no}
-use Rattle.rule.proofs.Lists.{in-none, upto-below, filter-cong, filter-kept, filter-left}
+use Rattle.rule.proofs.Booleans.{or-l, or-r, or-cases, passes?, test-ext, T-along, eq→eqb, is-true, is-false, lt-or-ge}
+use Rattle.rule.proofs.Lists.{in-none, in-upto, upto-below, in-filter, filter-in, filter-cong, filter-kept, filter-left}
 use Rattle.rule.proofs.Neighbours.{degree-length}
-use Rattle.memory.specs.Test.{row, Rows, Symmetric, seen, Seen, Walk, OrNot}
+use Rattle.memory.specs.Counts.{byCells, Countable}
+use Rattle.memory.specs.Test.{Says, row, part, Rows, WavesSmall, Symmetric, CellsRight, countsOf, CountsRight}
+use Rattle.memory.specs.Walk.{firstOf, laterOf, grown, Pairable, naming, CountedTo, Ground, Seen, Walk, OrNot}
 use Rattle.memory.proofs.Fronts.{take-next, getD-any, in-cell, cell-of, memb-snoc}
-use Rattle.memory.proofs.Rows.{group-at, inRows, long-row, larger, filled-members, degree-is, cells-are}
+use Rattle.memory.proofs.Rows.{group-at, inRows, long-row, larger, filled-members, degree-is, cells-are, rows-countable}
+use Rattle.memory.proofs.Tallies.{count-none, count-few, skipped, counted, cells-flip, part-of-zeros, part-grown, part-same}
+
+-- the earlier of two banks can be counted for the later one
+pub ordered : {ds ws cl : List ℕ} {b v first later : ℕ} → Pairable ds ws b v cl → first ≡ firstOf ds b v → later ≡ laterOf ds b v
+    → (first < length ws) × (later < 1024) × (getD ws first 0 < 24) × (getD cl (later * 24 + getD ws first 0) 0 < 24)
+ordered {ds} {ws} {cl} {b} {v} p e g = rw (e, g) (go (byCells ds b v))
+  where
+    go : (t : Bool) → (cond t b v < length ws) × (cond t v b < 1024) × (getD ws (cond t b v) 0 < 24)
+        × (getD cl (cond t v b * 24 + getD ws (cond t b v) 0) 0 < 24)
+    go true = (p .long-waves .0, p .few .1, p .small .0, p .room .1)
+    go false = (p .long-waves .1, p .few .0, p .small .1, p .room .0)
 
 -- the place of b among the numbers below n that pass a test
 module _ (p : ℕ → Bool) (b : ℕ) (t : T (p b)) where
@@ -50,169 +63,302 @@ module _ (p : ℕ → Bool) (b : ℕ) (t : T (p b)) where
       here : found (filter p (upto b ++ (b ∷ [])))
       here = rw (filter-kept p (upto b) b t) (omega (arith, length-append (filter p (upto b)) (b ∷ [])), getD-at (filter p (upto b)) b [] 0 (length (filter p (upto b))) refl)
 
-seen-none : (ns : List ℕ) (v : ℕ) → seen ns 0 v ≡ 0
-unfolding seen upto filter
-seen-none ns v = refl
+-- the banks so far that name v
+module _ (ns : List ℕ) (b v : ℕ) where
+  abbrev names : ℕ → Bool
+  names x = memb v (row ns x)
 
-seen-next : (ns : List ℕ) (b v : ℕ) → seen ns (b + 1) v ≡ cond (memb v (row ns b)) (seen ns b v + 1) (seen ns b v)
-seen-next ns b v = ap (λ (k : ℕ). seen ns k v) (add-one b) ∙ elim (passes? (memb v (row ns b))) [
-  | inl t ↦ more t ∙ sym (cond-yes (memb v (row ns b)) (seen ns b v + 1) (seen ns b v) t)
-  | inr f ↦ same f ∙ sym (cond-no (memb v (row ns b)) (seen ns b v + 1) (seen ns b v) f)
-]
-  where
-    p : ℕ → Bool
-    p x = memb v (row ns x)
+  abbrev with-b : Bool → List ℕ
+  with-b t = cond t (naming ns b v ++ (b ∷ [])) (naming ns b v)
 
-    more : T (p b) → seen ns (suc b) v ≡ seen ns b v + 1
-    more t = unfold seen upto in ap length (filter-kept p (upto b) b t) ∙ length-append (filter p (upto b)) (b ∷ [])
+  in-naming : (x : ℕ) → x < b → T (names x) → T (memb x (naming ns b v))
+  unfolding naming
+  in-naming x h t = in-filter names (upto b) x (in-upto b x h) t
 
-    same : (T (p b) → ⊥) → seen ns (suc b) v ≡ seen ns b v
-    same f = unfold seen upto in ap length (filter-left p (upto b) b f)
+  naming-in : (x : ℕ) → T (memb x (naming ns b v)) → (x < b) × T (names x)
+  unfolding naming
+  naming-in x m = let p = filter-in names (upto b) x m in (upto-below b x (p .0), p .1)
 
--- before the first row, and before the first cell of a row
-pub seen-start : {ns ds : List ℕ} {n : ℕ} → Rows ns ds n → Seen ns ds n 0 (replicate 1024 0)
-seen-start {ns} {ds} {n} rows = record {
-  rows = rows;
-  long = length-replicate {A = ℕ} 1024 0;
-  counts = λ v h. getD-replicate {A = ℕ} 1024 v 0 0 (omega (arith, rows .most)) ∙ sym (seen-none ns v);
+  naming-next : with-b (names b) ≡ naming ns (b + 1) v
+  unfolding naming upto
+  naming-next =
+      rw add-one (elim (passes? (names b)) [
+        | inl t ↦ ap with-b (is-true (names b) t) ∙ sym (filter-kept names (upto b) b t)
+        | inr f ↦ ap with-b (is-false (names b) f) ∙ sym (filter-left names (upto b) b f)
+      ])
+
+naming-none : (ns : List ℕ) (v : ℕ) → naming ns 0 v ≡ []
+unfolding naming upto filter
+naming-none ns v = refl
+
+-- before the first row
+pub seen-start : {ns ds ws : List ℕ} {n : ℕ} → Rows ns ds n → WavesSmall ws n → Seen ns ds ws n 0 (replicate 1024 0) (replicate 24576 0)
+seen-start {ns} {ds} {ws} {n} rows waves = record {
+  ground = record {
+    rows = rows;
+    waves = waves;
+    long-cursors = length-replicate {A = ℕ} 1024 0;
+    long-cells = length-replicate {A = ℕ} 24576 0;
+    within = λ v h. rw (none v h) (omega arith);
+  };
+  fronts = λ v l h. rw (none v h) (sym (naming-none ns v));
   met = λ x y h. absurd (omega arith);
+  done = λ x h. absurd (omega arith);
+  begun = λ x l h. rw (none x h) (count-none ds ws x (part-of-zeros x (omega (arith, rows .most))));
 }
+  where
+    none : (v : ℕ) → v < n → getD (replicate {A = ℕ} 1024 0) v 0 ≡ 0
+    none v h = getD-replicate {A = ℕ} 1024 v 0 0 (omega (arith, rows .most))
 
-pub walk-start : {ns ds cs : List ℕ} {n b : ℕ} → Seen ns ds n b cs → b < n → Walk ns ds n b 0 cs
-walk-start {ns} {ds} {cs} {n} {b} s h = record {
-  rows = s .rows;
+-- before the first cell of the row of b that is not below its cursor
+pub walk-start : {ns ds ws cs cl : List ℕ} {n b i : ℕ} → Seen ns ds ws n b cs cl → b < n → i ≡ getD cs b 0 → Walk ns ds ws n b i cs cl
+walk-start {ns} {ds} {ws} {cs} {cl} {n} {b} {i} s h e = record {
+  ground = s .ground;
   bank = h;
-  long = s .long;
-  counts = λ v l. s .counts v l ∙ sym (cond-no (memb v []) (seen ns b v + 1) (seen ns b v) (in-none v));
+  past = omega arith;
+  own = s .fronts b (omega arith) h;
+  fronts = λ v l k. s .fronts v (omega arith) k ∙ sym (ap (with-b ns b v) (is-false (memb v (take i (row ns b))) (λ m.
+      omega (arith, naming-in ns b b v (rw (e, s .fronts b (omega arith) h) at m) .0))));
   met = s .met;
-  here = λ j l. absurd (omega arith);
+  here = λ j l k. absurd (omega arith);
+  done = s .done;
+  half = rw e (s .begun b (omega arith) h);
+  begun = λ x l k. s .begun x (omega arith) k;
 }
 
 -- one cell of the row of b, which names v
-module _ {ns ds cs : List ℕ} {n b i : ℕ} (w : Walk ns ds n b i cs) (hi : i < getD ds b 0) where
+module _ {ns ds ws cs cl : List ℕ} {n b i : ℕ} (w : Walk ns ds ws n b i cs cl) (hi : i < getD ds b 0) where
+  abbrev rows : Rows ns ds n
+  rows = w .ground .rows
+
   abbrev r : List ℕ
   r = row ns b
 
+  abbrev v : ℕ
+  v = getD ns (b * 23 + i) 0
+
   few : (x : ℕ) → x < n → getD ds x 0 ≤ 23
-  few x h = w .rows .right x h .few
+  few x h = rows .right x h .few
 
   pub cell-in : b * 23 + i < length ns
-  cell-in = omega (arith, w .bank, few b (w .bank), w .rows .long-neighbours)
+  cell-in = omega (arith, w .bank, few b (w .bank), rows .long-neighbours)
 
-  cell-is : getD ns (b * 23 + i) 0 ≡ getD r i 0
-  cell-is = sym (group-at 23 ns b i (omega (arith, few b (w .bank))))
+  is-cell : v ≡ getD r i 0
+  is-cell = sym (group-at 23 ns b i (omega (arith, few b (w .bank))))
 
   -- a cell of the row stands at no place before
-  fresh : T (memb (getD r i 0) (take i r)) → ⊥
+  fresh : T (memb v (take i r)) → ⊥
   fresh m =
-      let p = cell-of (take i r) (getD r i 0) m in
+      let p = cell-of (take i r) v m in
       let k : p .0 < i = omega (arith, length-take i r) in
-      omega (arith, p .2, getD-take i r (p .0) 0 k, larger (w .rows) b (w .bank) (p .0) i k hi)
+      omega (arith, is-cell, p .2, getD-take i r (p .0) 0 k, larger rows b (w .bank) (p .0) i k hi)
 
-  module _ {v : ℕ} (is : v ≡ getD ns (b * 23 + i) 0) where
-    is-cell : v ≡ getD r i 0
-    is-cell = is ∙ cell-is
+  pub v-bank : v < n
+  v-bank = omega (arith, is-cell, rows .right b (w .bank) .named i hi .bank)
 
-    pub v-bank : v < n
-    v-bank = omega (arith, is-cell, w .rows .right b (w .bank) .named i hi .bank)
+  pub v-cursor : v < 1024
+  v-cursor = omega (arith, v-bank, rows .most)
 
-    pub v-degree : v < length ds
-    v-degree = omega (arith, v-bank, w .rows .long-degrees)
+  pub v-degree : v < length ds
+  v-degree = omega (arith, v-bank, rows .long-degrees)
 
-    pub v-cursor : v < 1024
-    v-cursor = omega (arith, v-bank, w .rows .most)
+  pub v-few : getD ds v 0 ≤ 23
+  v-few = few v v-bank
 
-    pub v-few : getD ds v 0 ≤ 23
-    v-few = few v v-bank
+  pub v-row : v * 23 + 23 ≤ length ns
+  v-row = omega (arith, v-bank, rows .long-neighbours)
 
-    pub v-row : v * 23 + 23 ≤ length ns
-    v-row = omega (arith, v-bank, w .rows .long-neighbours)
+  in-r : T (memb v r)
+  in-r = rw is-cell (in-cell i r (omega (arith, long-row rows b (w .bank), few b (w .bank))))
 
-    in-r : T (memb v r)
-    in-r = rw is-cell (in-cell i r (omega (arith, long-row (w .rows) b (w .bank), few b (w .bank))))
+  -- if the rows are symmetric, v is not below b: it would stand before the cursor
+  pub not-below : Symmetric ns n → b < v
+  not-below sm = elim (lt-or-ge v b) [ inl l ↦ absurd (before l) | inr g ↦ let d : v ≢ b = other in omega arith ]
+    where
+      other : v ≢ b
+      other e = rows .right b (w .bank) .named i hi .other (sym is-cell ∙ e)
 
-    cursor-v : getD cs v 0 ≡ seen ns b v
+      before : v < b → ⊥
+      before l =
+          let p = cell-of (take (getD cs b 0) r) v (rw (w .own) (in-naming ns b b v l (sm b v (w .bank) v-bank in-r))) in
+          let k : p .0 < getD cs b 0 = omega (arith, length-take (getD cs b 0) r) in
+          omega (arith, is-cell, p .2, getD-take (getD cs b 0) r (p .0) 0 k, w .past, larger rows b (w .bank) (p .0) i (omega (arith, w .past)) hi)
+
+  module _ (lt : b < v) where
+    front-v : take (getD cs v 0) (row ns v) ≡ naming ns b v
+    front-v = w .fronts v lt v-bank ∙ ap (with-b ns b v) (is-false (memb v (take i r)) fresh)
+
+    cursor-v : getD cs v 0 ≡ length (naming ns b v)
     cursor-v =
-        w .counts v v-bank
-        ∙ cond-no (memb v (take i r)) (seen ns b v + 1) (seen ns b v) (λ m. fresh (subst (λ (k : ℕ). T (memb k (take i r))) is-cell m))
+        sym (length-take-le (getD cs v 0) (row ns v) (omega (arith, w .ground .within v v-bank, v-few, long-row rows v v-bank))) ∙ ap length front-v
 
-    -- the row of v has b at its cursor
-    module _ (less : getD cs v 0 < getD ds v 0) (m : ℕ) (met : m ≡ getD cs v 0) (there : getD ns (v * 23 + m) 0 ≡ b) where
-      abbrev cs′ : List ℕ
-      cs′ = set cs v (getD cs v 0 + 1)
-
-      named-more : (u : ℕ) → memb u (take (i + 1) r) ≡ (memb u (take i r) || eqb u v)
-      named-more u =
-          ap (memb u) (take-next i r (omega (arith, long-row (w .rows) b (w .bank), few b (w .bank))))
-          ∙ memb-snoc (take i r) (getD r i 0) u ∙ ap (λ (k : ℕ). memb u (take i r) || eqb u k) (sym is-cell)
-
-      after : (u : ℕ) → u < n → Dec (u ≡ v) → getD cs′ u 0 ≡ cond (memb u (take (i + 1) r)) (seen ns b u + 1) (seen ns b u)
-      after u h (yes e) =
-          rw e (
-          getD-set-same cs v (getD cs v 0 + 1) 0 (omega (arith, v-cursor, w .long))
-          ∙ ap (λ (k : ℕ). k + 1) cursor-v
-          ∙ sym (cond-yes (memb v (take (i + 1) r)) (seen ns b v + 1) (seen ns b v) (T-along (sym (named-more v)) (or-r (memb v (take i r)) (eqb v v) (eq→eqb v v refl)))))
-      after u h (no q) =
-          let same : memb u (take i r) ≡ memb u (take (i + 1) r) =
-          test-ext (memb u (take i r)) (memb u (take (i + 1) r))
-          (λ k. T-along (sym (named-more u)) (or-l (memb u (take i r)) (eqb u v) k))
-          (λ k. elim (or-cases (memb u (take i r)) (eqb u v) (T-along (named-more u) k)) [ inl t ↦ t | inr t ↦ absurd (q (eqb→eq u v t)) ]) in
-          getD-set-other cs v u (getD cs v 0 + 1) 0 q ∙ w .counts u h ∙ ap (λ (t : Bool). cond t (seen ns b u + 1) (seen ns b u)) same
-
-      names-b : T (memb b (row ns v))
-      names-b =
-          let k : m < 23 = omega (arith, v-few) in
-          let e : getD (row ns v) m 0 ≡ b = group-at 23 ns v m k ∙ there in
-          subst (λ (z : ℕ). T (memb z (row ns v))) e (in-cell m (row ns v) (omega (arith, long-row (w .rows) v v-bank)))
-
-      pub walk-step : Walk ns ds n b (i + 1) cs′
-      walk-step = record {
-        rows = w .rows;
-        bank = w .bank;
-        long = length-set cs v (getD cs v 0 + 1) ∙ w .long;
-        counts = λ u h. after u h (ℕ-discrete u v);
-        met = w .met;
-        here = λ j h. let k : j ≤ i = omega arith in go j (eq-or-lt-of-le k);
-      }
-        where
-          go : (j : ℕ) → (j ≡ i) ⊎ (j < i) → T (memb b (row ns (getD r j 0)))
-          go j (inl e) = subst (λ (k : ℕ). T (memb b (row ns k))) (is-cell ∙ ap (λ (k : ℕ). getD r k 0) (sym e)) names-b
-          go j (inr l) = w .here j l
-
-    -- if the rows are symmetric, it does
+    -- if the rows are symmetric, the row of v has b at its cursor
     module _ (sm : Symmetric ns n) where
       abbrev test : ℕ → Bool
       test x = memb x (row ns v)
 
-      seen-is : seen ns b v ≡ length (filter test (upto b))
-      unfolding seen
-      seen-is =
-          ap length (filter-cong (λ x. memb v (row ns x)) test (upto b) (λ x t.
+      naming-is : naming ns b v ≡ filter test (upto b)
+      unfolding naming
+      naming-is =
+          filter-cong (λ x. memb v (row ns x)) test (upto b) (λ x t.
           let h : x < n = omega (arith, upto-below b x t, w .bank) in
-          test-ext (memb v (row ns x)) (test x) (sm x v h v-bank) (sm v x v-bank h)))
+          test-ext (memb v (row ns x)) (test x) (sm x v h v-bank) (sm v x v-bank h))
 
       at-b : found test b (sm b v (w .bank) v-bank in-r) (neighbours (inRows n ns) v)
       unfolding neighbours
       at-b = place test b (sm b v (w .bank) v-bank in-r) n (w .bank)
 
-      pub not-past : getD cs v 0 < getD ds v 0
-      not-past = omega (arith, cursor-v, seen-is, at-b .0, degree-is (w .rows) v v-bank, degree-length (inRows n ns) v)
+      cursor-is : getD cs v 0 ≡ length (filter test (upto b))
+      cursor-is = cursor-v ∙ ap length naming-is
 
-      pub not-other : (m : ℕ) → m ≡ getD cs v 0 → getD ns (v * 23 + m) 0 ≡ b
-      not-other m e =
-          let k : m < 23 = omega (arith, not-past, v-few) in
-          let q : m ≡ length (filter test (upto b)) = omega (arith, cursor-v, seen-is) in
-          sym (group-at 23 ns v m k) ∙ cells-are (w .rows) v v-bank m k
-          ∙ getD-any (neighbours (inRows n ns) v) m 65535 0 (omega (arith, at-b .0))
-          ∙ ap (λ (z : ℕ). getD (neighbours (inRows n ns) v) z 0) q ∙ at-b .1
+      pub not-past : getD cs v 0 < getD ds v 0
+      not-past = omega (arith, cursor-is, at-b .0, degree-is rows v v-bank, degree-length (inRows n ns) v)
+
+      pub not-other : getD ns (v * 23 + getD cs v 0) 0 ≡ b
+      not-other =
+          let k : getD cs v 0 < 23 = omega (arith, not-past, v-few) in
+          sym (group-at 23 ns v (getD cs v 0) k) ∙ cells-are rows v v-bank (getD cs v 0) k
+          ∙ getD-any (neighbours (inRows n ns) v) (getD cs v 0) 65535 0 (omega (arith, cursor-is, at-b .0))
+          ∙ ap (λ (z : ℕ). getD (neighbours (inRows n ns) v) z 0) cursor-is ∙ at-b .1
+
+    -- the row of v has b at its cursor
+    module _ (less : getD cs v 0 < getD ds v 0) where
+      count-b : Countable ns ds ws n b
+      count-b = rows-countable rows (w .ground .waves) (w .bank)
+
+      count-v : Countable ns ds ws n v
+      count-v = rows-countable rows (w .ground .waves) v-bank
+
+      wave-small : (x : ℕ) → x < n → getD ws x 0 < 24
+      wave-small = w .ground .waves .small
+
+      pub pairable : Pairable ds ws b v cl
+      pairable = record {
+        long-degrees = (omega (arith, w .bank, rows .long-degrees), v-degree);
+        long-waves = (omega (arith, w .bank, w .ground .waves .long), omega (arith, v-bank, w .ground .waves .long));
+        few = (omega (arith, w .bank, rows .most), v-cursor);
+        small = (wave-small b (w .bank), wave-small v v-bank);
+        long = w .ground .long-cells;
+        room = (
+          rw (group-at 24 cl b (getD ws v 0) (wave-small v v-bank)) at (count-few count-b hi (w .half) (getD ws v 0) (wave-small v v-bank)),
+          rw (group-at 24 cl v (getD ws b 0) (wave-small b (w .bank))) at (count-few count-v less (w .begun v lt v-bank) (getD ws b 0) (wave-small b (w .bank))),
+        );
+      }
+
+      module _ (there : getD ns (v * 23 + getD cs v 0) 0 ≡ b) where
+        abbrev cs′ : List ℕ
+        cs′ = set cs v (getD cs v 0 + 1)
+
+        abbrev cl′ : Bool → List ℕ
+        cl′ t = grown cl (cond t v b * 24 + getD ws (cond t b v) 0)
+
+        apart : v ≢ b
+        apart e = omega arith
+
+        cursor-same : (u : ℕ) → u ≢ v → getD cs′ u 0 ≡ getD cs u 0
+        cursor-same u q = getD-set-other cs v u (getD cs v 0 + 1) 0 q
+
+        cursor-more : getD cs′ v 0 ≡ getD cs v 0 + 1
+        cursor-more = getD-set-same cs v (getD cs v 0 + 1) 0 (omega (arith, v-cursor, w .ground .long-cursors))
+
+        -- the cursors
+        named-more : (u : ℕ) → memb u (take (i + 1) r) ≡ (memb u (take i r) || eqb u v)
+        named-more u =
+            ap (memb u) (take-next i r (omega (arith, long-row rows b (w .bank), few b (w .bank))))
+            ∙ memb-snoc (take i r) (getD r i 0) u ∙ ap (λ (k : ℕ). memb u (take i r) || eqb u k) (sym is-cell)
+
+        front-more : take (getD cs v 0 + 1) (row ns v) ≡ naming ns b v ++ (b ∷ [])
+        front-more =
+            let k : getD cs v 0 < 23 = omega (arith, v-few) in
+            take-next (getD cs v 0) (row ns v) (omega (arith, long-row rows v v-bank))
+            ∙ ap (λ (xs : List ℕ). xs ++ (getD (row ns v) (getD cs v 0) 0 ∷ [])) front-v
+            ∙ ap (λ (y : ℕ). naming ns b v ++ (y ∷ [])) (group-at 23 ns v (getD cs v 0) k ∙ there)
+
+        front : (u : ℕ) → b < u → u < n → Dec (u ≡ v) → take (getD cs′ u 0) (row ns u) ≡ with-b ns b u (memb u (take (i + 1) r))
+        front u l h (yes e) =
+            rw e (ap (λ (k : ℕ). take k (row ns v)) cursor-more ∙ front-more
+            ∙ sym (ap (with-b ns b v) (is-true (memb v (take (i + 1) r)) (T-along (sym (named-more v)) (or-r (memb v (take i r)) (eqb v v) (eq→eqb v v refl))))))
+        front u l h (no q) =
+            let same : memb u (take i r) ≡ memb u (take (i + 1) r) =
+            test-ext (memb u (take i r)) (memb u (take (i + 1) r))
+            (λ k. T-along (sym (named-more u)) (or-l (memb u (take i r)) (eqb u v) k))
+            (λ k. elim (or-cases (memb u (take i r)) (eqb u v) (T-along (named-more u) k)) [ inl t ↦ t | inr t ↦ absurd (q (eqb→eq u v t)) ]) in
+            ap (λ (k : ℕ). take k (row ns u)) (cursor-same u q) ∙ w .fronts u l h ∙ ap (with-b ns b u) same
+
+        within : (u : ℕ) → u < n → Dec (u ≡ v) → getD cs′ u 0 ≤ getD ds u 0
+        within u h (yes e) = rw e (omega (arith, cursor-more))
+        within u h (no q) = omega (arith, cursor-same u q, w .ground .within u h)
+
+        names-b : T (memb b (row ns v))
+        names-b =
+            let k : getD cs v 0 < 23 = omega (arith, v-few) in
+            let e : getD (row ns v) (getD cs v 0) 0 ≡ b = group-at 23 ns v (getD cs v 0) k ∙ there in
+            subst (λ (z : ℕ). T (memb z (row ns v))) e (in-cell (getD cs v 0) (row ns v) (omega (arith, long-row rows v v-bank)))
+
+        met-more : (j : ℕ) → getD cs b 0 ≤ j → (j ≡ i) ⊎ (j < i) → T (memb b (row ns (getD r j 0)))
+        met-more j g (inl e) = subst (λ (k : ℕ). T (memb b (row ns k))) (is-cell ∙ ap (λ (k : ℕ). getD r k 0) (sym e)) names-b
+        met-more j g (inr l) = w .here j g l
+
+        -- the counts
+        untouched : (t : Bool) (x k : ℕ) → x < n → x ≢ b → x ≢ v → CountedTo ns ds ws cl x k → CountedTo ns ds ws (cl′ t) x k
+        untouched true x k h p q tl = rw (part-same cl x v (getD ws b 0) (w .ground .long-cells) (omega (arith, rows .most)) (wave-small b (w .bank)) q) tl
+        untouched false x k h p q tl = rw (part-same cl x b (getD ws v 0) (w .ground .long-cells) (omega (arith, rows .most)) (wave-small v v-bank) p) tl
+
+        half : (t : Bool) → byCells ds b v ≡ t → CountedTo ns ds ws (cl′ t) b (i + 1)
+        half true e =
+            rw (part-same cl b v (getD ws b 0) (w .ground .long-cells) (omega (arith, w .bank, rows .most)) (wave-small b (w .bank)) (λ q. apart (sym q)))
+            (skipped count-b hi (w .half) (cells-flip ds v b apart ∙ ap not e))
+        half false e =
+            rw (part-grown cl b (getD ws v 0) (w .ground .long-cells) (omega (arith, w .bank, rows .most)) (wave-small v v-bank))
+            (counted count-b hi (w .half) (cells-flip ds v b apart ∙ ap not e) refl)
+
+        whole : (t : Bool) → byCells ds b v ≡ t → CountedTo ns ds ws (cl′ t) v (getD cs v 0 + 1)
+        whole true e =
+            rw (part-grown cl v (getD ws b 0) (w .ground .long-cells) v-cursor (wave-small b (w .bank)))
+            (counted count-v less (w .begun v lt v-bank) (ap (λ (k : ℕ). byCells ds k v) there ∙ e) (ap (λ (k : ℕ). getD ws k 0) (sym there)))
+        whole false e =
+            rw (part-same cl v b (getD ws v 0) (w .ground .long-cells) v-cursor (wave-small v v-bank) apart)
+            (skipped count-v less (w .begun v lt v-bank) (ap (λ (k : ℕ). byCells ds k v) there ∙ e))
+
+        begun : (t : Bool) → byCells ds b v ≡ t → (x : ℕ) → b < x → x < n → Dec (x ≡ v) → CountedTo ns ds ws (cl′ t) x (getD cs′ x 0)
+        begun t e x l h (yes q) = rw (q, cursor-more) (whole t e)
+        begun t e x l h (no q) = rw (cursor-same x q) (untouched t x (getD cs x 0) h (λ p. omega arith) q (w .begun x l h))
+
+        walk-on : (t : Bool) → byCells ds b v ≡ t → Walk ns ds ws n b (i + 1) cs′ (cl′ t)
+        walk-on t e =
+            let same : getD cs′ b 0 ≡ getD cs b 0 = cursor-same b (λ q. apart (sym q)) in
+            record {
+              ground = record {
+                rows = rows;
+                waves = w .ground .waves;
+                long-cursors = length-set cs v (getD cs v 0 + 1) ∙ w .ground .long-cursors;
+                long-cells = length-set cl _ _ ∙ w .ground .long-cells;
+                within = λ u h. within u h (ℕ-discrete u v);
+              };
+              bank = w .bank;
+              past = omega (arith, same, w .past);
+              own = rw same (w .own);
+              fronts = λ u l h. front u l h (ℕ-discrete u v);
+              met = w .met;
+              here = λ j g h. let k : j ≤ i = omega arith in met-more j (omega (arith, same)) (eq-or-lt-of-le k);
+              done = λ x h. untouched t x (getD ds x 0) (omega (arith, w .bank)) (λ p. omega arith) (λ p. omega arith) (w .done x h);
+              half = half t e;
+              begun = λ x l h. begun t e x l h (ℕ-discrete x v);
+            }
+
+        -- as the code has it: `to` is v as an index
+        pub walk-step : {to : ℕ} {cl″ : List ℕ} → to ≡ v → cl″ ≡ grown cl (laterOf ds b v * 24 + getD ws (firstOf ds b v) 0)
+            → Walk ns ds ws n b (i + 1) (set cs to (getD cs to 0 + 1)) cl″
+        walk-step p q = rw (p, q) (walk-on (byCells ds b v) refl)
 
 -- after the last cell of the row
-pub walk-end : {ns ds cs : List ℕ} {n b : ℕ} → Walk ns ds n b (getD ds b 0) cs → Seen ns ds n (b + 1) cs
-walk-end {ns} {ds} {cs} {n} {b} w = record {
-  rows = w .rows;
-  long = w .long;
-  counts = λ v h. w .counts v h ∙ ap (λ (t : Bool). cond t (seen ns b v + 1) (seen ns b v)) (members v h) ∙ sym (seen-next ns b v);
+pub walk-end : {ns ds ws cs cl : List ℕ} {n b : ℕ} → Walk ns ds ws n b (getD ds b 0) cs cl → Seen ns ds ws n (b + 1) cs cl
+walk-end {ns} {ds} {ws} {cs} {cl} {n} {b} w = record {
+  ground = w .ground;
+  fronts = λ v l h. w .fronts v (omega arith) h ∙ ap (with-b ns b v) (members v h) ∙ naming-next ns b v;
   met = λ x y h hy m. let k : x ≤ b = omega arith in go x y hy m (eq-or-lt-of-le k);
+  done = λ x h. let k : x ≤ b = omega arith in all x (eq-or-lt-of-le k);
+  begun = λ x l h. w .begun x (omega arith) h;
 }
   where
     r : List ℕ
@@ -222,21 +368,38 @@ walk-end {ns} {ds} {cs} {n} {b} w = record {
     d = getD ds b 0
 
     members : (y : ℕ) → y < n → memb y (take d r) ≡ memb y r
-    members = filled-members (w .rows) b (w .bank)
+    members = filled-members (w .ground .rows) b (w .bank)
+
+    -- a cell before the cursor is a bank that names b, and the others were met
+    cell-met : (j : ℕ) → j < d → (j < getD cs b 0) ⊎ (getD cs b 0 ≤ j) → T (memb b (row ns (getD r j 0)))
+    cell-met j h (inl l) =
+        let e : getD (naming ns b b) j 0 ≡ getD r j 0 = ap (λ (xs : List ℕ). getD xs j 0) (sym (w .own)) ∙ getD-take (getD cs b 0) r j 0 l in
+        let k : j < length (naming ns b b) = omega (arith, ap length (w .own), length-take (getD cs b 0) r, long-row (w .ground .rows) b (w .bank), w .ground .rows .right b (w .bank) .few) in
+        subst (λ (z : ℕ). T (memb b (row ns z))) e (naming-in ns b b (getD (naming ns b b) j 0) (in-cell j (naming ns b b) k) .1)
+    cell-met j h (inr g) = w .here j g h
 
     here : (y : ℕ) → y < n → T (memb y r) → T (memb b (row ns y))
     here y h m =
         let p = cell-of (take d r) y (T-along (sym (members y h)) m) in
         let k : p .0 < d = omega (arith, length-take d r) in
-        subst (λ (z : ℕ). T (memb b (row ns z))) (sym (getD-take d r (p .0) 0 k) ∙ p .2) (w .here (p .0) k)
+        subst (λ (z : ℕ). T (memb b (row ns z))) (sym (getD-take d r (p .0) 0 k) ∙ p .2) (cell-met (p .0) k (lt-or-ge (p .0) (getD cs b 0)))
 
     go : (x y : ℕ) → y < n → T (memb y (row ns x)) → (x ≡ b) ⊎ (x < b) → T (memb x (row ns y))
     go x y hy m (inl e) = rw e (here y hy (subst (λ (k : ℕ). T (memb y (row ns k))) e m))
     go x y hy m (inr l) = w .met x y l hy m
 
--- after the last row
-pub seen-end : {ns ds cs : List ℕ} {n b : ℕ} → n ≤ b → Seen ns ds n b cs → Symmetric ns n
-seen-end l s x y hx hy m = s .met x y (omega arith) hy m
+    all : (x : ℕ) → (x ≡ b) ⊎ (x < b) → CountedTo ns ds ws cl x (getD ds x 0)
+    all x (inl e) = rw e (w .half)
+    all x (inr l) = w .done x l
+
+-- after the last row: what tests Counts by the cells tests it by the counts
+module _ {ns ds ws cs cl : List ℕ} {n b : ℕ} (l : n ≤ b) (s : Seen ns ds ws n b cs cl) where
+  cell-is : (x c : ℕ) → x < n → c < 24 → getD (part cl x) c 0 ≡ countsOf ns ds ws x c
+  cell-is x c h k = s .done x (omega arith) .counts c k
+
+  pub seen-end : (counts : List ℕ) (r : Bool) → Says (CellsRight ws cl counts n) r → Says (Symmetric ns n × CountsRight ns ds ws counts n) r
+  seen-end counts true t = (λ x y hx hy m. s .met x y (omega arith) hy m, λ x h c k. rw (← (cell-is x c h k)) (t x h c k))
+  seen-end counts false t = λ p. t (λ x h c k. rw (cell-is x c h k) (p .1 x h c k))
 
 -- the answer, where the code tests its denial
 module _ (state : Type 0) (ns : List ℕ) (n : ℕ) (q : Bool) (h : OrNot state ns n q) where

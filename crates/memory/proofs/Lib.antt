@@ -10,8 +10,8 @@ pub mod Agree
 pub mod Views
 pub mod Ascending
 pub mod Rows
-pub mod Cursors
 pub mod Tallies
+pub mod Cursors
 pub mod Sums
 pub mod Tested
 pub mod Question

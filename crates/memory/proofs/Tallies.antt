@@ -1,21 +1,26 @@
 -- Counting the earlier neighbours of a bank by their waves, and what it counts.
-use mathlib.Core.Bool.{Bool, true, false}
+use mathlib.Core.Bool.{Bool, true, false, not}
 use mathlib.Core.List.{List, [], _∷_, _++_}
+use mathlib.Core.Logic.{inl, inr, _≢_}
 use mathlib.Core.Path.{_≡_, sym, ap, _∙_}
 use Prim.Native.Nat.{ℕ, _+_, _*_, _≤_, _<_}
 use native.Mathlib.Decide.{ℕ-discrete}
 use native.Mathlib.Omega.{arith}
-use lib.ListN.{length, getD, set, take, drop, length-set, length-take, length-drop}
+use lib.Dec.{not-T, T-not}
+use lib.ListN.{length, getD, set, take, drop, length-set, length-take, length-drop, replicate, length-replicate, getD-replicate}
 use lib.Seq.{getD-take, getD-drop, getD-set-same, getD-set-other, length-take-le, ext-getD}
 use Rattle.rule.specs.Lists.{filter}
 use Rattle.rule.specs.Graph.{Graph, neighbours, degree, earlier, earlierNeighbours}
-use Rattle.rule.proofs.Booleans.{T-along}
+use Rattle.rule.proofs.Booleans.{T-along, test-ext}
 use Rattle.rule.proofs.Lists.{filter-cong, filter-short, filter-kept, filter-left}
 use Rattle.rule.proofs.Neighbours.{degree-length, neighbours-in, earlier-ones}
+use Rattle.rule.proofs.Order.{keyed-strict}
 use Rattle.memory.specs.Counts.{byCells, standing, countIn, Countable, Tallied}
 use Rattle.memory.specs.View.{Shown, Rowed}
-use Rattle.memory.specs.Test.{countsOf}
+use Rattle.memory.specs.Test.{part, countsOf}
+use Rattle.memory.specs.Walk.{grown}
 use Rattle.memory.proofs.Fronts.{take-next, getD-any, in-cell}
+use Rattle.memory.proofs.Rows.{group-at, length-group}
 use Rattle.memory.proofs.Standing.{bit-yes, bit-no, standing-snoc, standing-le}
 
 -- cells set to 0 one after the other
@@ -90,6 +95,58 @@ module _ {ns ds ws : List ℕ} {n b i : ℕ} (ct : Countable ns ds ws n b) (lt :
               standing-snoc wave-of c (filter sooner (take i xs)) v,
               bit-no (wave-of v) c (λ p. q (sym p ∙ sym is)),
             )
+
+-- of two banks, one is earlier
+pub cells-flip : (ds : List ℕ) (p q : ℕ) → p ≢ q → byCells ds p q ≡ not (byCells ds q p)
+unfolding byCells
+cells-flip ds p q n =
+    let strict = keyed-strict (λ x. getD ds x 0) in
+    test-ext (byCells ds p q) (not (byCells ds q p))
+    (λ s. not-T (byCells ds q p) (λ t. strict .irrefl p (strict .trans p q p s t)))
+    (λ s. elim (strict .total p q n) [ inl t ↦ t | inr t ↦ absurd (T-not (byCells ds q p) s t) ])
+
+-- the parts of cells that count for every bank
+pub part-of-zeros : (x : ℕ) → x < 1024 → Tallied (part (replicate 24576 0) x) (λ c. 0)
+part-of-zeros x h = record {
+  long = length-group 24 (replicate 24576 0) x 1024 h (omega (arith, length-replicate {A = ℕ} 24576 0));
+  counts = λ c k. group-at 24 (replicate 24576 0) x c k ∙ getD-replicate {A = ℕ} 24576 (x * 24 + c) 0 0 (omega arith);
+}
+
+module _ (cells : List ℕ) (x : ℕ) where
+  long-part : length cells ≡ 24576 → x < 1024 → length (part cells x) ≡ 24
+  long-part l h = length-group 24 cells x 1024 h (omega arith)
+
+-- after one more in cell w of the part of q
+module _ (cells : List ℕ) (x : ℕ) where
+  pub part-same : (q w : ℕ) → length cells ≡ 24576 → x < 1024 → w < 24 → x ≢ q → part (grown cells (q * 24 + w)) x ≡ part cells x
+  part-same q w l h k n =
+      let cells′ = grown cells (q * 24 + w) in
+      let l′ : length cells′ ≡ 24576 = length-set cells (q * 24 + w) (getD cells (q * 24 + w) 0 + 1) ∙ l in
+      ext-getD 0 (part cells′ x) (part cells x) (long-part cells′ x l′ h ∙ sym (long-part cells x l h)) (λ c s.
+      let t : c < 24 = omega (arith, long-part cells′ x l′ h) in
+      group-at 24 cells′ x c t ∙ getD-set-other cells (q * 24 + w) (x * 24 + c) (getD cells (q * 24 + w) 0 + 1) 0 (λ e. n (omega arith))
+      ∙ sym (group-at 24 cells x c t))
+
+  pub part-grown : (w : ℕ) → length cells ≡ 24576 → x < 1024 → w < 24 → part (grown cells (x * 24 + w)) x ≡ grown (part cells x) w
+  part-grown w l h k =
+      ext-getD 0 (part cells′ x) (grown (part cells x) w)
+      (long-part cells′ x l′ h ∙ sym (length-set (part cells x) w (getD (part cells x) w 0 + 1) ∙ long-part cells x l h)) (λ c s.
+      let t : c < 24 = omega (arith, long-part cells′ x l′ h) in
+      group-at 24 cells′ x c t ∙ cell c t (ℕ-discrete c w))
+    where
+      cells′ : List ℕ
+      cells′ = grown cells (x * 24 + w)
+
+      l′ : length cells′ ≡ 24576
+      l′ = length-set cells (x * 24 + w) (getD cells (x * 24 + w) 0 + 1) ∙ l
+
+      cell : (c : ℕ) → c < 24 → Dec (c ≡ w) → getD cells′ (x * 24 + c) 0 ≡ getD (grown (part cells x) w) c 0
+      cell c t (yes e) =
+          rw e (getD-set-same cells (x * 24 + w) (getD cells (x * 24 + w) 0 + 1) 0 (omega arith)
+          ∙ sym (getD-set-same (part cells x) w (getD (part cells x) w 0 + 1) 0 (omega (arith, long-part cells x l h)) ∙ ap (λ (k : ℕ). k + 1) (group-at 24 cells x w k)))
+      cell c t (no d) =
+          getD-set-other cells (x * 24 + w) (x * 24 + c) (getD cells (x * 24 + w) 0 + 1) 0 (λ e. d (omega arith))
+          ∙ sym (getD-set-other (part cells x) w c (getD (part cells x) w 0 + 1) 0 d ∙ group-at 24 cells x c t)
 
 -- rows and degrees that show a plan give its order and its earlier neighbours
 pub shown : {G : Graph} {ns ds : List ℕ} → Rowed G ns ds → Shown G ns ds

@@ -4,9 +4,10 @@ use mathlib.Core.List.{List, map}
 use mathlib.Core.Path.{_≡_, refl, sym, ap, _∙_, subst}
 use Prim.Native.Nat.{ℕ, zero, suc, _+_, _*_, _-_, _≤_, _<_}
 use native.Mathlib.Omega.{arith}
+use borrow.Author.Count.{below-more}
 use borrow.Author.Tests.{not-true, not-false}
 use lib.Dec.{T}
-use lib.ListN.{getD, take, drop}
+use lib.ListN.{getD}
 use Rattle.rule.specs.Lists.{memb}
 use Rattle.rule.specs.Graph.{Graph, earlierNeighbours}
 use Rattle.rule.specs.Wave.{lowestFree, wave}
@@ -15,16 +16,16 @@ use Rattle.rule.proofs.Lists.{map-cong}
 use Rattle.rule.proofs.Theorems.{wave-equation, wave-unique, lowestFree-free, lowestFree-smaller, lowestFree-only}
 use Rattle.rule.proofs.Waves.{earlierNeighbours-in}
 use Rattle.memory.specs.declared.Tally.{Tally}
-use Rattle.memory.specs.Counts.{standing, Tallied}
+use Rattle.memory.specs.Counts.{standing}
 use Rattle.memory.specs.Plan.{Slices, tallyOf, PlanOf}
 use Rattle.memory.specs.View.{Rowed, Held}
-use Rattle.memory.specs.Test.{Says, row, part, RowsRight, Rows, CellRight, PartRight, Tested}
+use Rattle.memory.specs.Test.{Says, row, RowsRight, Rows, CellRight, Tested}
 use Rattle.memory.proofs.Fronts.{pos}
 use Rattle.memory.proofs.Standing.{standing-cong, standing-pos, pos-standing}
 use Rattle.memory.proofs.Plans.{Long}
 use Rattle.memory.proofs.Agree.{tally-eq}
 use Rattle.memory.proofs.Views.{held-of, plan-of, held-small}
-use Rattle.memory.proofs.Rows.{group-at, group-lent, inRows, rowed, row-right}
+use Rattle.memory.proofs.Rows.{group-at, inRows, rowed, row-right}
 use Rattle.memory.proofs.Tallies.{shown, counts-are}
 use Rattle.memory.proofs.Sums.{clash-count-is, wave-count-is}
 
@@ -35,16 +36,18 @@ granted P r s e = subst (λ (b : Bool). Says P b) (not-false r e) s
 pub denied : (P : Type 0) (r : Bool) → Says P r → not r ≡ true → P → ⊥
 denied P r s e = subst (λ (b : Bool). Says P b) (not-true r e) s
 
+-- whether all cells before c pass, after one cell more
+module _ (P : ℕ → Type 0) (c : ℕ) where
+  pub says-denied : (P c → ⊥) → Says ((k : ℕ) → k < c + 1 → P k) false
+  says-denied n f = n (f c (omega arith))
+
+  pub says-granted : (r : Bool) → Says ((k : ℕ) → k < c → P k) r → P c → Says ((k : ℕ) → k < c + 1 → P k) r
+  says-granted true h p = below-more P c h p
+  says-granted false h p = λ f. h (λ k l. f k (omega arith))
+
 -- rows that are right, in slices that are long enough
 pub rows-of : {s : Slices} {n : ℕ} → n ≤ 1024 → Long n s → RowsRight (s .neighbours) (s .degrees) n → Rows (s .neighbours) (s .degrees) n
 rows-of most l right = record { most = most; long-neighbours = l .neighbours; long-degrees = l .degrees; right = right }
-
--- a part tested by the cells of a count is tested by the count
-pub says-part : {cells : List ℕ} {count : ℕ → ℕ} → Tallied cells count → (cs : List ℕ) (b w : ℕ) (r : Bool)
-    → Says (PartRight (take (b * 24 + 24 - b * 24) (drop (b * 24) cs)) (λ c. getD cells c 0) w) r → Says (PartRight (part cs b) count w) r
-says-part {cells} {count} t cs b w true s =
-    λ c k. rw (← (group-lent 24 cs b), ← (t .counts c k)) (s c k)
-says-part {cells} {count} t cs b w false s = λ h. s (λ c k. rw (group-lent 24 cs b, t .counts c k) (h c k))
 
 zero-if : (k : ℕ) → (0 < k → ⊥) → k ≡ 0
 zero-if zero h = refl

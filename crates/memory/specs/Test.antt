@@ -1,11 +1,11 @@
 -- Question 5 as the code tests it: bank by bank, from the cells alone.
-use mathlib.Core.Bool.{Bool, true, false, cond}
+use mathlib.Core.Bool.{Bool, true, false}
 use mathlib.Core.List.{List, foldr}
 use mathlib.Core.Path.{_≡_}
 use Prim.Native.Nat.{ℕ, _+_, _*_, _-_, _/_, _≤_, _<_}
 use lib.Dec.{T}
 use lib.ListN.{length, getD, take, drop}
-use Rattle.rule.specs.Lists.{upto, filter, memb}
+use Rattle.rule.specs.Lists.{upto, memb}
 use Rattle.memory.specs.declared.Tally.{Tally}
 use Rattle.memory.specs.Plan.{Slices}
 use Rattle.memory.specs.Counts.{countIn, mostOf}
@@ -48,31 +48,6 @@ pub record Rows (ns ds : List ℕ) (n : ℕ) : Type 0 where
 abbrev pub Symmetric : List ℕ → ℕ → Type 0
 Symmetric ns n = (x y : ℕ) → x < n → y < n → T (memb y (row ns x)) → T (memb x (row ns y))
 
--- how many banks below b name v
-unfoldable pub seen : List ℕ → ℕ → ℕ → ℕ
-seen ns b v = length (filter (λ x. memb v (row ns x)) (upto b))
-
--- the walk before the row of b: each bank's cursor counts the banks so far that name it, and the rows so far are met
-pub record Seen (ns ds : List ℕ) (n b : ℕ) (cursors : List ℕ) : Type 0 where
-  pub rows : Rows ns ds n
-  pub long : length cursors ≡ 1024
-  pub counts : (v : ℕ) → v < n → getD cursors v 0 ≡ seen ns b v
-  pub met : (x y : ℕ) → x < b → y < n → T (memb y (row ns x)) → T (memb x (row ns y))
-
--- the walk within the row of b, after i of its cells
-pub record Walk (ns ds : List ℕ) (n b i : ℕ) (cursors : List ℕ) : Type 0 where
-  pub rows : Rows ns ds n
-  pub bank : b < n
-  pub long : length cursors ≡ 1024
-  pub counts : (v : ℕ) → v < n → getD cursors v 0 ≡ cond (memb v (take i (row ns b))) (seen ns b v + 1) (seen ns b v)
-  pub met : (x y : ℕ) → x < b → y < n → T (memb y (row ns x)) → T (memb x (row ns y))
-  pub here : (j : ℕ) → j < i → T (memb b (row ns (getD (row ns b) j 0)))
-
--- the walk goes on, or the rows are not symmetric
-abbrev pub OrNot : Type 0 → List ℕ → ℕ → Bool → Type 0
-OrNot state ns n true = state
-OrNot state ns n false = Symmetric ns n → ⊥
-
 -- cell c of a bank's part of Counts is its count, which says of the bank's wave w that it is the lowest free one
 pub record CellRight (cell count c w : ℕ) : Type 0 where
   pub same : cell ≡ count
@@ -81,6 +56,10 @@ pub record CellRight (cell count c w : ℕ) : Type 0 where
 
 abbrev pub PartRight : List ℕ → (ℕ → ℕ) → ℕ → Type 0
 PartRight part count w = (c : ℕ) → c < 24 → CellRight (getD part c 0) (count c) c w
+
+-- the same of the parts of n banks, by counts that stand in cells
+abbrev pub CellsRight : List ℕ → List ℕ → List ℕ → ℕ → Type 0
+CellsRight ws cells cs n = (b : ℕ) → b < n → PartRight (part cs b) (λ c. getD (part cells b) c 0) (getD ws b 0)
 
 -- Counts of b, from the cells
 abbrev pub countsOf : List ℕ → List ℕ → List ℕ → ℕ → ℕ → ℕ

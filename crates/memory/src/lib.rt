@@ -3,6 +3,7 @@ mod count;
 mod order;
 mod room;
 mod test;
+mod walk;
 
 pub use count::count_earlier;
 pub use count::wave_count;

@@ -1,7 +1,8 @@
 // Question 5: whether lent memory holds a plan. Each bank is tested from the cells alone; no plan is worked out.
 use crate::Tally;
-use crate::count::count_earlier;
 use crate::count::wave_count;
+use crate::walk::ALL_COUNTS;
+use crate::walk::row_matched;
 use rule::Bank;
 use rule::COUNT_CELLS;
 use rule::MOST_BANKS;
@@ -9,13 +10,12 @@ use rule::MOST_WAVES;
 use rule::ROW_CELLS;
 use rule::UNUSED;
 use rule::Wave;
-use rule::wide;
 ghost use mathlib.Core.Bool.{true};
 ghost use mathlib.Core.Path.{_≡_};
 ghost use Prim.Native.Nat.{ℕ, _+_, _*_, _≤_, _<_};
 ghost use lib.ListN.{length, getD};
 ghost use Rattle.memory.specs.Plan.{slicesOf, longEnough, holds};
-ghost use Rattle.memory.specs.Test.{Says, row, part, Named, RowRight, RowsRight, Rows, Symmetric, Seen, Walk, OrNot, CellRight, PartRight, countsOf, CountsRight, Small, WavesSmall, sum};
+ghost use Rattle.memory.specs.Test.{Says, row, part, Named, RowRight, RowsRight, Rows, Symmetric, CellRight, PartRight, CellsRight, CountsRight, Small, WavesSmall, sum};
 
 // Whether cell i of b's row is a bank other than b, larger than that before it.
 fn named_right(row: &[u16], i: usize, banks: u16, b: Bank) -> bool
@@ -115,73 +115,6 @@ fn rows_right(neighbours: &[u16], degrees: &[u16], banks: u16) -> bool
     true
 }
 
-// Whether b is the next bank of the row of v, the bank in cell i of b's row; if so, v's cursor goes on.
-fn match_one(
-    neighbours: &[u16],
-    degrees: &[u16],
-    cursors: &mut [u16; MOST_BANKS],
-    banks: u16,
-    b: Bank,
-    i: usize,
-) -> bool
-    requires { ⌜ Walk (now neighbours) (now degrees) banks (b .0) i (now cursors) ⌝ }
-    requires { ⌜ i < getD (now degrees) (b .0) 0 ⌝ }
-    ensures { λ r. ⌜ OrNot (Walk (now (neighbours .entry)) (now (degrees .entry)) banks (b .0) (i + 1) (now (cursors .exit))) (now (neighbours .entry)) banks r ⌝ }
-{
-    let at = b.0 as usize;
-    let v = wide(neighbours[at * ROW_CELLS + i]);
-    let met = cursors[v];
-    if degrees[v] <= met {
-        return false;
-    }
-    if neighbours[v * ROW_CELLS + wide(met)] != b.0 {
-        return false;
-    }
-    cursors[v] = met + 1;
-    true
-}
-
-// The same for each bank that b's row names.
-fn row_matched(
-    neighbours: &[u16],
-    degrees: &[u16],
-    cursors: &mut [u16; MOST_BANKS],
-    banks: u16,
-    b: Bank,
-) -> bool
-    requires { ⌜ Seen (now neighbours) (now degrees) banks (b .0) (now cursors) ⌝ }
-    requires { ⌜ b .0 < banks ⌝ }
-    ensures { λ r. ⌜ OrNot (Seen (now (neighbours .entry)) (now (degrees .entry)) banks (b .0 + 1) (now (cursors .exit))) (now (neighbours .entry)) banks r ⌝ }
-{
-    let at = b.0 as usize;
-    let degree = wide(degrees[at]);
-    let mut i = 0;
-    while i < degree {
-        if !match_one(neighbours, degrees, cursors, banks, b, i) {
-            return false;
-        }
-        i += 1;
-    }
-    true
-}
-
-// Whether the rows, which are right one by one, name each other: one walk over the cells, in which each bank meets the
-// banks that name it in the order of its own row.
-fn symmetric(neighbours: &[u16], degrees: &[u16], banks: u16) -> bool
-    requires { ⌜ Rows (now neighbours) (now degrees) banks ⌝ }
-    ensures { λ r. ⌜ Says (Symmetric (now (neighbours .entry)) banks) r ⌝ }
-{
-    let mut cursors = [0u16; MOST_BANKS];
-    let mut b: u16 = 0;
-    while b < banks {
-        if !row_matched(neighbours, degrees, &mut cursors, banks, Bank(b)) {
-            return false;
-        }
-        b += 1;
-    }
-    true
-}
-
 // Whether every wave is below 24.
 fn waves_small(waves: &[u16], banks: u16) -> bool
     requires { ⌜ banks ≤ length (now waves) ⌝ }
@@ -220,68 +153,89 @@ fn cell_right(cell: u16, count: u16, c: Wave, wave: Wave) -> bool
     true
 }
 
-// The same of the whole part.
-fn part_right(part: &[u16], cells: &[u16; COUNT_CELLS], wave: Wave) -> bool
+// The same of the whole part. No cell ends the test early, so that the cells are tested side by side.
+fn part_right(part: &[u16], cells: &[u16], wave: Wave) -> bool
     requires { ⌜ length (now part) ≡ 24 ⌝ }
+    requires { ⌜ length (now cells) ≡ 24 ⌝ }
     ensures { λ r. ⌜ Says (PartRight (now (part .entry)) (λ c. getD (now (cells .entry)) c 0) (wave .0)) r ⌝ }
 {
+    let mut right = true;
     let mut c: u16 = 0;
     while c < MOST_WAVES {
         let at = c as usize;
         if !cell_right(part[at], cells[at], Wave(c), wave) {
-            return false;
+            right = false;
         }
         c += 1;
     }
-    true
+    right
 }
 
 // The same of bank b's cells.
-fn bank_counts_right(
-    neighbours: &[u16],
-    degrees: &[u16],
-    waves: &[u16],
-    counts: &[u16],
-    banks: u16,
-    b: Bank,
-) -> bool
-    requires { ⌜ Rows (now neighbours) (now degrees) banks ⌝ }
-    requires { ⌜ WavesSmall (now waves) banks ⌝ }
+fn bank_counts_right(waves: &[u16], cells: &[u16], counts: &[u16], banks: u16, b: Bank) -> bool
+    requires { ⌜ banks ≤ length (now waves) ⌝ }
+    requires { ⌜ 24 * banks ≤ length (now cells) ⌝ }
     requires { ⌜ 24 * banks ≤ length (now counts) ⌝ }
     requires { ⌜ b .0 < banks ⌝ }
     ensures { λ r. ⌜ Says (PartRight (part (now (counts .entry)) (b .0))
-        (countsOf (now (neighbours .entry)) (now (degrees .entry)) (now (waves .entry)) (b .0))
+        (λ c. getD (part (now (cells .entry)) (b .0)) c 0)
         (getD (now (waves .entry)) (b .0) 0)) r ⌝ }
 {
-    let mut cells = [0u16; COUNT_CELLS];
-    count_earlier(neighbours, degrees, waves, &mut cells[..], banks, b);
     let at = b.0 as usize;
     let start = at * COUNT_CELLS;
     let end = start + COUNT_CELLS;
-    part_right(&counts[start..end], &cells, Wave(waves[at]))
+    part_right(&counts[start..end], &cells[start..end], Wave(waves[at]))
 }
 
 // The same of every bank.
-fn counts_right(
-    neighbours: &[u16],
-    degrees: &[u16],
-    waves: &[u16],
-    counts: &[u16],
-    banks: u16,
-) -> bool
-    requires { ⌜ Rows (now neighbours) (now degrees) banks ⌝ }
-    requires { ⌜ WavesSmall (now waves) banks ⌝ }
+fn counts_right(waves: &[u16], cells: &[u16], counts: &[u16], banks: u16) -> bool
+    requires { ⌜ banks ≤ length (now waves) ⌝ }
+    requires { ⌜ 24 * banks ≤ length (now cells) ⌝ }
     requires { ⌜ 24 * banks ≤ length (now counts) ⌝ }
-    ensures { λ r. ⌜ Says (CountsRight (now (neighbours .entry)) (now (degrees .entry)) (now (waves .entry)) (now (counts .entry)) banks) r ⌝ }
+    ensures { λ r. ⌜ Says (CellsRight (now (waves .entry)) (now (cells .entry)) (now (counts .entry)) banks) r ⌝ }
 {
     let mut b: u16 = 0;
     while b < banks {
-        if !bank_counts_right(neighbours, degrees, waves, counts, banks, Bank(b)) {
+        if !bank_counts_right(waves, cells, counts, banks, Bank(b)) {
             return false;
         }
         b += 1;
     }
     true
+}
+
+// Whether the rows, which are right one by one, name each other, and Counts and the waves are right by them.
+fn clashes_right(
+    neighbours: &[u16],
+    degrees: &[u16],
+    waves: &[u16],
+    counts: &[u16],
+    banks: u16,
+) -> bool
+    requires { ⌜ Rows (now neighbours) (now degrees) banks ⌝ }
+    requires { ⌜ WavesSmall (now waves) banks ⌝ }
+    requires { ⌜ 24 * banks ≤ length (now counts) ⌝ }
+    ensures { λ r. ⌜ Says (Symmetric (now (neighbours .entry)) banks
+        × CountsRight (now (neighbours .entry)) (now (degrees .entry)) (now (waves .entry)) (now (counts .entry)) banks) r ⌝ }
+{
+    let mut cursors = [0u16; MOST_BANKS];
+    let mut cells = [0u16; ALL_COUNTS];
+    let mut b: u16 = 0;
+    while b < banks {
+        if !row_matched(
+            neighbours,
+            degrees,
+            waves,
+            &mut cursors,
+            &mut cells,
+            banks,
+            Bank(b),
+        ) {
+            return false;
+        }
+        b += 1;
+    }
+    counts_right(waves, &cells[..], counts, banks)
 }
 
 // The sum of the degrees.
@@ -317,13 +271,10 @@ pub fn holds_plan(
     if !rows_right(neighbours, degrees, banks) {
         return false;
     }
-    if !symmetric(neighbours, degrees, banks) {
-        return false;
-    }
     if !waves_small(waves, banks) {
         return false;
     }
-    if !counts_right(neighbours, degrees, waves, counts, banks) {
+    if !clashes_right(neighbours, degrees, waves, counts, banks) {
         return false;
     }
     if tally.clashes != degree_sum(degrees, banks) / 2 {

@@ -1,19 +1,8 @@
--- The part that is lent is tested by the cells counted.
+-- The parts that are lent are those of b.
 use borrow.Author.Needs.{needs}
-use mathlib.Core.Path.{refl}
-use lib.ListN.{getD}
-use Rattle.memory.proofs.Rows.{rows-countable}
-use Rattle.memory.proofs.Tested.{says-part}
+use Rattle.memory.proofs.Rows.{group-lent}
 use Rattle.memory.proofs.test.bank_counts_right.Statement.{statement}
 use Rattle.memory.proofs.test.bank_counts_right.Tie as tie
-
-slice-aggregate-count-earlier : tie.Need-slice-aggregate-count-earlier
-slice-aggregate-count-earlier c = search needs
-
-count-earlier-requires : tie.Need-count-earlier-requires
-count-earlier-requires c κs =
-    let p = c .before .before .before .before .before .pre in
-    (rows-countable (p .0) (p .1 .0) (p .1 .1 .1), refl)
 
 cast-at : tie.Need-cast-at
 cast-at c = search needs
@@ -36,26 +25,36 @@ part-part-right-start c = search needs
 part-part-right-end : tie.Need-part-part-right-end
 part-part-right-end c = search needs
 
-mul-t20 : tie.Need-mul-t20
-mul-t20 c = search needs
+mul-part-right-2 : tie.Need-mul-part-right-2
+mul-part-right-2 c = search needs
 
-shared-slice-read-t22 : tie.Need-shared-slice-read-t22
-shared-slice-read-t22 c = search needs
+sub-part-right-2 : tie.Need-sub-part-right-2
+sub-part-right-2 c = search needs
+
+part-part-right-start-2 : tie.Need-part-part-right-start-2
+part-part-right-start-2 c = search needs
+
+part-part-right-end-2 : tie.Need-part-part-right-end-2
+part-part-right-end-2 c = search needs
+
+mul-t19 : tie.Need-mul-t19
+mul-t19 c = search needs
+
+shared-slice-read-t21 : tie.Need-shared-slice-read-t21
+shared-slice-read-t21 c = search needs
 
 part-right-requires : tie.Need-part-right-requires
 part-right-requires c κs = search needs
 
 returns : tie.Need-returns
 returns c =
-    let a = c .before .before .before .before .before .before .before .before .before .before .before .before .args in
-    says-part (c .before .before .before .before .before .before .count-earlier .ensures) (a .counts .now) (a .b .0) (getD (a .waves .now) (a .b .0) 0) (c .part-right .result) (c .part-right .ensures)
+    let a = c .before .before .before .before .before .before .before .before .args in
+    rw (group-lent 24 (a .counts .now) (a .b .0), group-lent 24 (a .cells .now) (a .b .0)) at (c .part-right .ensures)
 
 pub bank-counts-right-spec : {M : Type 1} → statement M
 bank-counts-right-spec =
     tie.close
     (tie.spec
-    slice-aggregate-count-earlier
-    count-earlier-requires
     cast-at
     mul-start
     add-end
@@ -63,7 +62,11 @@ bank-counts-right-spec =
     sub-part-right
     part-part-right-start
     part-part-right-end
-    mul-t20
-    shared-slice-read-t22
+    mul-part-right-2
+    sub-part-right-2
+    part-part-right-start-2
+    part-part-right-end-2
+    mul-t19
+    shared-slice-read-t21
     part-right-requires
     returns)

@@ -4,16 +4,16 @@ use native.Mathlib.Omega.{arith}
 use Prim.Native.Nat.{ℕ, _-_, _<_, _≤_}
 use borrow.Author.Count.{below-more}
 use lib.ListN.{getD}
-use Rattle.memory.specs.Test.{part, PartRight, countsOf}
+use Rattle.memory.specs.Test.{part, PartRight}
 use Rattle.memory.proofs.Tested.{granted, denied}
 use Rattle.memory.proofs.test.counts_right.Statement.{statement}
 use Rattle.memory.proofs.test.counts_right.Tie as tie
 
 abbrev Inv-loop : tie.InvT-loop
-Inv-loop neighbours degrees waves counts banks b₀ b = (b ≤ banks) × ((k : ℕ) → k < b → PartRight (part counts k) (countsOf neighbours degrees waves k) (getD waves k 0))
+Inv-loop waves cells counts banks b₀ b = (b ≤ banks) × ((k : ℕ) → k < b → PartRight (part counts k) (λ c. getD (part cells k) c 0) (getD waves k 0))
 
 abbrev μ-loop : tie.MeasureT-loop
-μ-loop neighbours degrees waves counts banks b₀ b = banks - b
+μ-loop waves cells counts banks b₀ b = banks - b
 
 loop-holds : tie.Need-loop-holds Inv-loop μ-loop
 loop-holds c = (search needs, λ k h. absurd (omega arith))

@@ -1,19 +1,21 @@
--- The cells before c are right.
+-- `right` says whether the cells before c are right.
 use borrow.Author.Needs.{needs}
 use native.Mathlib.Omega.{arith}
 use Prim.Native.Nat.{ℕ, _-_, _<_, _≤_}
-use borrow.Author.Count.{below-more}
+use mathlib.Core.Bool.{true, false}
+use mathlib.Core.Logic.{⊎-elim}
+use mathlib.Core.Path.{_≡_}
 use lib.ListN.{getD}
-use Rattle.memory.specs.Test.{CellRight}
-use Rattle.memory.proofs.Tested.{granted, denied}
+use Rattle.memory.specs.Test.{Says, CellRight}
+use Rattle.memory.proofs.Tested.{granted, denied, says-denied, says-granted}
 use Rattle.memory.proofs.test.part_right.Statement.{statement}
 use Rattle.memory.proofs.test.part_right.Tie as tie
 
 abbrev Inv-loop : tie.InvT-loop
-Inv-loop part cells wave c₀ c = (c ≤ 24) × ((k : ℕ) → k < c → CellRight (getD part k 0) (getD cells k 0) k (wave .0))
+Inv-loop part cells wave right₀ c₀ right c = (c ≤ 24) × Says ((k : ℕ) → k < c → CellRight (getD part k 0) (getD cells k 0) k (wave .0)) right
 
 abbrev μ-loop : tie.MeasureT-loop
-μ-loop part cells wave c₀ c = 24 - c
+μ-loop part cells wave right₀ c₀ right c = 24 - c
 
 loop-holds : tie.Need-loop-holds Inv-loop μ-loop
 loop-holds c = (search needs, λ k h. absurd (omega arith))
@@ -30,14 +32,11 @@ shared-slice-read-cell-right c = search needs
 mul-cell-right-2 : tie.Need-mul-cell-right-2 Inv-loop μ-loop
 mul-cell-right-2 c = search needs
 
-element-copy-out-cell-right : tie.Need-element-copy-out-cell-right Inv-loop μ-loop
-element-copy-out-cell-right c = search needs
+shared-slice-read-cell-right-2 : tie.Need-shared-slice-read-cell-right-2 Inv-loop μ-loop
+shared-slice-read-cell-right-2 c = search needs
 
 cell-right-requires : tie.Need-cell-right-requires Inv-loop μ-loop
 cell-right-requires c κs = search needs
-
-returns : tie.Need-returns Inv-loop μ-loop
-returns c = λ f. denied _ (c .before .cell-right .result) (c .before .cell-right .ensures) (c .if1 .taken) (f (c .before .before .before .before .before .loop .c) (omega arith))
 
 add-c : tie.Need-add-c Inv-loop μ-loop
 add-c c = search needs
@@ -46,10 +45,20 @@ loop-less : tie.Need-loop-less Inv-loop μ-loop
 loop-less c = search needs
 
 loop-again : tie.Need-loop-again Inv-loop μ-loop
-loop-again c = (search needs, below-more _ _ (c .before .before .before .before .before .loop .inv .1) (granted _ (c .before .cell-right .result) (c .before .cell-right .ensures) (c .if1 .left)))
+loop-again c =
+    let at = c .before .before .before .before .before .loop in
+    let said = c .before .cell-right in (
+      search needs,
+      ⊎-elim
+          (λ w. rw (w .1) (says-denied _ (at .c) (denied _ (said .result) (said .ensures) (w .0 .taken))))
+          (λ w. rw (w .1) (says-granted _ (at .c) (at .right) (at .inv .1) (granted _ (said .result) (said .ensures) (w .0 .left))))
+          (c .if1 .came),
+    )
 
-returns-2 : tie.Need-returns-2 Inv-loop μ-loop
-returns-2 c = λ k h. c .before .loop .inv .1 k (omega arith)
+returns : tie.Need-returns Inv-loop μ-loop
+returns c =
+    let e : c .before .loop .c ≡ 24 = omega arith in
+    rw e at (c .before .loop .inv .1)
 
 pub part-right-spec : {M : Type 1} → statement M
 part-right-spec =
@@ -62,10 +71,9 @@ part-right-spec =
     mul-cell-right
     shared-slice-read-cell-right
     mul-cell-right-2
-    element-copy-out-cell-right
+    shared-slice-read-cell-right-2
     cell-right-requires
-    returns
     add-c
     loop-less
     loop-again
-    returns-2)
+    returns)
