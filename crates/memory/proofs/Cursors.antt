@@ -19,21 +19,11 @@ use Rattle.rule.proofs.Booleans.{or-l, or-r, or-cases, passes?, test-ext, T-alo
 use Rattle.rule.proofs.Lists.{in-none, in-upto, upto-below, in-filter, filter-in, filter-cong, filter-kept, filter-left}
 use Rattle.rule.proofs.Neighbours.{degree-length}
 use Rattle.memory.specs.Counts.{byCells, Countable}
-use Rattle.memory.specs.Test.{Says, row, part, Rows, WavesSmall, Symmetric, CellsRight, countsOf, CountsRight}
-use Rattle.memory.specs.Walk.{firstOf, laterOf, grown, Pairable, naming, CountedTo, Ground, Seen, Walk, OrNot}
+use Rattle.memory.specs.Test.{Says, row, part, Rows, WavesSmall, Symmetric, PartRight, CellsRight, countsOf, CountsRight}
+use Rattle.memory.specs.Walk.{pairCell, grown, Pairable, naming, CountedTo, Ground, Seen, Walk, OrNot}
 use Rattle.memory.proofs.Fronts.{take-next, getD-any, in-cell, cell-of, memb-snoc}
 use Rattle.memory.proofs.Rows.{group-at, inRows, long-row, larger, filled-members, degree-is, cells-are, rows-countable}
 use Rattle.memory.proofs.Tallies.{count-none, count-few, skipped, counted, cells-flip, part-of-zeros, part-grown, part-same}
-
--- the earlier of two banks can be counted for the later one
-pub ordered : {ds ws cl : List ℕ} {b v first later : ℕ} → Pairable ds ws b v cl → first ≡ firstOf ds b v → later ≡ laterOf ds b v
-    → (first < length ws) × (later < 1024) × (getD ws first 0 < 24) × (getD cl (later * 24 + getD ws first 0) 0 < 24)
-ordered {ds} {ws} {cl} {b} {v} p e g = rw (e, g) (go (byCells ds b v))
-  where
-    go : (t : Bool) → (cond t b v < length ws) × (cond t v b < 1024) × (getD ws (cond t b v) 0 < 24)
-        × (getD cl (cond t v b * 24 + getD ws (cond t b v) 0) 0 < 24)
-    go true = (p .long-waves .0, p .few .1, p .small .0, p .room .1)
-    go false = (p .long-waves .1, p .few .0, p .small .1, p .room .0)
 
 -- the place of b among the numbers below n that pass a test
 module _ (p : ℕ → Bool) (b : ℕ) (t : T (p b)) where
@@ -168,6 +158,20 @@ module _ {ns ds ws cs cl : List ℕ} {n b i : ℕ} (w : Walk ns ds ws n b i cs c
   pub v-row : v * 23 + 23 ≤ length ns
   v-row = omega (arith, v-bank, rows .long-neighbours)
 
+  wave-b : getD ws b 0 < 24
+  wave-b = w .ground .waves .small b (w .bank)
+
+  wave-v : getD ws v 0 < 24
+  wave-v = w .ground .waves .small v v-bank
+
+  pub pairable : Pairable ds ws b v
+  pairable = record {
+    few = (omega (arith, w .bank, rows .most), v-cursor);
+    long-degrees = (omega (arith, w .bank, rows .long-degrees), v-degree);
+    long-waves = (omega (arith, w .bank, w .ground .waves .long), omega (arith, v-bank, w .ground .waves .long));
+    small = (wave-b, wave-v);
+  }
+
   in-r : T (memb v r)
   in-r = rw is-cell (in-cell i r (omega (arith, long-row rows b (w .bank), few b (w .bank))))
 
@@ -229,28 +233,25 @@ module _ {ns ds ws cs cl : List ℕ} {n b i : ℕ} (w : Walk ns ds ws n b i cs c
       count-v : Countable ns ds ws n v
       count-v = rows-countable rows (w .ground .waves) v-bank
 
-      wave-small : (x : ℕ) → x < n → getD ws x 0 < 24
-      wave-small = w .ground .waves .small
-
-      pub pairable : Pairable ds ws b v cl
-      pairable = record {
-        long-degrees = (omega (arith, w .bank, rows .long-degrees), v-degree);
-        long-waves = (omega (arith, w .bank, w .ground .waves .long), omega (arith, v-bank, w .ground .waves .long));
-        few = (omega (arith, w .bank, rows .most), v-cursor);
-        small = (wave-small b (w .bank), wave-small v v-bank);
-        long = w .ground .long-cells;
-        room = (
-          rw (group-at 24 cl b (getD ws v 0) (wave-small v v-bank)) at (count-few count-b hi (w .half) (getD ws v 0) (wave-small v v-bank)),
-          rw (group-at 24 cl v (getD ws b 0) (wave-small b (w .bank))) at (count-few count-v less (w .begun v lt v-bank) (getD ws b 0) (wave-small b (w .bank))),
-        );
-      }
+      pub cell-room : {cell : ℕ} → cell ≡ pairCell ds ws b v → (cell < 24576) × (getD cl cell 0 < 24)
+      cell-room e = rw e (go (byCells ds b v))
+        where
+          go : (t : Bool) → (cond t (v * 24 + getD ws b 0) (b * 24 + getD ws v 0) < 24576) × (getD cl (cond t (v * 24 + getD ws b 0) (b * 24 + getD ws v 0)) 0 < 24)
+          go true = (
+            omega (arith, v-cursor, wave-b),
+            rw (group-at 24 cl v (getD ws b 0) wave-b) at (count-few count-v less (w .begun v lt v-bank) (getD ws b 0) wave-b),
+          )
+          go false = (
+            omega (arith, w .bank, rows .most, wave-v),
+            rw (group-at 24 cl b (getD ws v 0) wave-v) at (count-few count-b hi (w .half) (getD ws v 0) wave-v),
+          )
 
       module _ (there : getD ns (v * 23 + getD cs v 0) 0 ≡ b) where
         abbrev cs′ : List ℕ
         cs′ = set cs v (getD cs v 0 + 1)
 
         abbrev cl′ : Bool → List ℕ
-        cl′ t = grown cl (cond t v b * 24 + getD ws (cond t b v) 0)
+        cl′ t = grown cl (cond t (v * 24 + getD ws b 0) (b * 24 + getD ws v 0))
 
         apart : v ≢ b
         apart e = omega arith
@@ -301,23 +302,23 @@ module _ {ns ds ws cs cl : List ℕ} {n b i : ℕ} (w : Walk ns ds ws n b i cs c
 
         -- the counts
         untouched : (t : Bool) (x k : ℕ) → x < n → x ≢ b → x ≢ v → CountedTo ns ds ws cl x k → CountedTo ns ds ws (cl′ t) x k
-        untouched true x k h p q tl = rw (part-same cl x v (getD ws b 0) (w .ground .long-cells) (omega (arith, rows .most)) (wave-small b (w .bank)) q) tl
-        untouched false x k h p q tl = rw (part-same cl x b (getD ws v 0) (w .ground .long-cells) (omega (arith, rows .most)) (wave-small v v-bank) p) tl
+        untouched true x k h p q tl = rw (part-same cl x v (getD ws b 0) (w .ground .long-cells) (omega (arith, rows .most)) wave-b q) tl
+        untouched false x k h p q tl = rw (part-same cl x b (getD ws v 0) (w .ground .long-cells) (omega (arith, rows .most)) wave-v p) tl
 
         half : (t : Bool) → byCells ds b v ≡ t → CountedTo ns ds ws (cl′ t) b (i + 1)
         half true e =
-            rw (part-same cl b v (getD ws b 0) (w .ground .long-cells) (omega (arith, w .bank, rows .most)) (wave-small b (w .bank)) (λ q. apart (sym q)))
+            rw (part-same cl b v (getD ws b 0) (w .ground .long-cells) (omega (arith, w .bank, rows .most)) wave-b (λ q. apart (sym q)))
             (skipped count-b hi (w .half) (cells-flip ds v b apart ∙ ap not e))
         half false e =
-            rw (part-grown cl b (getD ws v 0) (w .ground .long-cells) (omega (arith, w .bank, rows .most)) (wave-small v v-bank))
+            rw (part-grown cl b (getD ws v 0) (w .ground .long-cells) (omega (arith, w .bank, rows .most)) wave-v)
             (counted count-b hi (w .half) (cells-flip ds v b apart ∙ ap not e) refl)
 
         whole : (t : Bool) → byCells ds b v ≡ t → CountedTo ns ds ws (cl′ t) v (getD cs v 0 + 1)
         whole true e =
-            rw (part-grown cl v (getD ws b 0) (w .ground .long-cells) v-cursor (wave-small b (w .bank)))
+            rw (part-grown cl v (getD ws b 0) (w .ground .long-cells) v-cursor wave-b)
             (counted count-v less (w .begun v lt v-bank) (ap (λ (k : ℕ). byCells ds k v) there ∙ e) (ap (λ (k : ℕ). getD ws k 0) (sym there)))
         whole false e =
-            rw (part-same cl v b (getD ws v 0) (w .ground .long-cells) v-cursor (wave-small v v-bank) apart)
+            rw (part-same cl v b (getD ws v 0) (w .ground .long-cells) v-cursor wave-v apart)
             (skipped count-v less (w .begun v lt v-bank) (ap (λ (k : ℕ). byCells ds k v) there ∙ e))
 
         begun : (t : Bool) → byCells ds b v ≡ t → (x : ℕ) → b < x → x < n → Dec (x ≡ v) → CountedTo ns ds ws (cl′ t) x (getD cs′ x 0)
@@ -347,8 +348,7 @@ module _ {ns ds ws cs cl : List ℕ} {n b i : ℕ} (w : Walk ns ds ws n b i cs c
             }
 
         -- as the code has it: `to` is v as an index
-        pub walk-step : {to : ℕ} {cl″ : List ℕ} → to ≡ v → cl″ ≡ grown cl (laterOf ds b v * 24 + getD ws (firstOf ds b v) 0)
-            → Walk ns ds ws n b (i + 1) (set cs to (getD cs to 0 + 1)) cl″
+        pub walk-step : {to cell : ℕ} → to ≡ v → cell ≡ pairCell ds ws b v → Walk ns ds ws n b (i + 1) (set cs to (getD cs to 0 + 1)) (grown cl cell)
         walk-step p q = rw (p, q) (walk-on (byCells ds b v) refl)
 
 -- after the last cell of the row
@@ -392,14 +392,21 @@ walk-end {ns} {ds} {ws} {cs} {cl} {n} {b} w = record {
     all x (inl e) = rw e (w .half)
     all x (inr l) = w .done x l
 
+-- a part is right by counts that are equal
+part-along : {p : List ℕ} {f g : ℕ → ℕ} {w : ℕ} → ((c : ℕ) → c < 24 → f c ≡ g c) → w < 24 → PartRight p f w → PartRight p g w
+part-along {p} {f} {g} {w} e l r = record {
+  same = λ c k. r .same c k ∙ e c k;
+  lowest = record { below = λ c k z. r .lowest .below c k (e c (omega arith) ∙ z); at = sym (e w l) ∙ r .lowest .at };
+}
+
 -- after the last row: what tests Counts by the cells tests it by the counts
 module _ {ns ds ws cs cl : List ℕ} {n b : ℕ} (l : n ≤ b) (s : Seen ns ds ws n b cs cl) where
   cell-is : (x c : ℕ) → x < n → c < 24 → getD (part cl x) c 0 ≡ countsOf ns ds ws x c
   cell-is x c h k = s .done x (omega arith) .counts c k
 
   pub seen-end : (counts : List ℕ) (r : Bool) → Says (CellsRight ws cl counts n) r → Says (Symmetric ns n × CountsRight ns ds ws counts n) r
-  seen-end counts true t = (λ x y hx hy m. s .met x y (omega arith) hy m, λ x h c k. rw (← (cell-is x c h k)) (t x h c k))
-  seen-end counts false t = λ p. t (λ x h c k. rw (cell-is x c h k) (p .1 x h c k))
+  seen-end counts true t = (λ x y hx hy m. s .met x y (omega arith) hy m, λ x h. part-along (λ c k. cell-is x c h k) (s .ground .waves .small x h) (t x h))
+  seen-end counts false t = λ p. t (λ x h. part-along (λ c k. sym (cell-is x c h k)) (s .ground .waves .small x h) (p .1 x h))
 
 -- the answer, where the code tests its denial
 module _ (state : Type 0) (ns : List ℕ) (n : ℕ) (q : Bool) (h : OrNot state ns n q) where

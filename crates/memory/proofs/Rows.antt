@@ -91,7 +91,7 @@ module _ {ns ds : List ℕ} {n : ℕ} (rows : Rows ns ds n) (b : ℕ) (hb : b < 
       let p = cell-of r y m in
       elim (lt-or-ge (p .0) d) [
         | inl l ↦ subst (λ (k : ℕ). T (memb k (take d r))) (p .2) (in-front d (p .0) r l (omega (arith, long-row, right .few)))
-        | inr g ↦ absurd (omega (arith, right .rest (p .0) g (omega (arith, long-row)), p .2, rows .most))
+        | inr g ↦ absurd (omega (arith, right .rest (p .0) (omega (arith, long-row)) g, p .2, rows .most))
       ]
 
   -- the banks below n that the row names stand in its filled part
@@ -112,7 +112,7 @@ module _ {ns ds : List ℕ} {n : ℕ} (rows : Rows ns ds n) (b : ℕ) (hb : b < 
   cells-are i h =
       elim (lt-or-ge i d) [
         | inl l ↦ sym (getD-take d r i 0 l) ∙ getD-any (take d r) i 0 65535 (omega (arith, length-filled)) ∙ ap (λ (l : List ℕ). getD l i 65535) filled-is
-        | inr g ↦ right .rest i g h ∙ sym (List·getD-eq-default (neighbours K b) 65535 {n = i} (omega (arith, degree-is, degree-length K b)))
+        | inr g ↦ right .rest i h g ∙ sym (List·getD-eq-default (neighbours K b) 65535 {n = i} (omega (arith, degree-is, degree-length K b)))
       ]
 
   pub not-itself : T (memb b r) → ⊥
@@ -203,5 +203,5 @@ module _ {G : Graph} {ns ds : List ℕ} (rd : Rowed G ns ds) (x : ℕ) (hx : x <
             let l : i < length N = omega arith in
             let m = neighbours-in G x (getD (row ns x) i 0) (named-in i l) in
             record { bank = m .0; other = λ q. rd .apart x hx (subst (λ (k : ℕ). T (G .clash x k)) q (m .1)); larger = row-larger i l };
-        rest = λ i g h. row-cell i h ∙ List·getD-eq-default N 65535 {n = i} (omega arith);
+        rest = λ i h g. row-cell i h ∙ List·getD-eq-default N 65535 {n = i} (omega arith);
       }

@@ -32,7 +32,7 @@ pub record Named (row : List ℕ) (n b i : ℕ) : Type 0 where
 pub record RowRight (row : List ℕ) (degree n b : ℕ) : Type 0 where
   pub few : degree ≤ 23
   pub named : (i : ℕ) → i < degree → Named row n b i
-  pub rest : (i : ℕ) → degree ≤ i → i < 23 → getD row i 0 ≡ 65535
+  pub rest : (i : ℕ) → i < 23 → degree ≤ i → getD row i 0 ≡ 65535
 
 abbrev pub RowsRight : List ℕ → List ℕ → ℕ → Type 0
 RowsRight ns ds n = (b : ℕ) → b < n → RowRight (row ns b) (getD ds b 0) n b
@@ -48,14 +48,15 @@ pub record Rows (ns ds : List ℕ) (n : ℕ) : Type 0 where
 abbrev pub Symmetric : List ℕ → ℕ → Type 0
 Symmetric ns n = (x y : ℕ) → x < n → y < n → T (memb y (row ns x)) → T (memb x (row ns y))
 
--- cell c of a bank's part of Counts is its count, which says of the bank's wave w that it is the lowest free one
-pub record CellRight (cell count c w : ℕ) : Type 0 where
-  pub same : cell ≡ count
-  pub below : c < w → count ≡ 0 → ⊥
-  pub at : c ≡ w → count ≡ 0
+-- w is the lowest wave with a count of 0
+pub record Lowest (count : ℕ → ℕ) (w : ℕ) : Type 0 where
+  pub below : (c : ℕ) → c < w → count c ≡ 0 → ⊥
+  pub at : count w ≡ 0
 
-abbrev pub PartRight : List ℕ → (ℕ → ℕ) → ℕ → Type 0
-PartRight part count w = (c : ℕ) → c < 24 → CellRight (getD part c 0) (count c) c w
+-- a bank's part of Counts holds its counts, and its wave w is the lowest that they leave free
+pub record PartRight (part : List ℕ) (count : ℕ → ℕ) (w : ℕ) : Type 0 where
+  pub same : (c : ℕ) → c < 24 → getD part c 0 ≡ count c
+  pub lowest : Lowest count w
 
 -- the same of the parts of n banks, by counts that stand in cells
 abbrev pub CellsRight : List ℕ → List ℕ → List ℕ → ℕ → Type 0

@@ -9,25 +9,20 @@ use Rattle.rule.specs.Lists.{upto, filter, memb}
 use Rattle.memory.specs.Counts.{byCells, countIn, Tallied}
 use Rattle.memory.specs.Test.{row, part, Rows, WavesSmall, Symmetric}
 
--- of two banks, the earlier and the later
-abbrev pub firstOf : List ℕ → ℕ → ℕ → ℕ
-firstOf ds b v = cond (byCells ds b v) b v
+-- the cell in which the earlier of two banks is counted for the later one
+abbrev pub pairCell : List ℕ → List ℕ → ℕ → ℕ → ℕ
+pairCell ds ws b v = cond (byCells ds b v) (v * 24 + getD ws b 0) (b * 24 + getD ws v 0)
 
-abbrev pub laterOf : List ℕ → ℕ → ℕ → ℕ
-laterOf ds b v = cond (byCells ds b v) v b
+-- two banks of which one can be counted for the other
+pub record Pairable (ds ws : List ℕ) (b v : ℕ) : Type 0 where
+  pub few : (b < 1024) × (v < 1024)
+  pub long-degrees : (b < length ds) × (v < length ds)
+  pub long-waves : (b < length ws) × (v < length ws)
+  pub small : (getD ws b 0 < 24) × (getD ws v 0 < 24)
 
 -- one more in cell k
 abbrev pub grown : List ℕ → ℕ → List ℕ
 grown cells k = set cells k (getD cells k 0 + 1)
-
--- two banks of which one can be counted for the other
-pub record Pairable (ds ws : List ℕ) (b v : ℕ) (cells : List ℕ) : Type 0 where
-  pub long-degrees : (b < length ds) × (v < length ds)
-  pub long-waves : (b < length ws) × (v < length ws)
-  pub few : (b < 1024) × (v < 1024)
-  pub small : (getD ws b 0 < 24) × (getD ws v 0 < 24)
-  pub long : length cells ≡ 24576
-  pub room : (getD cells (b * 24 + getD ws v 0) 0 < 24) × (getD cells (v * 24 + getD ws b 0) 0 < 24)
 
 -- the banks below b that name v
 unfoldable pub naming : List ℕ → ℕ → ℕ → List ℕ

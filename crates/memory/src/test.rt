@@ -10,12 +10,13 @@ use rule::MOST_WAVES;
 use rule::ROW_CELLS;
 use rule::UNUSED;
 use rule::Wave;
+use rule::wide;
 ghost use mathlib.Core.Bool.{true};
 ghost use mathlib.Core.Path.{_≡_};
 ghost use Prim.Native.Nat.{ℕ, _+_, _*_, _≤_, _<_};
 ghost use lib.ListN.{length, getD};
 ghost use Rattle.memory.specs.Plan.{slicesOf, longEnough, holds};
-ghost use Rattle.memory.specs.Test.{Says, row, part, Named, RowRight, RowsRight, Rows, Symmetric, CellRight, PartRight, CellsRight, CountsRight, Small, WavesSmall, sum};
+ghost use Rattle.memory.specs.Test.{Says, row, part, Named, RowRight, RowsRight, Rows, Symmetric, Lowest, PartRight, CellsRight, CountsRight, Small, WavesSmall, sum};
 
 // Whether cell i of b's row is a bank other than b, larger than that before it.
 fn named_right(row: &[u16], i: usize, banks: u16, b: Bank) -> bool
@@ -53,17 +54,24 @@ fn all_named(row: &[u16], named: usize, banks: u16, b: Bank) -> bool
     true
 }
 
-// Whether the cells of a row that are left over hold UNUSED.
+// Whether the cells of a row that are left over hold UNUSED: all cells are counted that do, so that they are tested side
+// by side.
 fn rest_unused(row: &[u16], named: usize) -> bool
     requires { ⌜ length (now row) ≡ 23 ⌝ }
-    ensures { λ r. ⌜ Says ((i : ℕ) → named ≤ i → i < 23 → getD (now (row .entry)) i 0 ≡ 65535) r ⌝ }
+    requires { ⌜ named ≤ 23 ⌝ }
+    requires { ⌜ ((i : ℕ) → i < named → getD (now row) i 0 ≡ 65535 → ⊥) ⌝ }
+    ensures { λ r. ⌜ Says ((i : ℕ) → i < 23 → named ≤ i → getD (now (row .entry)) i 0 ≡ 65535) r ⌝ }
 {
-    let mut i = named;
+    let mut unused: u16 = 0;
+    let mut i = 0;
     while i < ROW_CELLS {
-        if row[i] != UNUSED {
-            return false;
+        if row[i] == UNUSED {
+            unused += 1;
         }
         i += 1;
+    }
+    if named + wide(unused) != ROW_CELLS {
+        return false;
     }
     true
 }
@@ -131,49 +139,65 @@ fn waves_small(waves: &[u16], banks: u16) -> bool
     true
 }
 
-// Whether cell c of a bank's part of Counts is its count, which is 0 at the bank's wave and not below it.
-fn cell_right(cell: u16, count: u16, c: Wave, wave: Wave) -> bool
-    ensures { λ r. ⌜ Says (CellRight cell count (c .0) (wave .0)) r ⌝ }
+// Whether the 24 cells are equal: all are counted that are, so that they are tested side by side.
+fn cells_equal(part: &[u16], cells: &[u16]) -> bool
+    requires { ⌜ length (now part) ≡ 24 ⌝ }
+    requires { ⌜ length (now cells) ≡ 24 ⌝ }
+    ensures { λ r. ⌜ Says ((c : ℕ) → c < 24 → getD (now (part .entry)) c 0 ≡ getD (now (cells .entry)) c 0) r ⌝ }
 {
-    if cell != count {
-        return false;
-    }
-    if wave.0 < c.0 {
-        return true;
-    }
-    if c.0 == wave.0 {
-        if count == 0 {
-            return true;
+    let mut equal: u16 = 0;
+    let mut c = 0;
+    while c < COUNT_CELLS {
+        if part[c] == cells[c] {
+            equal += 1;
         }
-        return false;
+        c += 1;
     }
-    if count == 0 {
+    if equal != MOST_WAVES {
         return false;
     }
     true
 }
 
-// The same of the whole part. No cell ends the test early, so that the cells are tested side by side.
-fn part_right(part: &[u16], cells: &[u16], wave: Wave) -> bool
-    requires { ⌜ length (now part) ≡ 24 ⌝ }
+// Whether the wave is the lowest with a count of 0.
+fn is_lowest(cells: &[u16], wave: Wave) -> bool
     requires { ⌜ length (now cells) ≡ 24 ⌝ }
-    ensures { λ r. ⌜ Says (PartRight (now (part .entry)) (λ c. getD (now (cells .entry)) c 0) (wave .0)) r ⌝ }
+    requires { ⌜ wave .0 < 24 ⌝ }
+    ensures { λ r. ⌜ Says (Lowest (λ c. getD (now (cells .entry)) c 0) (wave .0)) r ⌝ }
 {
-    let mut right = true;
-    let mut c: u16 = 0;
-    while c < MOST_WAVES {
-        let at = c as usize;
-        if !cell_right(part[at], cells[at], Wave(c), wave) {
-            right = false;
+    let w = wide(wave.0);
+    let mut c = 0;
+    while c < w {
+        if cells[c] == 0 {
+            return false;
         }
         c += 1;
     }
-    right
+    if cells[w] != 0 {
+        return false;
+    }
+    true
+}
+
+// Whether a bank's part of Counts holds its counts, of which its wave is the lowest that is 0.
+fn part_right(part: &[u16], cells: &[u16], wave: Wave) -> bool
+    requires { ⌜ length (now part) ≡ 24 ⌝ }
+    requires { ⌜ length (now cells) ≡ 24 ⌝ }
+    requires { ⌜ wave .0 < 24 ⌝ }
+    ensures { λ r. ⌜ Says (PartRight (now (part .entry)) (λ c. getD (now (cells .entry)) c 0) (wave .0)) r ⌝ }
+{
+    if !cells_equal(part, cells) {
+        return false;
+    }
+    if !is_lowest(cells, wave) {
+        return false;
+    }
+    true
 }
 
 // The same of bank b's cells.
 fn bank_counts_right(waves: &[u16], cells: &[u16], counts: &[u16], banks: u16, b: Bank) -> bool
-    requires { ⌜ banks ≤ length (now waves) ⌝ }
+    requires { ⌜ WavesSmall (now waves) banks ⌝ }
     requires { ⌜ 24 * banks ≤ length (now cells) ⌝ }
     requires { ⌜ 24 * banks ≤ length (now counts) ⌝ }
     requires { ⌜ b .0 < banks ⌝ }
@@ -189,7 +213,7 @@ fn bank_counts_right(waves: &[u16], cells: &[u16], counts: &[u16], banks: u16, b
 
 // The same of every bank.
 fn counts_right(waves: &[u16], cells: &[u16], counts: &[u16], banks: u16) -> bool
-    requires { ⌜ banks ≤ length (now waves) ⌝ }
+    requires { ⌜ WavesSmall (now waves) banks ⌝ }
     requires { ⌜ 24 * banks ≤ length (now cells) ⌝ }
     requires { ⌜ 24 * banks ≤ length (now counts) ⌝ }
     ensures { λ r. ⌜ Says (CellsRight (now (waves .entry)) (now (cells .entry)) (now (counts .entry)) banks) r ⌝ }

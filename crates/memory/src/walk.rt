@@ -6,41 +6,27 @@ use rule::MOST_BANKS;
 use rule::ROW_CELLS;
 use rule::wide;
 ghost use mathlib.Core.Path.{_≡_};
-ghost use Prim.Native.Nat.{_+_, _*_, _<_};
-ghost use lib.ListN.{length, getD};
-ghost use Rattle.memory.specs.Walk.{firstOf, laterOf, grown, Pairable, Seen, Walk, OrNot};
+ghost use Prim.Native.Nat.{_+_, _<_};
+ghost use lib.ListN.{getD};
+ghost use Rattle.memory.specs.Walk.{pairCell, Pairable, Seen, Walk, OrNot};
 
 // Counts for every bank.
 pub const ALL_COUNTS: usize = COUNT_CELLS * MOST_BANKS;
 
-// Two banks in the rule order.
-pub struct Pair {
-    pub first: Bank,
-    pub later: Bank,
-}
-
-// The two banks in the rule order.
-fn in_order(degrees: &[u16], b: Bank, v: Bank) -> Pair
-    requires { ⌜ (b .0 < length (now degrees)) × (v .0 < length (now degrees)) ⌝ }
-    ensures { λ r. ⌜ (r .first .0 ≡ firstOf (now (degrees .entry)) (b .0) (v .0)) × (r .later .0 ≡ laterOf (now (degrees .entry)) (b .0) (v .0)) ⌝ }
+// The cell in which the earlier of the two banks is counted by its wave for the later one. Both cells are worked out, so
+// that the choice is no branch.
+fn pair_cell(degrees: &[u16], waves: &[u16], b: Bank, v: Bank) -> usize
+    requires { ⌜ Pairable (now degrees) (now waves) (b .0) (v .0) ⌝ }
+    ensures { λ r. ⌜ r ≡ pairCell (now (degrees .entry)) (now (waves .entry)) (b .0) (v .0) ⌝ }
 {
+    let at_b = wide(b.0);
+    let at_v = wide(v.0);
+    let for_b = at_b * COUNT_CELLS + wide(waves[at_v]);
+    let for_v = at_v * COUNT_CELLS + wide(waves[at_b]);
     if is_earlier(degrees, b, v) {
-        Pair { first: b, later: v }
-    } else {
-        Pair { first: v, later: b }
+        return for_v;
     }
-}
-
-// Counts the earlier of the two banks by its wave for the later one.
-fn count_pair(degrees: &[u16], waves: &[u16], cells: &mut [u16; ALL_COUNTS], b: Bank, v: Bank)
-    requires { ⌜ Pairable (now degrees) (now waves) (b .0) (v .0) (now cells) ⌝ }
-    ensures { λ _. ⌜ now (cells .exit) ≡ grown (now (cells .entry)) (laterOf (now (degrees .entry)) (b .0) (v .0) * 24 + getD (now (waves .entry)) (firstOf (now (degrees .entry)) (b .0) (v .0)) 0) ⌝ }
-{
-    let pair = in_order(degrees, b, v);
-    let first = wide(pair.first.0);
-    let later = wide(pair.later.0);
-    let at = later * COUNT_CELLS + wide(waves[first]);
-    cells[at] = cells[at] + 1;
+    for_b
 }
 
 // Whether b is the next bank of the row of v, the bank in cell i of b's row; if so, v's cursor goes on, and the two are
@@ -73,7 +59,8 @@ fn match_one(
         return false;
     }
     cursors[to] = met + 1;
-    count_pair(degrees, waves, cells, b, Bank(v));
+    let cell = pair_cell(degrees, waves, b, Bank(v));
+    cells[cell] = cells[cell] + 1;
     true
 }
 

@@ -37,7 +37,7 @@ slice-aggregate-counts-right c = omega (arith, c .before .before .loop .inv .1 .
 counts-right-requires : tie.Need-counts-right-requires Inv-loop μ-loop
 counts-right-requires c κs =
     let p = c .before .before .before .before .before .before .before .pre in
-    (p .1 .0 .long, (omega (arith, p .0 .most, c .before .before .loop .inv .1 .ground .long-cells), p .1 .1))
+    (p .1 .0, (omega (arith, p .0 .most, c .before .before .loop .inv .1 .ground .long-cells), p .1 .1))
 
 returns-2 : tie.Need-returns-2 Inv-loop μ-loop
 returns-2 c = seen-end (omega arith) (c .before .before .before .loop .inv .1) (c .before .before .before .before .before .before .before .before .args .counts .now) (c .counts-right .result) (c .counts-right .ensures)

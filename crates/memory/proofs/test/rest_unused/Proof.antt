@@ -1,21 +1,21 @@
--- The cells from `named` to i are unused.
+-- `unused` counts the cells before i that hold UNUSED: none of the first `named`.
 use borrow.Author.Needs.{needs}
 use native.Mathlib.Omega.{arith}
-use Prim.Native.Nat.{ℕ, _-_, _<_, _≤_}
-use mathlib.Core.Path.{_≡_}
-use borrow.Author.Count.{below-more}
-use lib.ListN.{getD}
+use Prim.Native.Nat.{_-_, _≤_}
+use mathlib.Core.Logic.{⊎-elim}
+use mathlib.Core.Path.{refl}
+use Rattle.memory.proofs.Tested.{Passed, Unused, unused-next, used-next}
 use Rattle.memory.proofs.test.rest_unused.Statement.{statement}
 use Rattle.memory.proofs.test.rest_unused.Tie as tie
 
 abbrev Inv-loop : tie.InvT-loop
-Inv-loop row named i₀ i = (named ≤ i) × ((k : ℕ) → k < i → named ≤ k → getD row k 0 ≡ 65535)
+Inv-loop row named unused₀ i₀ unused i = (i ≤ 23) × Passed (Unused row named i) unused (i - named)
 
 abbrev μ-loop : tie.MeasureT-loop
-μ-loop row named i₀ i = 23 - i
+μ-loop row named unused₀ i₀ unused i = 23 - i
 
 loop-holds : tie.Need-loop-holds Inv-loop μ-loop
-loop-holds c = (search needs, λ k h l. absurd (omega arith))
+loop-holds c = (search needs, (omega arith, λ e k h. absurd (omega arith), λ q. omega arith))
 
 mul-if1 : tie.Need-mul-if1 Inv-loop μ-loop
 mul-if1 c = search needs
@@ -23,8 +23,8 @@ mul-if1 c = search needs
 shared-slice-read-if1 : tie.Need-shared-slice-read-if1 Inv-loop μ-loop
 shared-slice-read-if1 c = search needs
 
-returns : tie.Need-returns Inv-loop μ-loop
-returns c = λ f. c .if1 .taken (f (c .before .before .before .loop .i) (c .before .before .before .loop .inv .0) (omega arith))
+add-unused : tie.Need-add-unused Inv-loop μ-loop
+add-unused c = search needs
 
 add-i : tie.Need-add-i Inv-loop μ-loop
 add-i c = search needs
@@ -33,10 +33,28 @@ loop-less : tie.Need-loop-less Inv-loop μ-loop
 loop-less c = search needs
 
 loop-again : tie.Need-loop-again Inv-loop μ-loop
-loop-again c = (search needs, below-more _ _ (c .before .before .before .loop .inv .1) (λ l. c .if1 .left))
+loop-again c =
+    let a = c .before .before .before .before .before .args in
+    let free = c .before .before .before .before .before .pre .1 .1 in
+    let at = c .before .before .before .loop in (
+      search needs,
+      ⊎-elim
+          (λ w. rw (w .1) (unused-next (a .row .now) (a .named) (at .i) (at .unused) free (at .inv .1) (w .0 .taken)))
+          (λ w. rw (w .1) (used-next (a .row .now) (a .named) (at .i) (at .unused) free (at .inv .1) (w .0 .left)))
+          (c .if1 .came),
+    )
+
+wide-requires : tie.Need-wide-requires Inv-loop μ-loop
+wide-requires c κs = search needs
+
+add-if2 : tie.Need-add-if2 Inv-loop μ-loop
+add-if2 c = search needs
+
+returns : tie.Need-returns Inv-loop μ-loop
+returns c = λ q. c .if2 .taken (omega (arith, c .before .wide .ensures, c .before .before .before .loop .inv .1 .2 (λ k l. q k (omega arith))))
 
 returns-2 : tie.Need-returns-2 Inv-loop μ-loop
-returns-2 c = λ i l h. c .before .loop .inv .1 i (omega arith) l
+returns-2 c = λ k h. c .before .before .before .loop .inv .1 .1 (omega (arith, c .before .wide .ensures)) k (omega arith)
 
 pub rest-unused-spec : {M : Type 1} → statement M
 rest-unused-spec =
@@ -47,8 +65,11 @@ rest-unused-spec =
     loop-holds
     mul-if1
     shared-slice-read-if1
-    returns
+    add-unused
     add-i
     loop-less
     loop-again
+    wide-requires
+    add-if2
+    returns
     returns-2)

@@ -15,7 +15,9 @@ returns-2 : tie.Need-returns-2
 returns-2 c = λ p. denied _ (c .before .all-named .result) (c .before .all-named .ensures) (c .if2 .taken) (p .named)
 
 rest-unused-requires : tie.Need-rest-unused-requires
-rest-unused-requires c κs = search needs
+rest-unused-requires c κs =
+    let named = granted _ (c .before .all-named .result) (c .before .all-named .ensures) (c .if2 .left) in
+    (c .before .before .before .before .pre, (omega arith, λ i l e. omega (arith, named i l .bank, c .before .before .before .before .fits .banks)))
 
 returns-3 : tie.Need-returns-3
 returns-3 c = λ p. denied _ (c .before .rest-unused .result) (c .before .rest-unused .ensures) (c .if3 .taken) (p .rest)

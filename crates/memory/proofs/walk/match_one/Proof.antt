@@ -1,7 +1,7 @@
 -- The walk goes on by one cell, by the laws of `Cursors`.
 use borrow.Author.Needs.{needs}
 use native.Mathlib.Omega.{arith}
-use Rattle.memory.proofs.Cursors.{cell-in, v-cursor, v-degree, v-few, v-row, not-below, not-past, not-other, pairable, walk-step}
+use Rattle.memory.proofs.Cursors.{cell-in, v-cursor, v-degree, v-few, v-row, not-below, not-past, not-other, pairable, cell-room, walk-step}
 use Rattle.memory.proofs.walk.match_one.Statement.{statement}
 use Rattle.memory.proofs.walk.match_one.Tie as tie
 
@@ -123,13 +123,48 @@ element-write-cursors c =
     let to = c .before .before .before .before .before .before .before .wide .ensures in
     omega (arith, to, v-cursor (p .0) (p .1))
 
-count-pair-requires : tie.Need-count-pair-requires
-count-pair-requires c κs =
+pair-cell-requires : tie.Need-pair-cell-requires
+pair-cell-requires c κs = pairable (c .before .before .before .before .before .before .before .before .before .before .before .before .before .before .before .pre .0) (c .before .before .before .before .before .before .before .before .before .before .before .before .before .before .before .pre .1)
+
+mul-cells : tie.Need-mul-cells
+mul-cells c =
     let p = c .before .before .before .before .before .before .before .before .before .before .before .before .before .before .before .before .pre in
     let to = c .before .before .before .before .before .before .before .before .wide .ensures in
     let lt = c .before .before .before .before .before .before .before .before .before .if1 .left in
     let less = rw to at (c .before .before .before .before .before .if2 .left) in
-    pairable (p .0) (p .1) lt less
+    omega (arith, cell-room (p .0) (p .1) lt less (c .pair-cell .ensures) .0)
+
+element-copy-out-cells : tie.Need-element-copy-out-cells
+element-copy-out-cells c =
+    let p = c .before .before .before .before .before .before .before .before .before .before .before .before .before .before .before .before .pre in
+    let to = c .before .before .before .before .before .before .before .before .wide .ensures in
+    let lt = c .before .before .before .before .before .before .before .before .before .if1 .left in
+    let less = rw to at (c .before .before .before .before .before .if2 .left) in
+    omega (arith, cell-room (p .0) (p .1) lt less (c .pair-cell .ensures) .0)
+
+add-cells : tie.Need-add-cells
+add-cells c =
+    let p = c .before .before .before .before .before .before .before .before .before .before .before .before .before .before .before .before .before .pre in
+    let to = c .before .before .before .before .before .before .before .before .before .wide .ensures in
+    let lt = c .before .before .before .before .before .before .before .before .before .before .if1 .left in
+    let less = rw to at (c .before .before .before .before .before .before .if2 .left) in
+    omega (arith, cell-room (p .0) (p .1) lt less (c .before .pair-cell .ensures) .1)
+
+mul-cells-2 : tie.Need-mul-cells-2
+mul-cells-2 c =
+    let p = c .before .before .before .before .before .before .before .before .before .before .before .before .before .before .before .before .before .pre in
+    let to = c .before .before .before .before .before .before .before .before .before .wide .ensures in
+    let lt = c .before .before .before .before .before .before .before .before .before .before .if1 .left in
+    let less = rw to at (c .before .before .before .before .before .before .if2 .left) in
+    omega (arith, cell-room (p .0) (p .1) lt less (c .before .pair-cell .ensures) .0)
+
+element-write-cells : tie.Need-element-write-cells
+element-write-cells c =
+    let p = c .before .before .before .before .before .before .before .before .before .before .before .before .before .before .before .before .before .pre in
+    let to = c .before .before .before .before .before .before .before .before .before .wide .ensures in
+    let lt = c .before .before .before .before .before .before .before .before .before .before .if1 .left in
+    let less = rw to at (c .before .before .before .before .before .before .if2 .left) in
+    omega (arith, cell-room (p .0) (p .1) lt less (c .before .pair-cell .ensures) .0)
 
 returns-4 : tie.Need-returns-4
 returns-4 c =
@@ -138,7 +173,7 @@ returns-4 c =
     let lt = c .before .before .before .before .before .before .before .before .before .before .if1 .left in
     let less = rw to at (c .before .before .before .before .before .before .if2 .left) in
     let met = rw to at (c .before .before .before .before .before .wide2 .ensures) in
-    walk-step (p .0) (p .1) lt less (rw (to, met) at (c .before .before .if3 .left)) to (c .count-pair .ensures)
+    walk-step (p .0) (p .1) lt less (rw (to, met) at (c .before .before .if3 .left)) to (c .before .pair-cell .ensures)
 
 pub match-one-spec : {M : Type 1} → statement M
 match-one-spec =
@@ -165,5 +200,10 @@ match-one-spec =
     add-cursors
     mul-cursors
     element-write-cursors
-    count-pair-requires
+    pair-cell-requires
+    mul-cells
+    element-copy-out-cells
+    add-cells
+    mul-cells-2
+    element-write-cells
     returns-4)
