@@ -16,11 +16,11 @@ use lib.Seq.{getD-take, getD-set-same, getD-set-other, getD-at, length-take-le}
 use Rattle.rule.specs.Lists.{upto, filter, memb}
 use Rattle.rule.specs.Graph.{neighbours}
 use Rattle.rule.proofs.Booleans.{or-l, or-r, or-cases, passes?, test-ext, T-along, eq→eqb, is-true, is-false, lt-or-ge}
-use Rattle.rule.proofs.Lists.{in-none, in-upto, upto-below, in-filter, filter-in, filter-cong, filter-kept, filter-left}
+use Rattle.rule.proofs.Lists.{in-upto, upto-below, in-filter, filter-in, filter-cong, filter-kept, filter-left}
 use Rattle.rule.proofs.Neighbours.{degree-length}
 use Rattle.memory.specs.Counts.{byCells, Countable}
 use Rattle.memory.specs.Test.{Says, row, part, Rows, WavesSmall, Symmetric, PartRight, CellsRight, countsOf, CountsRight}
-use Rattle.memory.specs.Walk.{pairCell, grown, Pairable, naming, CountedTo, Ground, Seen, Walk, OrNot}
+use Rattle.memory.specs.Walk.{pairCell, grown, Pairable, naming, CountedTo, Seen, Walk, OrNot}
 use Rattle.memory.proofs.Fronts.{take-next, getD-any, in-cell, cell-of, memb-snoc}
 use Rattle.memory.proofs.Rows.{group-at, inRows, long-row, larger, filled-members, degree-is, cells-are, rows-countable}
 use Rattle.memory.proofs.Tallies.{count-none, count-few, skipped, counted, cells-flip, part-of-zeros, part-grown, part-same}

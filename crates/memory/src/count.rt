@@ -21,7 +21,8 @@ fn clear(row: &mut [u16])
     }
 }
 
-// Counts the bank in cell i of b's row by its wave, if it is earlier than b.
+// Counts the bank in cell i of b's row by its wave, if it is earlier than b: 1 or 0 is added, so that the test is no
+// branch.
 fn count_one(
     neighbours: &[u16],
     degrees: &[u16],
@@ -38,11 +39,12 @@ fn count_one(
 {
     let at = b.0 as usize;
     let v = neighbours[at * ROW_CELLS + i];
-    if !is_earlier(degrees, Bank(v), b) {
-        return;
-    }
     let w = wide(waves[wide(v)]);
-    row[w] = row[w] + 1;
+    let mut more: u16 = 0;
+    if is_earlier(degrees, Bank(v), b) {
+        more = 1;
+    }
+    row[w] = row[w] + more;
 }
 
 // Counts the earlier neighbours of b by their waves into the 24 cells of a row of Counts.

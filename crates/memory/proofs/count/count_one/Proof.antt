@@ -1,8 +1,11 @@
 -- The bank in cell i is skipped or counted, by the laws of `Tallies`.
 use borrow.Author.Needs.{needs}
 use native.Mathlib.Omega.{arith}
-use mathlib.Core.Path.{sym, _∙_}
-use borrow.Author.Tests.{not-true, not-false}
+use Prim.Native.Nat.{_+_, _≤_}
+use mathlib.Core.Logic.{⊎-elim}
+use mathlib.Core.Path.{_≡_, sym, _∙_}
+use lib.ListN.{getD}
+use lib.Seq.{set-getD}
 use Rattle.memory.proofs.Tallies.{v-bank, v-small, count-few, skipped, counted}
 use Rattle.memory.proofs.count.count_one.Statement.{statement}
 use Rattle.memory.proofs.count.count_one.Tie as tie
@@ -22,68 +25,74 @@ mul-v-2 c = search needs
 shared-slice-read-v : tie.Need-shared-slice-read-v
 shared-slice-read-v c = search needs
 
-is-earlier-requires : tie.Need-is-earlier-requires
-is-earlier-requires c κs =
-    let p = c .before .before .before .before .before .before .pre in
-    let h = v-bank (p .0) (p .1 .0) in
-    (omega arith, omega arith)
-
-returns : tie.Need-returns
-returns c =
-    let p = c .before .before .before .before .before .before .before .before .pre in
-    let later = sym (c .before .is-earlier .ensures) ∙ not-true (c .before .is-earlier .result) (c .if1 .taken) in
-    skipped (p .0) (p .1 .0) (p .1 .1) later
-
 wide-requires : tie.Need-wide-requires
 wide-requires c κs = search needs
 
 mul-wide : tie.Need-mul-wide
 mul-wide c =
-    let p = c .before .before .before .before .before .before .before .before .before .pre in
+    let p = c .before .before .before .before .before .before .before .pre in
     omega (arith, c .wide .ensures, v-bank (p .0) (p .1 .0))
 
 shared-slice-read-wide : tie.Need-shared-slice-read-wide
 shared-slice-read-wide c =
-    let p = c .before .before .before .before .before .before .before .before .before .before .pre in
+    let p = c .before .before .before .before .before .before .before .before .pre in
     omega (arith, c .before .wide .ensures, v-bank (p .0) (p .1 .0))
 
 wide-requires-2 : tie.Need-wide-requires-2
 wide-requires-2 c κs = search needs
 
+is-earlier-requires : tie.Need-is-earlier-requires
+is-earlier-requires c κs =
+    let p = c .before .before .before .before .before .before .before .before .before .pre in
+    let h = v-bank (p .0) (p .1 .0) in
+    (omega arith, omega arith)
+
 mul-row : tie.Need-mul-row
 mul-row c =
     let p = c .before .before .before .before .before .before .before .before .before .before .before .pre in
-    omega (arith, rw (c .before .before .wide .ensures) at (c .wide2 .ensures), v-small (p .0) (p .1 .0))
+    let w = rw (c .before .before .before .before .wide .ensures) at (c .before .before .wide2 .ensures) in
+    omega (arith, w, v-small (p .0) (p .1 .0))
 
 slice-read-row : tie.Need-slice-read-row
 slice-read-row c =
     let p = c .before .before .before .before .before .before .before .before .before .before .before .before .pre in
-    omega (arith, rw (c .before .before .before .wide .ensures) at (c .before .wide2 .ensures), v-small (p .0) (p .1 .0), p .1 .1 .long)
+    let w = rw (c .before .before .before .before .before .wide .ensures) at (c .before .before .before .wide2 .ensures) in
+    omega (arith, w, v-small (p .0) (p .1 .0), p .1 .1 .long)
 
 add-row : tie.Need-add-row
 add-row c =
-    let p = c .before .before .before .before .before .before .before .before .before .before .before .before .pre in
-    let w = rw (c .before .before .before .wide .ensures) at (c .before .wide2 .ensures) in
-    omega (arith, count-few (p .0) (p .1 .0) (p .1 .1) (c .before .wide2 .result) (omega (arith, w, v-small (p .0) (p .1 .0))))
+    let p = c .before .before .before .before .before .before .before .before .before .before .before .before .before .pre in
+    let w = rw (c .before .before .before .before .before .before .wide .ensures) at (c .before .before .before .before .wide2 .ensures) in
+    let more : c .before .before .if1 .more ≤ 1 = ⊎-elim (λ q. omega (arith, q .1)) (λ q. omega (arith, q .1)) (c .before .before .if1 .came) in
+    omega (arith, count-few (p .0) (p .1 .0) (p .1 .1) (c .before .before .before .before .wide2 .result) (omega (arith, w, v-small (p .0) (p .1 .0))))
 
 mul-row-2 : tie.Need-mul-row-2
 mul-row-2 c =
-    let p = c .before .before .before .before .before .before .before .before .before .before .before .before .pre in
-    omega (arith, rw (c .before .before .before .wide .ensures) at (c .before .wide2 .ensures), v-small (p .0) (p .1 .0))
+    let p = c .before .before .before .before .before .before .before .before .before .before .before .before .before .pre in
+    let w = rw (c .before .before .before .before .before .before .wide .ensures) at (c .before .before .before .before .wide2 .ensures) in
+    omega (arith, w, v-small (p .0) (p .1 .0))
 
 slice-write-row : tie.Need-slice-write-row
 slice-write-row c =
-    let p = c .before .before .before .before .before .before .before .before .before .before .before .before .pre in
-    omega (arith, rw (c .before .before .before .wide .ensures) at (c .before .wide2 .ensures), v-small (p .0) (p .1 .0), p .1 .1 .long)
+    let p = c .before .before .before .before .before .before .before .before .before .before .before .before .before .pre in
+    let w = rw (c .before .before .before .before .before .before .wide .ensures) at (c .before .before .before .before .wide2 .ensures) in
+    omega (arith, w, v-small (p .0) (p .1 .0), p .1 .1 .long)
 
 same-length : tie.Need-same-length
 same-length c = search needs
 
-returns-2 : tie.Need-returns-2
-returns-2 c =
-    let p = c .before .before .before .before .before .before .before .before .before .before .before .before .pre in
-    let sooner = sym (c .before .before .before .before .before .is-earlier .ensures) ∙ not-false (c .before .before .before .before .before .is-earlier .result) (c .before .before .before .before .if1 .left) in
-    counted (p .0) (p .1 .0) (p .1 .1) sooner (rw (c .before .before .before .wide .ensures) at (c .before .wide2 .ensures))
+returns : tie.Need-returns
+returns c =
+    let p = c .before .before .before .before .before .before .before .before .before .before .before .before .before .pre in
+    let w = rw (c .before .before .before .before .before .before .wide .ensures) at (c .before .before .before .before .wide2 .ensures) in
+    let row = c .before .before .before .before .before .before .before .before .before .before .before .before .before .args .row .now in
+    let at = c .before .before .before .before .wide2 .result in
+    let order = sym (c .before .before .before .is-earlier .ensures) in
+    let none : getD row at 0 + 0 ≡ getD row at 0 = omega arith in
+    ⊎-elim
+    (λ q. rw (q .1) (counted (p .0) (p .1 .0) (p .1 .1) (order ∙ q .0 .taken) w))
+    (λ q. rw (q .1, none, set-getD row at 0) (skipped (p .0) (p .1 .0) (p .1 .1) (order ∙ q .0 .left)))
+    (c .before .before .if1 .came)
 
 pub count-one-spec : {M : Type 1} → statement M
 count-one-spec =
@@ -94,16 +103,15 @@ count-one-spec =
     add-v
     mul-v-2
     shared-slice-read-v
-    is-earlier-requires
-    returns
     wide-requires
     mul-wide
     shared-slice-read-wide
     wide-requires-2
+    is-earlier-requires
     mul-row
     slice-read-row
     add-row
     mul-row-2
     slice-write-row
     same-length
-    returns-2)
+    returns)

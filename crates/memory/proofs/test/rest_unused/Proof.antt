@@ -3,7 +3,6 @@ use borrow.Author.Needs.{needs}
 use native.Mathlib.Omega.{arith}
 use Prim.Native.Nat.{_-_, _≤_}
 use mathlib.Core.Logic.{⊎-elim}
-use mathlib.Core.Path.{refl}
 use Rattle.memory.proofs.Tested.{Passed, Unused, unused-next, used-next}
 use Rattle.memory.proofs.test.rest_unused.Statement.{statement}
 use Rattle.memory.proofs.test.rest_unused.Tie as tie
