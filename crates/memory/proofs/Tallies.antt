@@ -106,15 +106,14 @@ cells-flip ds p q n =
     (λ s. elim (strict .total p q n) [ inl t ↦ t | inr t ↦ absurd (T-not (byCells ds q p) s t) ])
 
 -- the parts of cells that count for every bank
+long-part : (cells : List ℕ) (x : ℕ) → length cells ≡ 24576 → x < 1024 → length (part cells x) ≡ 24
+long-part cells x l h = length-group 24 cells x 1024 h (omega arith)
+
 pub part-of-zeros : (x : ℕ) → x < 1024 → Tallied (part (replicate 24576 0) x) (λ c. 0)
 part-of-zeros x h = record {
-  long = length-group 24 (replicate 24576 0) x 1024 h (omega (arith, length-replicate {A = ℕ} 24576 0));
+  long = long-part (replicate 24576 0) x (length-replicate {A = ℕ} 24576 0) h;
   counts = λ c k. group-at 24 (replicate 24576 0) x c k ∙ getD-replicate {A = ℕ} 24576 (x * 24 + c) 0 0 (omega arith);
 }
-
-module _ (cells : List ℕ) (x : ℕ) where
-  long-part : length cells ≡ 24576 → x < 1024 → length (part cells x) ≡ 24
-  long-part l h = length-group 24 cells x 1024 h (omega arith)
 
 -- after one more in cell w of the part of q
 module _ (cells : List ℕ) (x : ℕ) where
