@@ -1,13 +1,12 @@
 -- The plan of G put into slices: how many cells it has, whether they have room, and the plan put over a plan.
 use mathlib.Core.Bool.{Bool, true, false, _&&_}
-use mathlib.Core.List.{List}
 use mathlib.Core.Path.{_≡_, refl, sym, ap, _∙_}
 use Prim.Native.Nat.{ℕ, _*_, _≤_}
 use native.Mathlib.Omega.{arith}
 use borrow.Author.Tests.{le-leb, leb-true}
 use lib.Dec.{leb}
 use lib.ListN.{length, length-map}
-use Rattle.rule.specs.Lists.{upto, filter}
+use Rattle.rule.specs.Lists.{upto}
 use Rattle.rule.specs.Graph.{Graph, neighbours, degree, empty}
 use Rattle.rule.specs.Wave.{wave, waves}
 use Rattle.rule.proofs.Booleans.{is-true, is-false, both-true}

@@ -1,20 +1,19 @@
 -- Counting the earlier neighbours of a bank by their waves, and what it counts.
 use mathlib.Core.Bool.{Bool, true, false, not}
 use mathlib.Core.List.{List, [], _∷_, _++_}
-use mathlib.Core.Logic.{inl, inr, _≢_}
+use mathlib.Core.Logic.{_≢_}
 use mathlib.Core.Path.{_≡_, sym, ap, _∙_}
 use Prim.Native.Nat.{ℕ, _+_, _*_, _≤_, _<_}
 use native.Mathlib.Decide.{ℕ-discrete}
 use native.Mathlib.Omega.{arith}
-use lib.Dec.{not-T, T-not}
 use lib.ListN.{length, getD, set, take, drop, length-set, length-take, length-drop, replicate, length-replicate, getD-replicate}
 use lib.Seq.{getD-take, getD-drop, getD-set-same, getD-set-other, length-take-le, ext-getD}
 use Rattle.rule.specs.Lists.{filter}
 use Rattle.rule.specs.Graph.{Graph, neighbours, degree, earlier, earlierNeighbours}
-use Rattle.rule.proofs.Booleans.{T-along, test-ext}
+use Rattle.rule.proofs.Booleans.{T-along}
 use Rattle.rule.proofs.Lists.{filter-cong, filter-short, filter-kept, filter-left}
 use Rattle.rule.proofs.Neighbours.{degree-length, neighbours-in, earlier-ones}
-use Rattle.rule.proofs.Order.{keyed-strict}
+use Rattle.rule.proofs.Order.{strict-flip, keyed-strict}
 use Rattle.memory.specs.Counts.{byCells, standing, countIn, Countable, Tallied}
 use Rattle.memory.specs.View.{Shown, Rowed}
 use Rattle.memory.specs.Test.{part, countsOf}
@@ -99,11 +98,7 @@ module _ {ns ds ws : List ℕ} {n b i : ℕ} (ct : Countable ns ds ws n b) (lt :
 -- of two banks, one is earlier
 pub cells-flip : (ds : List ℕ) (p q : ℕ) → p ≢ q → byCells ds p q ≡ not (byCells ds q p)
 unfolding byCells
-cells-flip ds p q n =
-    let strict = keyed-strict (λ x. getD ds x 0) in
-    test-ext (byCells ds p q) (not (byCells ds q p))
-    (λ s. not-T (byCells ds q p) (λ t. strict .irrefl p (strict .trans p q p s t)))
-    (λ s. elim (strict .total p q n) [ inl t ↦ t | inr t ↦ absurd (T-not (byCells ds q p) s t) ])
+cells-flip ds = strict-flip (byCells ds) (keyed-strict (λ x. getD ds x 0))
 
 -- the parts of cells that count for every bank
 long-part : (cells : List ℕ) (x : ℕ) → length cells ≡ 24576 → x < 1024 → length (part cells x) ≡ 24

@@ -4,7 +4,7 @@ use mathlib.Core.List.{List, foldr}
 use mathlib.Core.Path.{_≡_}
 use Prim.Native.Nat.{ℕ, suc, _+_, _*_, _≤_, _<_, max}
 use lib.Dec.{eqb}
-use lib.ListN.{length, getD, take, drop}
+use lib.ListN.{length, getD}
 use Rattle.rule.specs.Lists.{upto, filter}
 use Rattle.rule.specs.Order.{earlierBy}
 

@@ -13,8 +13,7 @@ ghost use Rattle.memory.specs.Walk.{pairCell, Pairable, Seen, Walk, OrNo
 // Counts for every bank.
 pub const ALL_COUNTS: usize = COUNT_CELLS * MOST_BANKS;
 
-// The cell in which the earlier of the two banks is counted by its wave for the later one. Both cells are worked out, so
-// that the choice is no branch.
+// The cell in which the earlier of the two banks is counted by its wave for the later one.
 fn pair_cell(degrees: &[u16], waves: &[u16], b: Bank, v: Bank) -> usize
     requires { ⌜ Pairable (now degrees) (now waves) (b .0) (v .0) ⌝ }
     ensures { λ r. ⌜ r ≡ pairCell (now (degrees .entry)) (now (waves .entry)) (b .0) (v .0) ⌝ }

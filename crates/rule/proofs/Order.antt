@@ -24,6 +24,13 @@ turn-strict R s = record {
   total = λ x y n. s .total y x (λ e. n (sym e));
 }
 
+-- of two different numbers, one comes before
+pub strict-flip : (R : ℕ → ℕ → Bool) → Strict R → (x y : ℕ) → x ≢ y → R x y ≡ not (R y x)
+strict-flip R s x y n =
+    test-ext (R x y) (not (R y x))
+    (λ t. not-T (R y x) (λ u. s .irrefl x (s .trans x y x t u)))
+    (λ t. elim (s .total x y n) [ inl u ↦ u | inr u ↦ absurd (T-not (R y x) t u) ])
+
 -- by a key, and where the keys are equal by another order
 module _ (key : ℕ → ℕ) (K R : ℕ → ℕ → Bool) (strictK : Strict K) (strictR : Strict R) where
   abbrev byKey : ℕ → ℕ → Bool
@@ -83,7 +90,4 @@ module _ (G : Graph) where
 
   -- of two different banks, one is earlier
   pub earlier-flip : (p q : ℕ) → p ≢ q → earlier G p q ≡ not (earlier G q p)
-  earlier-flip p q n =
-      test-ext (earlier G p q) (not (earlier G q p))
-      (λ s. not-T (earlier G q p) (λ t. earlier-irrefl p (earlier-trans p q p s t)))
-      (λ s. elim (earlier-total p q n) [ inl t ↦ t | inr t ↦ absurd (T-not (earlier G q p) s t) ])
+  earlier-flip = strict-flip (earlier G) earlier-strict
