@@ -4,14 +4,18 @@
  * returns 0 if the call was accepted, else one of the numbers WAVE_PLAN_... below.
  *
  * A slice is two arguments: a pointer to its first cell and its number of cells. The pointer must be valid for so many cells, not
- * null and aligned, also where the number is 0. Slices of one call must not overlap, but for those that are const. Slices may be
- * longer than asked: cells beyond the stated number are never changed.
+ * null and aligned, also where the number is 0. A slice that is not const must not overlap any other slice of the same call; const
+ * slices may overlap each other. Slices may be longer than asked: cells beyond the stated number are never changed.
  *
  * tally    three cells: banks, clashes, waves. The caller keeps them with the plan and changes them only through these calls.
- * result   the further answers of a call, from the front; 0 where the call is refused.
+ * result   the further answers of a call, from the front. Where the call is refused they are 0, but for a list and a replay, whose
+ *          result[0] is then the row or the field that was refused.
  * A tally slice of fewer than three cells, or a result slice shorter than the call's, gets 2 first of all, and nothing is changed.
  * Apart from its result cells a refused call changes nothing (see wave_plan_read_list and wave_plan_replay for the rows or fields
  * before the one refused).
+ *
+ * No call allocates, and none keeps a pointer. Those that ask whether the memory holds a plan, which are all but open, a list and a
+ * replay, need up to 56 KB of stack, the others less than 8 KB.
  */
 #ifndef WAVE_PLAN_H
 #define WAVE_PLAN_H
@@ -63,10 +67,21 @@ extern "C" {
 #define WAVE_PLAN_FIRST_BYTES 5
 #define WAVE_PLAN_ENTRY_BYTES 7
 
-/* What a call returns: 0, or the number of the first question that is answered no. */
+/* What a call returns: 0, or the number of the first question that is answered no. The questions of each call, in their order:
+ *   open                          1, 2
+ *   add                           1, 2, 3, 4, 5, 6, 8
+ *   strike                        1, 2, 3, 4, 5, 7
+ *   wave_of, clashes_of           1, 2, 3, 4
+ *   read_list                     9, 10, 1, 2; then each row in turn: 11, 4, 5, 6 or 7, 8
+ *   write_sheet, write_poster     1, 2, 3, 12
+ *   start_journal                 1, 2, 3, 15
+ *   add_recorded                  9, 13, 1, 2, 3, 14, 4, 5, 6, 8, 15
+ *   strike_recorded               9, 13, 1, 2, 3, 14, 4, 5, 7, 15
+ *   replay                        9, 13, 1, 2; then each field in turn: 14, 4, 5, 6 or 7, 8
+ */
 #define WAVE_PLAN_ACCEPTED 0
 #define WAVE_PLAN_TOO_MANY_BANKS 1  /* Is the bank count at most 1024? */
-#define WAVE_PLAN_SHORT_SLICE 2     /* Is each slice that the call uses long enough for it? */
+#define WAVE_PLAN_SHORT_SLICE 2     /* Is each plan, trail and moved slice that the call is lent long enough? Tally and result too. */
 #define WAVE_PLAN_NO_PLAN 3         /* Does the memory hold a plan? */
 #define WAVE_PLAN_NO_SUCH_BANK 4    /* Is each named bank below the bank count? */
 #define WAVE_PLAN_SAME_BANK 5       /* Are the two banks different? */
@@ -109,8 +124,8 @@ uint16_t wave_plan_clashes_of(const uint16_t *neighbours, size_t neighbours_cell
                               const uint16_t *tally, size_t tally_cells, uint16_t *result, size_t result_cells, uint16_t b);
 
 /* Reads a list: opens the plan of its first row, then makes the edits of the others. result[0]: the row that was refused, counted
- * from 1; 0 if the list was accepted or is too long. Where a later row is refused, the plan, tally, trail and moved are those of the
- * rows before it. */
+ * from 1; 0 if the list was accepted or is too long (9). Where a later row is refused, the plan, tally, trail and moved are those of
+ * the rows before it. */
 uint16_t wave_plan_read_list(const uint8_t *list, size_t list_bytes, uint16_t *neighbours, size_t neighbours_cells,
                              uint16_t *degrees, size_t degrees_cells, uint16_t *waves, size_t waves_cells,
                              uint16_t *counts, size_t counts_cells, uint16_t *trail, size_t trail_cells,
@@ -131,8 +146,8 @@ uint16_t wave_plan_start_journal(const uint16_t *neighbours, size_t neighbours_c
                                  uint16_t *result, size_t result_cells);
 
 /* Adds the clash of banks a and b and writes it after the last field of the journal, which is the first `length` bytes of the slice.
- * result[0]: how many banks moved; result[1]: how many were taken up; result[2]: the new length. The questions come in the order 9,
- * 13, 1, 2, 3, 14, 4 to 8, 15; a journal that ends inside a field gets 14. */
+ * result[0]: how many banks moved; result[1]: how many were taken up; result[2]: the new length. A journal that ends inside a field
+ * gets 14. */
 uint16_t wave_plan_add_recorded(uint16_t *neighbours, size_t neighbours_cells, uint16_t *degrees, size_t degrees_cells,
                                 uint16_t *waves, size_t waves_cells, uint16_t *counts, size_t counts_cells,
                                 uint16_t *trail, size_t trail_cells, uint16_t *moved, size_t moved_cells,
@@ -147,8 +162,9 @@ uint16_t wave_plan_strike_recorded(uint16_t *neighbours, size_t neighbours_cells
                                    uint16_t *result, size_t result_cells, uint16_t a, uint16_t b, size_t length);
 
 /* Replays a journal: opens the plan of its first field, then makes the edits of the others. result[0]: the field that was refused,
- * counted from 1; 0 if the journal was accepted or is too long. result[1]: how many bytes at its end were left over, fewer than a
- * whole field. Where a later field is refused, the plan, tally, trail and moved are those of the fields before it. */
+ * counted from 1; 0 if the journal was accepted or is too long (9). result[1]: how many bytes at its end were left over, fewer than a
+ * whole field; 0 if it was refused. Where a later field is refused, the plan, tally, trail and moved are those of the fields before
+ * it. */
 uint16_t wave_plan_replay(const uint8_t *journal, size_t journal_bytes, uint16_t *neighbours, size_t neighbours_cells,
                           uint16_t *degrees, size_t degrees_cells, uint16_t *waves, size_t waves_cells,
                           uint16_t *counts, size_t counts_cells, uint16_t *trail, size_t trail_cells,

@@ -1,28 +1,59 @@
 // Edits without question 5 for the benchmarks, as the list reader makes one at each row. Who calls them vouches that memory holds a plan.
-use memory::Tally;
-use planner::Edited;
-use planner::add_held;
-use planner::strike_held;
+use c_cells::put_answer;
+use c_cells::tally_in;
+use planner::edit_held;
 use rule::Bank;
+use rule::Kind;
+ghost use mathlib.Core.Path.{_≡_};
 ghost use Prim.Native.Nat.{_≤_};
-ghost use lib.ListN.{length, getD};
-ghost use Rattle.planner.specs.Calls.{memoryOf};
-ghost use Rattle.planner.specs.Held.{Held};
+ghost use lib.ListN.{length};
+ghost use Rattle.rule.specs.Graph.{Graph};
+ghost use Rattle.rule.specs.declared.Kind.the-variants.{Adding, Striking};
+ghost use Rattle.memory.specs.Memory.{Ready};
+ghost use Rattle.planner.specs.inner.Held.{HoldsPlan};
+ghost use Rattle.c_cells.specs.CellMemory.{tallySize, memoryIn, answered};
+ghost use Rattle.c_cells.specs.Lent.{cellsGiven, cellsBefore, cellsAfter};
+ghost use Rattle.bench_edit.specs.inner.HeldCall.{heldCall};
 
-// Puts the tally and the counts into their cells, and answers the number.
-fn put(tally: &mut [u16], result: &mut [u16], edited: Edited) -> u16
-    requires { ⌜ (3 ≤ length (now tally)) × (2 ≤ length (now result)) ⌝ }
+// An edit of this kind. The results are the moved count and the trail count.
+fn bench_edit(
+    kind: Kind,
+    neighbours: &mut [u16],
+    degrees: &mut [u16],
+    waves: &mut [u16],
+    counts: &mut [u16],
+    trail: &mut [u16],
+    moved: &mut [u16],
+    tally: &mut [u16],
+    result: &mut [u16],
+    a: u16,
+    b: u16,
+) -> u16
+    requires { ⌜ (tallySize ≤ length (now tally)) × (2 ≤ length (now result)) ⌝ }
+    requires { ⌜ HoldsPlan (memoryIn (cellsGiven neighbours degrees waves counts trail moved tally result)) ⌝ }
+    ensures { λ r. ⌜ ((G : Graph)
+        → Ready G (memoryIn (cellsBefore neighbours degrees waves counts trail moved tally result))
+        → answered r (cellsAfter neighbours degrees waves counts trail moved tally result)
+        ≡ heldCall kind G a b (cellsBefore neighbours degrees waves counts trail moved tally result)) ⌝ }
 {
-    let after = edited.tally;
-    tally[0] = after.banks;
-    tally[1] = after.clashes;
-    tally[2] = after.waves;
-    let answer = edited.answer;
-    result[0] = answer.moved;
-    result[1] = answer.trail;
-    answer.number
+    let t = tally_in(tally);
+    let r = edit_held(
+        kind,
+        neighbours,
+        degrees,
+        waves,
+        counts,
+        trail,
+        moved,
+        t,
+        Bank(a),
+        Bank(b),
+    );
+    put_answer(tally, result, r.tally, &[r.answer.moved, r.answer.trail]);
+    r.answer.number
 }
 
+// Adds the clash of a and b.
 #[no_mangle]
 pub extern "C" fn bench_add(
     neighbours: &mut [u16],
@@ -36,28 +67,29 @@ pub extern "C" fn bench_add(
     a: u16,
     b: u16,
 ) -> u16
-    requires { ⌜ (3 ≤ length (now tally)) × (2 ≤ length (now result)) ⌝ }
-    requires { ⌜ Held (memoryOf (now neighbours) (now degrees) (now waves) (now counts) (now trail) (now moved) (record { banks = getD (now tally) 0 0; clashes = getD (now tally) 1 0; waves = getD (now tally) 2 0 })) ⌝ }
+    requires { ⌜ (tallySize ≤ length (now tally)) × (2 ≤ length (now result)) ⌝ }
+    requires { ⌜ HoldsPlan (memoryIn (cellsGiven neighbours degrees waves counts trail moved tally result)) ⌝ }
+    ensures { λ r. ⌜ ((G : Graph)
+        → Ready G (memoryIn (cellsBefore neighbours degrees waves counts trail moved tally result))
+        → answered r (cellsAfter neighbours degrees waves counts trail moved tally result)
+        ≡ heldCall Adding G a b (cellsBefore neighbours degrees waves counts trail moved tally result)) ⌝ }
 {
-    let t = Tally {
-        banks: tally[0],
-        clashes: tally[1],
-        waves: tally[2],
-    };
-    let r = add_held(
+    bench_edit(
+        Kind::Adding,
         neighbours,
         degrees,
         waves,
         counts,
         trail,
         moved,
-        t,
-        Bank(a),
-        Bank(b),
-    );
-    put(tally, result, r)
+        tally,
+        result,
+        a,
+        b,
+    )
 }
 
+// Strikes the clash of a and b.
 #[no_mangle]
 pub extern "C" fn bench_strike(
     neighbours: &mut [u16],
@@ -71,24 +103,24 @@ pub extern "C" fn bench_strike(
     a: u16,
     b: u16,
 ) -> u16
-    requires { ⌜ (3 ≤ length (now tally)) × (2 ≤ length (now result)) ⌝ }
-    requires { ⌜ Held (memoryOf (now neighbours) (now degrees) (now waves) (now counts) (now trail) (now moved) (record { banks = getD (now tally) 0 0; clashes = getD (now tally) 1 0; waves = getD (now tally) 2 0 })) ⌝ }
+    requires { ⌜ (tallySize ≤ length (now tally)) × (2 ≤ length (now result)) ⌝ }
+    requires { ⌜ HoldsPlan (memoryIn (cellsGiven neighbours degrees waves counts trail moved tally result)) ⌝ }
+    ensures { λ r. ⌜ ((G : Graph)
+        → Ready G (memoryIn (cellsBefore neighbours degrees waves counts trail moved tally result))
+        → answered r (cellsAfter neighbours degrees waves counts trail moved tally result)
+        ≡ heldCall Striking G a b (cellsBefore neighbours degrees waves counts trail moved tally result)) ⌝ }
 {
-    let t = Tally {
-        banks: tally[0],
-        clashes: tally[1],
-        waves: tally[2],
-    };
-    let r = strike_held(
+    bench_edit(
+        Kind::Striking,
         neighbours,
         degrees,
         waves,
         counts,
         trail,
         moved,
-        t,
-        Bank(a),
-        Bank(b),
-    );
-    put(tally, result, r)
+        tally,
+        result,
+        a,
+        b,
+    )
 }

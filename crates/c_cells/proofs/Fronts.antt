@@ -1,32 +1,23 @@
--- Cells at the front of a slice, stored one after the other.
+-- Cells put at the front of a slice, and tallies in theirs.
 use mathlib.Core.List.{List, [], _∷_}
-use mathlib.Core.Path.{_≡_, refl}
-use Prim.Native.Nat.{ℕ, _≤_}
+use mathlib.Core.Path.{_≡_, refl, ap}
+use Prim.Native.Nat.{ℕ, zero, suc, _≤_, _<_}
 use native.Mathlib.Omega.{arith}
-use lib.ListN.{length, set}
+use lib.ListN.{length, getD, set, take}
 use Rattle.memory.specs.Cells.{over}
-use Rattle.c_cells.specs.Lent.{tallyIn, tallyCells}
+use Rattle.c_cells.specs.CellMemory.{tallySize, tallyIn, tallyCells}
 
-pub one-cell : (xs : List ℕ) (x : ℕ) → 1 ≤ length xs → set xs 0 x ≡ over (x ∷ []) xs
+-- one cell more of a front that is put cell by cell
+pub over-next : (front xs : List ℕ) (i : ℕ) → i < length front → length front ≤ length xs
+    → set (over (take i front) xs) i (getD front i 0) ≡ over (take (suc i) front) xs
 unfolding over
-one-cell [] x h = absurd (omega arith)
-one-cell (a ∷ xs) x h = refl
-
-pub two-cells : (xs : List ℕ) (x y : ℕ) → 2 ≤ length xs → set (set xs 0 x) 1 y ≡ over (x ∷ y ∷ []) xs
-unfolding over
-two-cells [] x y h = absurd (omega arith)
-two-cells (a ∷ []) x y h = absurd (omega arith)
-two-cells (a ∷ b ∷ xs) x y h = refl
-
-pub three-cells : (xs : List ℕ) (x y z : ℕ) → 3 ≤ length xs → set (set (set xs 0 x) 1 y) 2 z ≡ over (x ∷ y ∷ z ∷ []) xs
-unfolding over
-three-cells [] x y z h = absurd (omega arith)
-three-cells (a ∷ []) x y z h = absurd (omega arith)
-three-cells (a ∷ b ∷ []) x y z h = absurd (omega arith)
-three-cells (a ∷ b ∷ c ∷ xs) x y z h = refl
+over-next [] xs i h k = absurd (omega arith)
+over-next (f ∷ fs) [] i h k = absurd (omega arith)
+over-next (f ∷ fs) (x ∷ xs) zero h k = refl
+over-next (f ∷ fs) (x ∷ xs) (suc i) h k = ap (λ (l : List ℕ). f ∷ l) (over-next fs xs i (omega arith) (omega arith))
 
 -- a refused call puts the tally back as it was
-pub tally-again : (xs : List ℕ) → 3 ≤ length xs → over (tallyCells (tallyIn xs)) xs ≡ xs
+pub tally-again : (xs : List ℕ) → tallySize ≤ length xs → over (tallyCells (tallyIn xs)) xs ≡ xs
 unfolding over tallyCells tallyIn
 tally-again [] h = absurd (omega arith)
 tally-again (a ∷ []) h = absurd (omega arith)

@@ -1,20 +1,32 @@
 // Reading a tally from its cells, and putting tallies and results into theirs.
-use journal::RecordedEdit;
-use journal_replay::ReplayedPlan;
-use list_reader::Listed;
 use memory::Tally;
-use planner::Edited;
-ghost use mathlib.Core.List.{[], _∷_};
 ghost use mathlib.Core.Path.{_≡_};
 ghost use Prim.Native.Nat.{_≤_};
 ghost use lib.ListN.{length};
 ghost use Rattle.memory.specs.Cells.{over};
-ghost use Rattle.c_cells.specs.Lent.{tallyIn, tallyCells};
-ghost use Rattle.c_cells.specs.Put.{AnswerPut};
+ghost use Rattle.c_cells.specs.CellMemory.{tallySize, tallyIn, tallyCells, shortNumber};
+ghost use Rattle.c_cells.specs.inner.Enough.{Enough};
 
-// The tally in the front three cells.
+// The cells of a tally slice: banks, clashes, waves.
+const TALLY_CELLS: usize = 3;
+
+// 2 if a tally slice of so many cells is short, or a result slice of so many has fewer than the call needs; else 0.
+pub fn room(tally: usize, result: usize, needed: usize) -> u16
+    ensures number { λ r. ⌜ r ≡ shortNumber needed tally result ⌝ }
+    ensures enough { λ r. ⌜ Enough needed tally result r ⌝ }
+{
+    if tally < TALLY_CELLS {
+        return 2;
+    }
+    if result < needed {
+        return 2;
+    }
+    0
+}
+
+// The tally in the front cells.
 pub fn tally_in(cells: &[u16]) -> Tally
-    requires { ⌜ 3 ≤ length (now cells) ⌝ }
+    requires { ⌜ tallySize ≤ length (now cells) ⌝ }
     ensures { λ r. ⌜ r ≡ tallyIn (now (cells .entry)) ⌝ }
 {
     Tally {
@@ -24,85 +36,32 @@ pub fn tally_in(cells: &[u16]) -> Tally
     }
 }
 
-// Puts one result into the front cell.
-pub fn put_one(cells: &mut [u16], x: u16)
-    requires { ⌜ 1 ≤ length (now cells) ⌝ }
-    ensures { λ r. ⌜ now (cells .exit) ≡ over (x ∷ []) (now (cells .entry)) ⌝ }
+// Puts these cells at the front of a slice.
+pub fn put_front(slice: &mut [u16], cells: &[u16])
+    requires { ⌜ length (now cells) ≤ length (now slice) ⌝ }
+    ensures { λ r. ⌜ now (slice .exit) ≡ over (now (cells .entry)) (now (slice .entry)) ⌝ }
 {
-    cells[0] = x;
+    let mut i = 0;
+    while i < cells.len() {
+        slice[i] = cells[i];
+        i += 1;
+    }
 }
 
-// Puts two results into the front two cells.
-pub fn put_two(cells: &mut [u16], x: u16, y: u16)
-    requires { ⌜ 2 ≤ length (now cells) ⌝ }
-    ensures { λ r. ⌜ now (cells .exit) ≡ over (x ∷ y ∷ []) (now (cells .entry)) ⌝ }
-{
-    cells[0] = x;
-    cells[1] = y;
-}
-
-// Puts three results into the front three cells.
-pub fn put_three(cells: &mut [u16], x: u16, y: u16, z: u16)
-    requires { ⌜ 3 ≤ length (now cells) ⌝ }
-    ensures { λ r. ⌜ now (cells .exit) ≡ over (x ∷ y ∷ z ∷ []) (now (cells .entry)) ⌝ }
-{
-    cells[0] = x;
-    cells[1] = y;
-    cells[2] = z;
-}
-
-// Puts a tally into the front three cells.
+// Puts a tally into the front cells.
 pub fn put_tally(cells: &mut [u16], tally: Tally)
-    requires { ⌜ 3 ≤ length (now cells) ⌝ }
+    requires { ⌜ tallySize ≤ length (now cells) ⌝ }
     ensures { λ r. ⌜ now (cells .exit) ≡ over (tallyCells tally) (now (cells .entry)) ⌝ }
 {
-    put_three(cells, tally.banks, tally.clashes, tally.waves);
+    put_front(cells, &[tally.banks, tally.clashes, tally.waves]);
 }
 
-// Puts what an edit left beside its slices, and answers its number.
-pub fn put_edited(tally: &mut [u16], result: &mut [u16], edited: Edited) -> u16
-    requires { ⌜ (3 ≤ length (now tally)) × (2 ≤ length (now result)) ⌝ }
-    ensures { λ r. ⌜ AnswerPut (edited .answer .number) (edited .tally) (edited .answer .moved ∷ edited .answer .trail ∷ []) (now (tally .entry)) (now (result .entry)) r (now (tally .exit)) (now (result .exit)) ⌝ }
+// Puts the tally and the results that a call leaves at the fronts of their slices.
+pub fn put_answer(tally: &mut [u16], result: &mut [u16], after: Tally, results: &[u16])
+    requires { ⌜ (tallySize ≤ length (now tally)) × (length (now results) ≤ length (now result)) ⌝ }
+    ensures tally { λ r. ⌜ now (tally .exit) ≡ over (tallyCells after) (now (tally .entry)) ⌝ }
+    ensures result { λ r. ⌜ now (result .exit) ≡ over (now (results .entry)) (now (result .entry)) ⌝ }
 {
-    let after = edited.tally;
     put_tally(tally, after);
-    let answer = edited.answer;
-    put_two(result, answer.moved, answer.trail);
-    answer.number
-}
-
-// Puts what a list left beside its slices, and answers its number.
-pub fn put_listed(tally: &mut [u16], result: &mut [u16], listed: Listed) -> u16
-    requires { ⌜ (3 ≤ length (now tally)) × (1 ≤ length (now result)) ⌝ }
-    ensures { λ r. ⌜ AnswerPut (listed .answer .number) (listed .tally) (listed .answer .row ∷ []) (now (tally .entry)) (now (result .entry)) r (now (tally .exit)) (now (result .exit)) ⌝ }
-{
-    let after = listed.tally;
-    put_tally(tally, after);
-    let answer = listed.answer;
-    put_one(result, answer.row);
-    answer.number
-}
-
-// Puts what an edit that is recorded left beside its slices, and answers its number.
-pub fn put_recorded(tally: &mut [u16], result: &mut [u16], recorded: RecordedEdit) -> u16
-    requires { ⌜ (3 ≤ length (now tally)) × (3 ≤ length (now result)) ⌝ }
-    ensures { λ r. ⌜ AnswerPut (recorded .answer .number) (recorded .tally) (recorded .answer .moved ∷ recorded .answer .trail ∷ recorded .answer .length ∷ []) (now (tally .entry)) (now (result .entry)) r (now (tally .exit)) (now (result .exit)) ⌝ }
-{
-    let after = recorded.tally;
-    put_tally(tally, after);
-    let answer = recorded.answer;
-    put_three(result, answer.moved, answer.trail, answer.length);
-    answer.number
-}
-
-// Puts what a replay left beside its slices, and answers its number.
-pub fn put_replayed(tally: &mut [u16], result: &mut [u16], replayed: ReplayedPlan) -> u16
-    requires { ⌜ (3 ≤ length (now tally)) × (2 ≤ length (now result)) ⌝ }
-    ensures { λ r. ⌜ AnswerPut (replayed .answer .number) (replayed .tally) (replayed .answer .field ∷ replayed .answer .left ∷ []) (now (tally .entry)) (now (result .entry)) r (now (tally .exit)) (now (result .exit)) ⌝ }
-{
-    let after = replayed.tally;
-    put_tally(tally, after);
-    let answer = replayed.answer;
-    put_two(result, answer.field, answer.left);
-    answer.number
+    put_front(result, results);
 }

@@ -4,19 +4,22 @@ use mathlib.Core.Logic.{_≢_}
 use mathlib.Core.Path.{_≡_, refl, sym, ap, _∙_}
 use Prim.Native.Nat.{ℕ, zero, suc, _+_, _*_, _≤_, _<_}
 use native.Mathlib.Decide.{ℕ-discrete}
+use native.Mathlib.Numerals.{lt-of-le-of-ne}
 use native.Mathlib.Omega.{arith}
-use lib.Dec.{eqb}
+use lib.Dec.{T, eqb}
 use Rattle.rule.specs.Lists.{upto}
 use Rattle.rule.specs.Graph.{Graph, degree, added, struck}
-use Rattle.rule.specs.Reach.{Kind, adding, striking, edited}
+use Rattle.rule.specs.Reach.{edited}
+use Rattle.rule.specs.declared.Kind.{Kind}
+use Rattle.rule.specs.declared.Kind.the-variants.{Adding, Striking}
 use Rattle.rule.proofs.Booleans.{T-along}
 use Rattle.rule.proofs.OneClash.{degrees-more, degrees-less, degree-added, degree-struck}
 use Rattle.memory.specs.declared.Tally.{Tally}
 use Rattle.memory.specs.Plan.{clashCount, tallyOf}
 use Rattle.memory.proofs.Standing.{bit, bit-yes, bit-no}
-use Rattle.edits.specs.Lent.{Lent}
+use Rattle.memory.specs.Memory.{Memory}
 use Rattle.edits.specs.Edits.{Editable}
-use Rattle.edits.proofs.Rewriting.{lt-of}
+use Rattle.edits.specs.inner.Change.{NumberFits, numberAfter}
 
 sum : (ℕ → ℕ) → ℕ → ℕ
 sum f zero = 0
@@ -51,7 +54,7 @@ sum-one f g a (suc n) l e h = go (ℕ-discrete n a) (λ k. sum-one f g a n k e h
     go (yes d) more =
         let p : f n ≡ g n + 1 = rw d e in
         omega (arith, sum-cong f g n (λ x k. h x (λ r. omega arith)))
-    go (no d) more = omega (arith, more (lt-of n a (λ k. d (omega arith)) d), h n d)
+    go (no d) more = omega (arith, more (lt-of-le-of-ne (omega arith) (λ e. d (sym e))), h n d)
 
 -- one more at a and at b
 sum-two : (f g : ℕ → ℕ) (a b n : ℕ) → a ≢ b → a < n → b < n → f a ≡ g a + 1 → f b ≡ g b + 1 → ((x : ℕ) → x ≢ a → x ≢ b → f x ≡ g x) → sum f n ≡ sum g n + 2
@@ -89,20 +92,37 @@ unfolding tallyOf
 tally-clashes G e = ap (λ (u : Tally). u .clashes) e
 
 -- the tally's number, before an edit and after
-module _ {G : Graph} {m : Lent} {t : Tally} {a b : ℕ} where
-  pub clashes-fit : {k : Kind} → Editable k G m t a b → t .clashes ≤ 11776
-  clashes-fit ed = omega (arith, tally-clashes G (ed .tally), few-clashes G (ed .held .rowed .few) (ed .held .rowed .small))
-
-  pub clashes-more : Editable adding G m t a b → t .clashes + 1 ≡ clashCount (edited adding G a b)
+module _ {G : Graph} {m : Memory} {a b : ℕ} where
+  clashes-more : Editable Adding G m a b → m .tally .clashes + 1 ≡ clashCount (edited Adding G a b)
   unfolding edited
   clashes-more ed =
       let ac = ed .acceptable in
-      let d = degrees-more G a b (ac .bankA) (ac .bankB) (ac .differ) (ac .allowed) (λ t. ac .allowed (T-along (ed .held .rowed .symmetric b a (ac .bankB) (ac .bankA)) t)) in
-      omega (arith, tally-clashes G (ed .tally), counts-more G (added G a b) a b refl (ac .differ) (ac .bankA) (ac .bankB) (d .0) (d .1) (degree-added G a b))
+      let back : T (G .clash b a) → ⊥ = λ t. ac .allowed (T-along (ed .ready .plan .clashes .symmetric b a (ac .bankB) (ac .bankA)) t) in
+      let d = degrees-more G a b (ac .bankA) (ac .bankB) (ac .differ) (ac .allowed) back in
+      let more = counts-more G (added G a b) a b refl (ac .differ) (ac .bankA) (ac .bankB) (d .0) (d .1) (degree-added G a b) in
+      omega (arith, tally-clashes G (ed .ready .plan .tally), more)
 
-  pub clashes-less : Editable striking G m t a b → t .clashes ≡ clashCount (edited striking G a b) + 1
+  clashes-less : Editable Striking G m a b → m .tally .clashes ≡ clashCount (edited Striking G a b) + 1
   unfolding edited
   clashes-less ed =
       let ac = ed .acceptable in
-      let d = degrees-less G a b (ac .bankA) (ac .bankB) (ac .differ) (ac .allowed) (T-along (ed .held .rowed .symmetric a b (ac .bankA) (ac .bankB)) (ac .allowed)) in
-      tally-clashes G (ed .tally) ∙ counts-more (struck G a b) G a b refl (ac .differ) (ac .bankA) (ac .bankB) (d .0) (d .1) (λ x da db. sym (degree-struck G a b x da db))
+      let back = T-along (ed .ready .plan .clashes .symmetric a b (ac .bankA) (ac .bankB)) (ac .allowed) in
+      let d = degrees-less G a b (ac .bankA) (ac .bankB) (ac .differ) (ac .allowed) back in
+      let same : (x : ℕ) → x ≢ a → x ≢ b → degree G x ≡ degree (struck G a b) x = λ x da db. sym (degree-struck G a b x da db) in
+      tally-clashes G (ed .ready .plan .tally) ∙ counts-more (struck G a b) G a b refl (ac .differ) (ac .bankA) (ac .bankB) (d .0) (d .1) same
+
+  pub number-fits : {k : Kind} → Editable k G m a b → NumberFits k (m .tally .clashes)
+  number-fits {k} ed = go k ed
+    where
+      go : (k : Kind) → Editable k G m a b → NumberFits k (m .tally .clashes)
+      go Adding ed =
+          let cl = ed .ready .plan .clashes in
+          omega (arith, tally-clashes G (ed .ready .plan .tally), few-clashes G (cl .most) (cl .few))
+      go Striking ed = omega (arith, clashes-less ed)
+
+  pub clashes-after : {k : Kind} → Editable k G m a b → numberAfter k (m .tally .clashes) ≡ clashCount (edited k G a b)
+  clashes-after {k} ed = go k ed
+    where
+      go : (k : Kind) → Editable k G m a b → numberAfter k (m .tally .clashes) ≡ clashCount (edited k G a b)
+      go Adding ed = clashes-more ed
+      go Striking ed = omega (arith, clashes-less ed)

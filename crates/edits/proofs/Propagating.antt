@@ -7,37 +7,40 @@ use Prim.Native.Nat.{ℕ, _+_, _*_, _/_, _%_, _≤_, _<_}
 use native.Mathlib.Nat.{div-add-mod'}
 use native.Mathlib.Omega.{arith}
 use lib.ListN.{length, getD, take, replicate}
-use Rattle.rule.specs.Lists.{memb, filter}
+use Rattle.rule.specs.Lists.{upto, memb, filter}
 use Rattle.rule.specs.Graph.{Graph, neighbours, degree, earlierNeighbours}
 use Rattle.rule.specs.Wave.{wave, waveCount}
-use Rattle.rule.specs.Reach.{Kind, edited, changed, trail}
+use Rattle.rule.specs.Reach.{edited, changed, onTrail, trail, moved}
+use Rattle.rule.specs.declared.Kind.{Kind}
 use Rattle.rule.specs.WorkList.{OneEdit, seed, taken, WorkList}
 use Rattle.rule.proofs.Booleans.{T-along, passes?}
-use Rattle.rule.proofs.Lists.{in-none}
+use Rattle.rule.proofs.Lists.{in-none, length-upto, filter-short}
+use Rattle.rule.proofs.Reaches.{count-order}
 use Rattle.rule.proofs.Spread.{same-neighbours}
 use Rattle.rule.proofs.Waves.{earlierNeighbours-in}
 use Rattle.rule.proofs.Theorems.{wave-small, start, edited-one, trail-taken}
 use Rattle.memory.specs.declared.Tally.{Tally}
 use Rattle.memory.specs.Cells.{over, Beyond}
-use Rattle.memory.specs.Counts.{standing, mostOf}
-use Rattle.memory.specs.Plan.{neighbourCells, degreeCells, clashCount, tallyOf}
-use Rattle.memory.specs.View.{Rowed, Shown}
+use Rattle.memory.specs.inner.Counts.{standing, mostOf}
+use Rattle.memory.specs.Plan.{slicesOf, neighbourCells, degreeCells, clashCount, tallyOf, planIn, PlanOf}
+use Rattle.memory.specs.inner.View.{Rowed, Shown}
 use Rattle.memory.proofs.Cells.{cells-over}
-use Rattle.memory.proofs.Fronts.{beyond-refl}
+use Rattle.memory.proofs.Fronts.{beyond-refl, over-long}
 use Rattle.memory.proofs.Standing.{standing-cong}
-use Rattle.memory.proofs.Theorems.{shown, wave-count-is}
-use Rattle.edits.specs.declared.can_step.Progress.{Progress}
-use Rattle.edits.specs.declared.rows.Degrees.{Degrees}
-use Rattle.edits.specs.Lent.{Lent, lentOf}
+use Rattle.memory.proofs.Theorems.{shown, wave-count-is, held-of, plan-of}
+use Rattle.steps.specs.declared.can_step.Progress.{Progress}
+use Rattle.neighbour_rows.specs.declared.clash.Degrees.{Degrees}
+use Rattle.memory.specs.Memory.{Memory, memoryOf}
 use Rattle.edits.specs.Edits.{Editable, Outcome}
-use Rattle.edits.specs.Queue.{waits, First}
-use Rattle.edits.specs.Rows.{Rewritten}
-use Rattle.edits.specs.Work.{Edit, new, Working, Settled}
-use Rattle.edits.specs.Seeds.{Seedable, Seeded}
-use Rattle.edits.specs.Change.{Origin, editAt, Changed}
-use Rattle.edits.proofs.BitQueue.{empty-queue, no-one}
-use Rattle.edits.proofs.Notices.{memb-none}
-use Rattle.edits.proofs.Stepping.{progress}
+use Rattle.queue.specs.Queue.{waits}
+use Rattle.neighbour_rows.specs.Rewritten.{Rewritten}
+use Rattle.steps.specs.inner.Work.{Edit, new, Working, Settled}
+use Rattle.edits.specs.inner.Recount.{withCounts}
+use Rattle.edits.specs.inner.Seeds.{Seedable, Seeded}
+use Rattle.edits.specs.inner.Change.{Origin, editAt, RowsChanged}
+use Rattle.queue.proofs.Queues.{empty-queue, no-one}
+use Rattle.steps.proofs.Notices.{memb-none}
+use Rattle.steps.proofs.Stepping.{progress}
 
 -- rows and degrees as whole slices
 module _ {G : Graph} {ns ds was : List ℕ} (rd : Rowed G ns ds) where
@@ -51,6 +54,16 @@ module _ {G : Graph} {ns ds was : List ℕ} (rd : Rowed G ns ds) where
   degrees-over : Beyond (G .banks) ds was → ds ≡ over (degreeCells G) was
   unfolding degreeCells
   degrees-over beyond = cells-over (G .banks) (degree G) ds was (rd .wide-degrees) (rd .degrees) beyond
+
+-- trail and moved name no more banks than there are
+trail-few : (k : Kind) (old new : Graph) (a b : ℕ) → length (trail k old new a b) ≤ new .banks
+unfolding trail
+trail-few k old new a b =
+    omega (arith, count-order new (onTrail k old new a b), filter-short (onTrail k old new a b) (upto (new .banks)), length-upto (new .banks))
+
+moved-few : (old new : Graph) → length (moved old new) ≤ new .banks
+unfolding moved
+moved-few old new = omega (arith, count-order new (changed old new), filter-short (changed old new) (upto (new .banks)), length-upto (new .banks))
 
 -- a work-list by other tests that say the same
 list-cong : (old new : Graph) (a b : ℕ) (done queued done′ queued′ : ℕ → Bool) → ((x : ℕ) → done x ≡ done′ x) → ((x : ℕ) → x < new .banks → queued x ≡ queued′ x)
@@ -69,7 +82,7 @@ filter-none : (p : ℕ → Bool) → [] ≡ filter p []
 unfolding filter
 filter-none p = refl
 
-module _ {e : Edit} {m : Lent} {before : Degrees} {n clashes : ℕ} (ch : Changed e m before n clashes) where
+module _ {e : Edit} {m : Memory} {before : Degrees} {n clashes : ℕ} (ch : RowsChanged e m before n clashes) where
   abbrev G : Graph
   G = new e
 
@@ -79,10 +92,10 @@ module _ {e : Edit} {m : Lent} {before : Degrees} {n clashes : ℕ} (ch : Change
   banks : n ≡ G .banks
   banks = ch .held .banks ∙ edit .sameBanks
 
-  shows : Shown G (m .neighbours) (m .degrees)
+  shows : Shown G (m .slices .neighbours) (m .slices .degrees)
   shows = shown (ch .rewritten .rowed)
 
-  stored : (x : ℕ) → x < G .banks → getD (m .waves) x 0 ≡ wave (e .old) x
+  stored : (x : ℕ) → x < G .banks → getD (m .slices .waves) x 0 ≡ wave (e .old) x
   stored x l = rw (ch .sameWaves) (ch .held .waves x (omega (arith, edit .sameBanks)))
 
   small : (x : ℕ) → x < G .banks → wave (e .old) x < 24
@@ -91,7 +104,7 @@ module _ {e : Edit} {m : Lent} {before : Degrees} {n clashes : ℕ} (ch : Change
       omega (arith, wave-small (e .old) x k (ch .held .rowed .small x k))
 
   -- before the seeds, with an empty queue
-  pub seedable : Seedable e (m .neighbours) (m .degrees) (m .waves) (m .counts) (replicate 384 0) n before
+  pub seedable : Seedable e (m .slices) (replicate 390 0) n before
   seedable = record {
     edit = edit;
     counts = record {
@@ -103,7 +116,7 @@ module _ {e : Edit} {m : Lent} {before : Degrees} {n clashes : ℕ} (ch : Change
       queue = empty-queue G;
       right = λ x c l t h. absurd (T-along (no-one G x) t);
       kept = λ x c l t h. refl;
-      beyond = beyond-refl (new e .banks * 24) (m .counts);
+      beyond = beyond-refl (new e .banks * 24) (m .slices .counts);
     };
     empty = no-one G;
     bankA = omega (arith, ch .acceptable .bankA, ch .held .banks);
@@ -112,12 +125,12 @@ module _ {e : Edit} {m : Lent} {before : Degrees} {n clashes : ℕ} (ch : Change
     degreeB = ch .rewritten .degreeB;
   }
 
-  module _ {cs q : List ℕ} {word : ℕ} (sd : Seeded e (m .neighbours) (m .degrees) (m .waves) (m .counts) cs q n) (sought : First q 0 word) where
+  module _ {cs q : List ℕ} (sd : Seeded e (withCounts (m .slices) cs) (m .slices .counts) q n) where
     seeds-are : (x : ℕ) → x < G .banks → waits G q x ≡ seed (e .old) G (e .a) (e .b) x
     seeds-are x l = sd .seeds x (omega (arith, banks))
 
     -- a bank that is no seed has the earlier neighbours that it had
-    cell-is : (x c : ℕ) → x < G .banks → c < 24 → getD cs (x * 24 + c) 0 ≡ standing (λ v. getD (m .waves) v 0) c (earlierNeighbours G x)
+    cell-is : (x c : ℕ) → x < G .banks → c < 24 → getD cs (x * 24 + c) 0 ≡ standing (λ v. getD (m .slices .waves) v 0) c (earlierNeighbours G x)
     cell-is x c lx lc =
         elim (passes? (waits G q x)) [
           | inl i ↦ sd .counts .right x c lx i lc
@@ -125,21 +138,20 @@ module _ {e : Edit} {m : Lent} {before : Degrees} {n clashes : ℕ} (ch : Change
               sd .counts .kept x c lx f lc ∙ ap (λ (xs : List ℕ). getD xs (x * 24 + c) 0) (ch .sameCounts)
               ∙ ch .held .counted .cell x c (omega (arith, edit .sameBanks)) lc
               ∙ ap (standing (wave (e .old)) c) (same-neighbours (e .old) G (e .a) (e .b) edit x lx (λ s. f (T-along (sym (seeds-are x lx)) s)))
-              ∙ standing-cong (wave (e .old)) (λ v. getD (m .waves) v 0) c (earlierNeighbours G x) (λ v i. sym (stored v (earlierNeighbours-in G x v i .0)))
+              ∙ standing-cong (wave (e .old)) (λ v. getD (m .slices .waves) v 0) c (earlierNeighbours G x) (λ v i. sym (stored v (earlierNeighbours-in G x v i .0)))
         ]
 
-    pub working : Working e (lentOf (m .neighbours) (m .degrees) (m .waves) cs (m .trail) (m .moved)) q (progress 0 0 word)
+    pub working : Working e (memoryOf (withCounts (m .slices) cs) (m .trail) (m .moved) (m .tally)) q (progress 0 0)
     working = record {
       edit = edit;
       shown = shows;
       queue = sd .counts .queue;
-      first = sought;
       list = list-cong (e .old) G (e .a) (e .b) (λ x. false) (seed (e .old) G (e .a) (e .b)) (λ x. memb x (take 0 (m .trail))) (waits G q)
           (λ x. sym (memb-none x)) (λ x l. sym (seeds-are x l)) (start (e .old) G (e .a) (e .b) edit);
       wide-waves = omega (arith, sd .counts .wide-waves, banks);
       stored = λ x l. stored x l ∙ ap (λ (b : Bool). cond b (wave G x) (wave (e .old) x)) (sym (memb-none x));
       small = small;
-      wavesBeyond = beyond-same (G .banks) (m .waves) (e .was .waves) (ch .sameWaves);
+      wavesBeyond = beyond-same (G .banks) (m .slices .waves) (e .was .slices .waves) (ch .sameWaves);
       counted = record { wide-counts = sd .counts .wide-counts; cell = cell-is };
       countsBeyond = rw (← (ch .sameCounts)) (sd .counts .beyond);
       wide-trail = rw (ch .sameTrail) (omega (arith, ch .wide-trail, banks));
@@ -154,7 +166,12 @@ module _ {e : Edit} {m : Lent} {before : Degrees} {n clashes : ℕ} (ch : Change
     }
 
   -- nothing waits
-  module _ {ws cs tr mv : List ℕ} {p : Progress} (st : Settled e (lentOf (m .neighbours) (m .degrees) ws cs tr mv) p) where
+  module _ {ws cs tr mv : List ℕ} {p : Progress}
+      (st : Settled e (memoryOf (slicesOf (m .slices .neighbours) (m .slices .degrees) ws cs) tr mv (m .tally)) p) where
+    -- the tally, with k waves
+    abbrev tallied : ℕ → Tally
+    tallied k = record { banks = n; clashes = clashes; waves = k }
+
     pub count-in : n ≤ length ws
     count-in = omega (arith, st .wide-waves, banks)
 
@@ -166,43 +183,81 @@ module _ {e : Edit} {m : Lent} {before : Degrees} {n clashes : ℕ} (ch : Change
     pub few-taken : p .taken ≤ 1024
     few-taken = omega (arith, st .few, ch .rewritten .rowed .few)
 
-    pub outcome : (k : ℕ) → k ≡ mostOf ws n
-        → Outcome (e .kind) (e .old) (new e) (e .a) (e .b) (e .was) (lentOf (m .neighbours) (m .degrees) ws cs tr mv) (record { moved = p .moved; trail = p .taken; tally = record { banks = n; clashes = clashes; waves = k } })
+    tally-is : (k : ℕ) → k ≡ mostOf ws n → tallied k ≡ tallyOf G
     unfolding tallyOf
-    outcome k most =
-        let bridge : trail (e .kind) (e .old) G (e .a) (e .b) ≡ taken (e .old) G (e .a) (e .b) =
-        trail-taken (e .old) (ch .held .rowed .symmetric) (e .a) (e .b) (ch .acceptable .bankA) (ch .acceptable .bankB) (ch .acceptable .differ) (e .kind) (ch .acceptable .allowed) in
-        let same : e .old .banks ≡ G .banks = edit .sameBanks in
+    tally-is k most =
         let number : k ≡ waveCount G = most ∙ ap (mostOf ws) banks ∙ wave-count-is G ws (st .stored) in
-        record {
-          rightNeighbours = rows-over (ch .rewritten .rowed) (rw (← same) (ch .rewritten .rowsBeyond));
-          rightDegrees = degrees-over (ch .rewritten .rowed) (rw (← same) (ch .rewritten .degreesBeyond));
-          rightWaves = st .rightWaves;
-          rightCounts = st .rightCounts;
-          rightTrail = rw bridge (st .rightTrail);
-          rightMoved = st .rightMoved;
-          trailCount = rw bridge (st .trailCount);
-          movedCount = st .movedCount;
-          tally = λ i. record { banks = banks i; clashes = ch .number i; waves = number i };
-          held = record { banks = banks; rowed = ch .rewritten .rowed; wide-waves = count-in; waves = st .stored; counted = st .counted };
-        }
+        λ i. record { banks = banks i; clashes = ch .number i; waves = number i }
+
+    pub outcome : (k : ℕ) → k ≡ mostOf ws n → let t = tallied k in
+        Outcome (e .kind) (e .old) (new e) (e .a) (e .b) (e .was) (memoryOf (slicesOf (m .slices .neighbours) (m .slices .degrees) ws cs) tr mv t)
+        (record { moved = p .moved; trail = p .taken; tally = t })
+    unfolding planIn
+    outcome k most = record {
+      slices = λ i. record { neighbours = rows i; degrees = ds i; waves = st .rightWaves i; counts = st .rightCounts i };
+      tally = tally-is k most;
+      trail = trail-is;
+      moved = st .rightMoved;
+      trailCount = rw bridge (st .trailCount);
+      movedCount = st .movedCount;
+      ready = record { plan = plan k most; trailRoom = trail-room; movedRoom = moved-room };
+    }
+      where
+        same : e .old .banks ≡ G .banks
+        same = edit .sameBanks
+
+        rows : m .slices .neighbours ≡ over (neighbourCells G) (e .was .slices .neighbours)
+        rows = rows-over (ch .rewritten .rowed) (rw (← same) (ch .rewritten .rowsBeyond))
+
+        ds : m .slices .degrees ≡ over (degreeCells G) (e .was .slices .degrees)
+        ds = degrees-over (ch .rewritten .rowed) (rw (← same) (ch .rewritten .degreesBeyond))
+
+        bridge : trail (e .kind) (e .old) G (e .a) (e .b) ≡ taken (e .old) G (e .a) (e .b)
+        bridge =
+            let ac = ch .acceptable in
+            trail-taken (e .old) (ch .held .rowed .symmetric) (e .a) (e .b) (ac .bankA) (ac .bankB) (ac .differ) (e .kind) (ac .allowed)
+
+        trail-is : tr ≡ over (trail (e .kind) (e .old) G (e .a) (e .b)) (e .was .trail)
+        trail-is = rw bridge (st .rightTrail)
+
+        plan : (k : ℕ) → k ≡ mostOf ws n → PlanOf G (slicesOf (m .slices .neighbours) (m .slices .degrees) ws cs) (tallied k)
+        plan k most =
+            plan-of G _ (tallied k) n
+            (record { banks = banks; rowed = ch .rewritten .rowed; wide-waves = count-in; waves = st .stored; counted = st .counted })
+            (tally-is k most)
+
+        trail-room : G .banks ≤ length tr
+        trail-room =
+            let few = trail-few (e .kind) (e .old) G (e .a) (e .b) in
+            omega (arith, banks, ch .wide-trail, over-long _ tr (e .was .trail) (omega (arith, few, banks, ch .wide-trail)) trail-is)
+
+        moved-room : G .banks ≤ length mv
+        moved-room =
+            let few = moved-few (e .old) G in
+            omega (arith, banks, ch .wide-moved, over-long _ mv (e .was .moved) (omega (arith, few, banks, ch .wide-moved)) (st .rightMoved))
 
 -- what was found, and what is to be propagated
-abbrev pub originOf : Kind → Graph → Lent → Origin
-originOf k G m = record { kind = k; graph = G; lent = m }
+abbrev pub originOf : Kind → Graph → Memory → Origin
+originOf k G m = record { kind = k; graph = G; memory = m }
 
-pub changed-from : {k : Kind} {G : Graph} {m : Lent} {t : Tally} {a b : ℕ} {ns ds : List ℕ} {before : Degrees} {clashes : ℕ}
-    → Editable k G m t a b → Rewritten k G a b (m .neighbours) (m .degrees) ns ds before → clashes ≡ clashCount (edited k G a b)
-    → Changed (editAt (originOf k G m) a b) (lentOf ns ds (m .waves) (m .counts) (m .trail) (m .moved)) before (t .banks) clashes
-changed-from ed rewritten number = record {
-  acceptable = ed .acceptable;
-  held = ed .held;
-  rewritten = rewritten;
-  sameWaves = refl;
-  sameCounts = refl;
-  sameTrail = refl;
-  sameMoved = refl;
-  wide-trail = ed .wide-trail;
-  wide-moved = ed .wide-moved;
-  number = number;
-}
+pub rowed-before : {k : Kind} {G : Graph} {m : Memory} {a b : ℕ} → Editable k G m a b → Rowed G (m .slices .neighbours) (m .slices .degrees)
+rowed-before {G = G} {m = m} ed = held-of G (m .slices) (m .tally) (ed .ready .plan) .rowed
+
+pub changed-from : {k : Kind} {G : Graph} {m : Memory} {a b : ℕ} {ns ds : List ℕ} {before : Degrees} {clashes : ℕ}
+    → Editable k G m a b → Rewritten k G a b (m .slices .neighbours) (m .slices .degrees) ns ds before → clashes ≡ clashCount (edited k G a b)
+    → RowsChanged (editAt (originOf k G m) a b) (memoryOf (slicesOf ns ds (m .slices .waves) (m .slices .counts)) (m .trail) (m .moved) (m .tally))
+    before (m .tally .banks) clashes
+changed-from {G = G} {m = m} ed rewritten number =
+    let held = held-of G (m .slices) (m .tally) (ed .ready .plan) in
+    record {
+      acceptable = ed .acceptable;
+      held = held;
+      rewritten = rewritten;
+      sameWaves = refl;
+      sameCounts = refl;
+      sameTrail = refl;
+      sameMoved = refl;
+      wide-trail = omega (arith, held .banks, ed .ready .trailRoom);
+      wide-moved = omega (arith, held .banks, ed .ready .movedRoom);
+      number = number;
+    }

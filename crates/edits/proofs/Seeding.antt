@@ -15,15 +15,16 @@ use Rattle.rule.specs.WorkList.{turned, seed}
 use Rattle.rule.proofs.Booleans.{or-l, or-r, is-true, T-along, eq→eqb, or-false}
 use Rattle.rule.proofs.Neighbours.{memb-neighbours}
 use Rattle.rule.proofs.Spread.{degree-elsewhere}
-use Rattle.memory.specs.Counts.{byCells}
+use Rattle.memory.specs.inner.Counts.{byCells}
+use Rattle.memory.specs.Plan.{Slices}
 use Rattle.memory.proofs.Theorems.{cells-earlier}
-use Rattle.edits.specs.declared.rows.Degrees.{Degrees}
-use Rattle.edits.specs.Queue.{waits}
-use Rattle.edits.specs.Recount.{Recounting, SeedQueued}
-use Rattle.edits.specs.Work.{Edit, new}
-use Rattle.edits.specs.Seeds.{turnedFrom, Search, Turning, Seedable, Seeded}
-use Rattle.edits.proofs.Notices.{memb-none, more-and}
-use Rattle.edits.proofs.Shows.{row-cell, cell-bank, cell-degree, row-memb, whole-row}
+use Rattle.neighbour_rows.specs.declared.clash.Degrees.{Degrees}
+use Rattle.queue.specs.Queue.{waits}
+use Rattle.edits.specs.inner.Recount.{Recounting, SeedQueued, withCounts}
+use Rattle.steps.specs.inner.Work.{Edit, new}
+use Rattle.edits.specs.inner.Seeds.{turnedFrom, Search, Turning, Seedable, Seeded}
+use Rattle.steps.proofs.Notices.{memb-none, more-and}
+use Rattle.steps.proofs.Shows.{cell-inside, cell-bank, cell-degree, row-memb, whole-row}
 
 -- one more that fails the test
 no-and : (s t e : Bool) → (T t → T e → ⊥) → (s && e) ≡ ((s || t) && e)
@@ -32,71 +33,73 @@ no-and false true true h = absurd (h tt tt)
 no-and false true false h = refl
 no-and false false e h = refl
 
-module _ {s : Search} {ns ds ws cs queue : List ℕ} {n y d i : ℕ} (tn : Turning s ns ds ws cs queue n y d i) where
-  y-bank : y < s .graph .banks
+module _ {from : Search} {s : Slices} {queue : List ℕ} {n y d i : ℕ} (tn : Turning from s queue n y d i) where
+  y-bank : y < from .graph .banks
   y-bank = omega (arith, tn .bank, tn .counts .banks)
 
-  pub y-inside : y < length ds
+  pub y-inside : y < length (s .degrees)
   y-inside = omega (arith, y-bank, tn .counts .shown .wide-degrees)
 
-  pub y-small : getD ds y 0 ≤ 23
+  pub y-small : getD (s .degrees) y 0 ≤ 23
   y-small = omega (arith, tn .counts .shown .degrees y y-bank, tn .counts .shown .small y y-bank)
 
-module _ {s : Search} {ns ds ws cs queue : List ℕ} {n y d i : ℕ} (tn : Turning s ns ds ws cs queue n y d i) (lt : i < getD ds y 0) where
+module _ {from : Search} {s : Slices} {queue : List ℕ} {n y d i : ℕ} (tn : Turning from s queue n y d i) (lt : i < getD (s .degrees) y 0) where
   abbrev v : ℕ
-  v = getD ns (y * 23 + i) 0
+  v = getD (s .neighbours) (y * 23 + i) 0
 
-  pub in-row : y * 23 + i < length ns
-  in-row = row-cell (tn .counts .shown) y i (y-bank tn) lt
+  pub in-row : y * 23 + i < length (s .neighbours)
+  in-row = cell-inside (tn .counts .shown) y i (y-bank tn) lt
 
-  pub v-degree : v < length ds
+  pub v-degree : v < length (s .degrees)
   v-degree = cell-degree (tn .counts .shown) y i (y-bank tn) lt
 
   pub v-bank : v < n
   v-bank = omega (arith, cell-bank (tn .counts .shown) y i (y-bank tn) lt, tn .counts .banks)
 
-  next-memb : (x : ℕ) → memb x (take (i + 1) (neighbours (s .graph) y)) ≡ (memb x (take i (neighbours (s .graph) y)) || eqb x v)
+  next-memb : (x : ℕ) → memb x (take (i + 1) (neighbours (from .graph) y)) ≡ (memb x (take i (neighbours (from .graph) y)) || eqb x v)
   next-memb = row-memb (tn .counts .shown) y i (y-bank tn) lt
 
   -- what the two tests say
-  module _ {was is : Bool} (p : was ≡ earlierBy (getD ds v 0) v d y) (r : is ≡ byCells ds v y) where
-    tests : turnedFrom ds d y v ≡ not (Bool·beq was is)
+  module _ {was is : Bool} (p : was ≡ earlierBy (getD (s .degrees) v 0) v d y) (r : is ≡ byCells (s .degrees) v y) where
+    tests : turnedFrom (s .degrees) d y v ≡ not (Bool·beq was is)
     unfolding turnedFrom
     tests = rw (p, r)
 
-    pub not-turned : Bool·beq was is ≡ true → T (turnedFrom ds d y v) → ⊥
+    pub not-turned : Bool·beq was is ≡ true → T (turnedFrom (s .degrees) d y v) → ⊥
     not-turned e u = T-along (tests ∙ ap not e) u
 
-    pub has-turned : Bool·beq was is ≡ false → T (turnedFrom ds d y v)
+    pub has-turned : Bool·beq was is ≡ false → T (turnedFrom (s .degrees) d y v)
     has-turned e = T-along (sym (tests ∙ ap not e)) tt
 
-  pub passed : (T (turnedFrom ds d y v) → ⊥) → Turning s ns ds ws cs queue n y d (i + 1)
+  pub passed : (T (turnedFrom (s .degrees) d y v) → ⊥) → Turning from s queue n y d (i + 1)
   passed kept = record {
     counts = tn .counts;
     bank = tn .bank;
-    members = λ x h. tn .members x h ∙ ap (λ (b : Bool). s .given x || b)
-        (no-and (memb x (take i (neighbours (s .graph) y))) (eqb x v) (turnedFrom ds d y x) (λ u e. kept (rw (eqb→eq x v u) at e))
-        ∙ ap (λ (b : Bool). b && turnedFrom ds d y x) (sym (next-memb x)));
+    members = λ x h. tn .members x h ∙ ap (λ (b : Bool). from .given x || b)
+        (no-and (memb x (take i (neighbours (from .graph) y))) (eqb x v) (turnedFrom (s .degrees) d y x) (λ u e. kept (rw (eqb→eq x v u) at e))
+        ∙ ap (λ (b : Bool). b && turnedFrom (s .degrees) d y x) (sym (next-memb x)));
   }
 
-  pub queued : T (turnedFrom ds d y v) → {cs′ queue′ : List ℕ} → SeedQueued (s .graph) ns ds ws (s .counts) cs′ queue queue′ n v → Turning s ns ds ws cs′ queue′ n y d (i + 1)
+  pub queued : T (turnedFrom (s .degrees) d y v) → {cs′ queue′ : List ℕ}
+      → SeedQueued (from .graph) (withCounts s cs′) (from .counts) queue queue′ n v → Turning from (withCounts s cs′) queue′ n y d (i + 1)
   queued went re = record {
     counts = re .counts;
     bank = tn .bank;
     members = λ x h. re .put .members x (omega (arith, tn .counts .banks)) ∙ ap (λ (b : Bool). b || eqb x v) (tn .members x h)
-        ∙ more-and (s .given x) (memb x (take i (neighbours (s .graph) y))) (eqb x v) (turnedFrom ds d y x) true (λ u. rw (eqb→eq x v u) (sym (is-true _ went)))
-        ∙ ap (λ (b : Bool). s .given x || (b && turnedFrom ds d y x)) (sym (next-memb x));
+        ∙ more-and (from .given x) (memb x (take i (neighbours (from .graph) y))) (eqb x v) (turnedFrom (s .degrees) d y x) true (λ u. rw (eqb→eq x v u) (sym (is-true _ went)))
+        ∙ ap (λ (b : Bool). from .given x || (b && turnedFrom (s .degrees) d y x)) (sym (next-memb x));
   }
 
 -- nothing looked at yet
 abbrev searchOf : Graph → List ℕ → List ℕ → Search
 searchOf G was queue = record { graph = G; counts = was; given = waits G queue }
 
-turn-start : {G : Graph} {ns ds ws was cs queue : List ℕ} {n : ℕ} (y d : ℕ) → Recounting G ns ds ws was cs queue n → y < n → Turning (searchOf G was queue) ns ds ws cs queue n y d 0
-turn-start {G} {ns} {ds} {queue = queue} y d rc bank = record {
+turn-start : {G : Graph} {s : Slices} {was queue : List ℕ} {n : ℕ} (y d : ℕ) → Recounting G s was queue n → y < n
+    → Turning (searchOf G was queue) s queue n y d 0
+turn-start {G} {s} {queue = queue} y d rc bank = record {
   counts = rc;
   bank = bank;
-  members = λ x h. sym (or-false (waits G queue x)) ∙ ap (λ (t : Bool). waits G queue x || (t && turnedFrom ds d y x)) (sym (memb-none x));
+  members = λ x h. sym (or-false (waits G queue x)) ∙ ap (λ (t : Bool). waits G queue x || (t && turnedFrom (s .degrees) d y x)) (sym (memb-none x));
 }
 
 -- the parts of a seed, one by one
@@ -109,32 +112,34 @@ was-earlier : (H : Graph) (dx d x y : ℕ) → dx ≡ degree H x → d ≡ degre
 unfolding earlierBy earlier
 was-earlier H dx d x y e f = cc
 
-module _ {e : Edit} {ns ds ws cs queue : List ℕ} {n : ℕ} {before : Degrees} (sd : Seedable e ns ds ws cs queue n before) where
+module _ {e : Edit} {s : Slices} {queue : List ℕ} {n : ℕ} {before : Degrees} (sd : Seedable e s queue n before) where
   abbrev G : Graph
   G = new e
 
   -- a neighbour of y, which is a or b, that is neither: its order turned as `turned` says
   turned-is : (y d x : ℕ) → y < G .banks → d ≡ degree (e .old) y → x < G .banks → x ≢ e .a → x ≢ e .b
-      → (memb x (take (getD ds y 0) (neighbours G y)) && turnedFrom ds d y x) ≡ turned (e .old) G y x
+      → (memb x (take (getD (s .degrees) y 0) (neighbours G y)) && turnedFrom (s .degrees) d y x) ≡ turned (e .old) G y x
   unfolding turned turnedFrom
   turned-is y d x ly is lx na nb =
-      ap (λ (xs : List ℕ). memb x xs && turnedFrom ds d y x) (whole-row (sd .counts .shown) y ly)
-      ∙ ap (λ (t : Bool). t && turnedFrom ds d y x) (memb-neighbours G y x lx)
-      ∙ ap (λ (t : Bool). G .clash y x && not (Bool·beq t (byCells ds x y))) was
+      ap (λ (xs : List ℕ). memb x xs && turnedFrom (s .degrees) d y x) (whole-row (sd .counts .shown) y ly)
+      ∙ ap (λ (t : Bool). t && turnedFrom (s .degrees) d y x) (memb-neighbours G y x lx)
+      ∙ ap (λ (t : Bool). G .clash y x && not (Bool·beq t (byCells (s .degrees) x y))) was
       ∙ ap (λ (t : Bool). G .clash y x && not (Bool·beq (earlier (e .old) x y) t)) (cells-earlier (sd .counts .shown) x y lx ly)
     where
-      was : earlierBy (getD ds x 0) x d y ≡ earlier (e .old) x y
-      was = was-earlier (e .old) (getD ds x 0) d x y (sd .counts .shown .degrees x lx ∙ sym (degree-elsewhere (e .old) G (e .a) (e .b) (sd .edit) x lx na nb)) is
+      was : earlierBy (getD (s .degrees) x 0) x d y ≡ earlier (e .old) x y
+      was = was-earlier (e .old) (getD (s .degrees) x 0) d x y (sd .counts .shown .degrees x lx ∙ sym (degree-elsewhere (e .old) G (e .a) (e .b) (sd .edit) x lx na nb)) is
 
-  module _ {cs1 q1 cs2 q2 : List ℕ} (one : SeedQueued (new e) ns ds ws cs cs1 queue q1 n (e .a)) (two : SeedQueued (new e) ns ds ws cs cs2 q1 q2 n (e .b)) where
-    pub turn-a : Turning (searchOf (new e) cs q2) ns ds ws cs2 q2 n (e .a) (before .a) 0
+  module _ {cs1 q1 cs2 q2 : List ℕ} (one : SeedQueued (new e) (withCounts s cs1) (s .counts) queue q1 n (e .a))
+      (two : SeedQueued (new e) (withCounts s cs2) (s .counts) q1 q2 n (e .b)) where
+    pub turn-a : Turning (searchOf (new e) (s .counts) q2) (withCounts s cs2) q2 n (e .a) (before .a) 0
     turn-a = turn-start (e .a) (before .a) (two .counts) (sd .bankA)
 
-    module _ {cs3 q3 : List ℕ} (ta : Turning (searchOf (new e) cs q2) ns ds ws cs3 q3 n (e .a) (before .a) (getD ds (e .a) 0)) where
-      pub turn-b : Turning (searchOf (new e) cs q3) ns ds ws cs3 q3 n (e .b) (before .b) 0
+    module _ {cs3 q3 : List ℕ} (ta : Turning (searchOf (new e) (s .counts) q2) (withCounts s cs3) q3 n (e .a) (before .a) (getD (s .degrees) (e .a) 0)) where
+      pub turn-b : Turning (searchOf (new e) (s .counts) q3) (withCounts s cs3) q3 n (e .b) (before .b) 0
       turn-b = turn-start (e .b) (before .b) (ta .counts) (sd .bankB)
 
-      pub seeded : {cs4 q4 : List ℕ} → Turning (searchOf (new e) cs q3) ns ds ws cs4 q4 n (e .b) (before .b) (getD ds (e .b) 0) → Seeded e ns ds ws cs cs4 q4 n
+      pub seeded : {cs4 q4 : List ℕ} → Turning (searchOf (new e) (s .counts) q3) (withCounts s cs4) q4 n (e .b) (before .b) (getD (s .degrees) (e .b) 0)
+          → Seeded e (withCounts s cs4) (s .counts) q4 n
       unfolding seed isNamed
       seeded {cs4} {q4} tb = record {
         counts = tb .counts;
@@ -142,11 +147,13 @@ module _ {e : Edit} {ns ds ws cs queue : List ℕ} {n : ℕ} {before : Degrees} 
             let l : x < G .banks = omega (arith, sd .counts .banks) in
             let la : e .a < G .banks = omega (arith, sd .bankA, sd .counts .banks) in
             let lb : e .b < G .banks = omega (arith, sd .bankB, sd .counts .banks) in
+            let na : (T (eqb x (e .a) || eqb x (e .b)) → ⊥) → x ≢ e .a = λ f k. f (or-l (eqb x (e .a)) (eqb x (e .b)) (eq→eqb x (e .a) k)) in
+            let nb : (T (eqb x (e .a) || eqb x (e .b)) → ⊥) → x ≢ e .b = λ f k. f (or-r (eqb x (e .a)) (eqb x (e .b)) (eq→eqb x (e .b) k)) in
             tb .members x h
-            ∙ ap (λ (t : Bool). t || (memb x (take (getD ds (e .b) 0) (neighbours G (e .b))) && turnedFrom ds (before .b) (e .b) x)) (ta .members x h
-            ∙ ap (λ (t : Bool). t || (memb x (take (getD ds (e .a) 0) (neighbours G (e .a))) && turnedFrom ds (before .a) (e .a) x)) (two .put .members x l
+            ∙ ap (λ (t : Bool). t || (memb x (take (getD (s .degrees) (e .b) 0) (neighbours G (e .b))) && turnedFrom (s .degrees) (before .b) (e .b) x)) (ta .members x h
+            ∙ ap (λ (t : Bool). t || (memb x (take (getD (s .degrees) (e .a) 0) (neighbours G (e .a))) && turnedFrom (s .degrees) (before .a) (e .a) x)) (two .put .members x l
             ∙ ap (λ (t : Bool). t || eqb x (e .b)) (one .put .members x l ∙ ap (λ (t : Bool). t || eqb x (e .a)) (sd .empty x))))
             ∙ seed-parts (eqb x (e .a)) (eqb x (e .b)) _ _ (turned (e .old) G (e .a) x) (turned (e .old) G (e .b) x)
-            (λ f. turned-is (e .a) (before .a) x la (sd .degreeA) l (λ k. f (or-l (eqb x (e .a)) (eqb x (e .b)) (eq→eqb x (e .a) k))) (λ k. f (or-r (eqb x (e .a)) (eqb x (e .b)) (eq→eqb x (e .b) k))))
-            (λ f. turned-is (e .b) (before .b) x lb (sd .degreeB) l (λ k. f (or-l (eqb x (e .a)) (eqb x (e .b)) (eq→eqb x (e .a) k))) (λ k. f (or-r (eqb x (e .a)) (eqb x (e .b)) (eq→eqb x (e .b) k))));
+            (λ f. turned-is (e .a) (before .a) x la (sd .degreeA) l (na f) (nb f))
+            (λ f. turned-is (e .b) (before .b) x lb (sd .degreeB) l (na f) (nb f));
       }

@@ -1,20 +1,19 @@
-// The edits, on memory that holds a plan, where no refusal is due.
-use crate::can_step::Progress;
-use crate::queue::WORDS;
-use crate::queue::next_word;
-use crate::rows::Degrees;
-use crate::rows::insert_clash;
-use crate::rows::remove_clash;
+// The edit, on memory that holds a plan, where no refusal is due.
 use crate::seeds::queue_seeds;
-use crate::settle::settle;
 use memory::Tally;
 use memory::wave_count;
+use neighbour_rows::Degrees;
+use neighbour_rows::change_clash;
+use queue::WORDS;
 use rule::Bank;
+use rule::Kind;
+use steps::Progress;
+use steps::settle;
 ghost use Rattle.rule.specs.Graph.{Graph};
-ghost use Rattle.rule.specs.Reach.{adding, striking};
-ghost use Rattle.edits.specs.Lent.{lentOf};
+ghost use mathlib.Core.Path.{_≡_};
+ghost use Rattle.memory.specs.Lent.{given, before, after};
 ghost use Rattle.edits.specs.Edits.{Editable, Result};
-ghost use Rattle.edits.specs.Change.{Origin, editAt, Changed};
+ghost use Rattle.edits.specs.inner.Change.{Origin, editAt, RowsChanged, NumberFits, numberAfter};
 
 // What an accepted edit answers: how many banks moved, how many were taken up, and the tally after it.
 pub struct Accepted {
@@ -24,7 +23,7 @@ pub struct Accepted {
 }
 
 // Brings waves and Counts up to date, once rows and degrees are, and writes the trail and the moved list. `clashes` is their new number; a and
-// b had the degrees `before`.
+// b had the degrees `old`.
 fn propagate(
     neighbours: &[u16],
     degrees: &[u16],
@@ -36,10 +35,13 @@ fn propagate(
     clashes: u16,
     a: Bank,
     b: Bank,
-    before: Degrees,
+    old: Degrees,
 ) -> Accepted
-    requires { ⌜ ((o : Origin) × Changed (editAt o (a .0) (b .0)) (lentOf (now neighbours) (now degrees) (now waves) (now counts) (now trail) (now moved)) before banks clashes) ⌝ }
-    ensures { λ r. ⌜ ((o : Origin) → Changed (editAt o (a .0) (b .0)) (lentOf (now (neighbours .entry)) (now (degrees .entry)) (now (waves .entry)) (now (counts .entry)) (now (trail .entry)) (now (moved .entry))) before banks clashes → Result (o .kind) (o .graph) (a .0) (b .0) (o .lent) (lentOf (now (neighbours .entry)) (now (degrees .entry)) (now (waves .exit)) (now (counts .exit)) (now (trail .exit)) (now (moved .exit))) r) ⌝ }
+    requires { ⌜ ((o : Origin)
+        × RowsChanged (editAt o (a .0) (b .0)) (given neighbours degrees waves counts trail moved (o .memory .tally)) old banks clashes) ⌝ }
+    ensures { λ r. ⌜ ((o : Origin)
+        → RowsChanged (editAt o (a .0) (b .0)) (before neighbours degrees waves counts trail moved (o .memory .tally)) old banks clashes
+        → Result (o .kind) (o .graph) (a .0) (b .0) (o .memory) (after neighbours degrees waves counts trail moved (r .tally)) r) ⌝ }
 {
     let mut queue = [0u64; WORDS];
     queue_seeds(
@@ -51,14 +53,9 @@ fn propagate(
         banks,
         a,
         b,
-        before,
+        old,
     );
-    let first = next_word(&queue, 0);
-    let start = Progress {
-        taken: 0,
-        moved: 0,
-        word: first,
-    };
+    let start = Progress { taken: 0, moved: 0 };
     let done = settle(
         neighbours,
         degrees,
@@ -82,41 +79,20 @@ fn propagate(
     }
 }
 
-// Adds the clash of a and b.
-pub fn add_edit(
-    neighbours: &mut [u16],
-    degrees: &mut [u16],
-    waves: &mut [u16],
-    counts: &mut [u16],
-    trail: &mut [u16],
-    moved: &mut [u16],
-    tally: Tally,
-    a: Bank,
-    b: Bank,
-) -> Accepted
-    requires { ⌜ ((G : Graph) × Editable adding G (lentOf (now neighbours) (now degrees) (now waves) (now counts) (now trail) (now moved)) tally (a .0) (b .0)) ⌝ }
-    ensures { λ r. ⌜ ((G : Graph) → Editable adding G (lentOf (now (neighbours .entry)) (now (degrees .entry)) (now (waves .entry)) (now (counts .entry)) (now (trail .entry)) (now (moved .entry))) tally (a .0) (b .0) → Result adding G (a .0) (b .0) (lentOf (now (neighbours .entry)) (now (degrees .entry)) (now (waves .entry)) (now (counts .entry)) (now (trail .entry)) (now (moved .entry))) (lentOf (now (neighbours .exit)) (now (degrees .exit)) (now (waves .exit)) (now (counts .exit)) (now (trail .exit)) (now (moved .exit))) r) ⌝ }
+// The number of clashes after an edit, of that before it.
+fn count_after(kind: Kind, clashes: u16) -> u16
+    requires { ⌜ NumberFits kind clashes ⌝ }
+    ensures { λ r. ⌜ r ≡ numberAfter kind clashes ⌝ }
 {
-    let banks = tally.banks;
-    let clashes = tally.clashes + 1;
-    let before = insert_clash(neighbours, degrees, a, b);
-    propagate(
-        neighbours,
-        degrees,
-        waves,
-        counts,
-        trail,
-        moved,
-        banks,
-        clashes,
-        a,
-        b,
-        before,
-    )
+    match kind {
+        Kind::Adding => clashes + 1,
+        Kind::Striking => clashes - 1,
+    }
 }
 
-// Strikes the clash of a and b.
-pub fn strike_edit(
+// Adds or strikes the clash of a and b.
+pub fn make_edit(
+    kind: Kind,
     neighbours: &mut [u16],
     degrees: &mut [u16],
     waves: &mut [u16],
@@ -127,12 +103,15 @@ pub fn strike_edit(
     a: Bank,
     b: Bank,
 ) -> Accepted
-    requires { ⌜ ((G : Graph) × Editable striking G (lentOf (now neighbours) (now degrees) (now waves) (now counts) (now trail) (now moved)) tally (a .0) (b .0)) ⌝ }
-    ensures { λ r. ⌜ ((G : Graph) → Editable striking G (lentOf (now (neighbours .entry)) (now (degrees .entry)) (now (waves .entry)) (now (counts .entry)) (now (trail .entry)) (now (moved .entry))) tally (a .0) (b .0) → Result striking G (a .0) (b .0) (lentOf (now (neighbours .entry)) (now (degrees .entry)) (now (waves .entry)) (now (counts .entry)) (now (trail .entry)) (now (moved .entry))) (lentOf (now (neighbours .exit)) (now (degrees .exit)) (now (waves .exit)) (now (counts .exit)) (now (trail .exit)) (now (moved .exit))) r) ⌝ }
+    requires { ⌜ ((G : Graph) × Editable kind G (given neighbours degrees waves counts trail moved tally) (a .0) (b .0)) ⌝ }
+    ensures { λ r. ⌜ ((G : Graph)
+        → Editable kind G (before neighbours degrees waves counts trail moved tally) (a .0) (b .0)
+        → Result kind G (a .0) (b .0) (before neighbours degrees waves counts trail moved tally)
+        (after neighbours degrees waves counts trail moved (r .tally)) r) ⌝ }
 {
     let banks = tally.banks;
-    let clashes = tally.clashes - 1;
-    let before = remove_clash(neighbours, degrees, a, b);
+    let clashes = count_after(kind, tally.clashes);
+    let old = change_clash(kind, neighbours, degrees, a, b);
     propagate(
         neighbours,
         degrees,
@@ -144,6 +123,6 @@ pub fn strike_edit(
         clashes,
         a,
         b,
-        before,
+        old,
     )
 }

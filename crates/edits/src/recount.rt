@@ -4,9 +4,8 @@ use rule::Bank;
 use rule::COUNT_CELLS;
 ghost use Prim.Native.Nat.{_+_, _*_, _≤_};
 ghost use lib.ListN.{length};
-ghost use Rattle.memory.specs.Counts.{Countable};
-ghost use Rattle.memory.specs.Test.{countsOf};
-ghost use Rattle.edits.specs.Recount.{Recounted};
+ghost use Rattle.memory.specs.inner.Counts.{Countable};
+ghost use Rattle.edits.specs.inner.Recount.{Recounts};
 
 // Counts anew for bank b.
 pub fn recount_one(
@@ -19,7 +18,7 @@ pub fn recount_one(
 )
     requires { ⌜ Countable (now neighbours) (now degrees) (now waves) banks (b .0) ⌝ }
     requires { ⌜ b .0 * 24 + 24 ≤ length (now counts) ⌝ }
-    ensures { λ _. ⌜ Recounted (now (counts .entry)) (now (counts .exit)) (b .0) (countsOf (now (neighbours .entry)) (now (degrees .entry)) (now (waves .entry)) (b .0)) ⌝ }
+    ensures { λ _. ⌜ Recounts neighbours degrees waves counts (b .0) ⌝ }
 {
     let at = b.0 as usize;
     let start = at * COUNT_CELLS;

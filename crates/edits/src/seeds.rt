@@ -1,10 +1,10 @@
 // The seeds of an edit (000, lemmas 4.2 and 4.3): its two banks, and each neighbour whose order towards one of them turned over. Their earlier
 // neighbours may differ, so Counts of each are counted anew.
-use crate::queue::WORDS;
-use crate::queue::enqueue;
 use crate::recount::recount_one;
-use crate::rows::Degrees;
 use memory::is_earlier;
+use neighbour_rows::Degrees;
+use queue::WORDS;
+use queue::enqueue;
 use rule::Bank;
 use rule::ROW_CELLS;
 use rule::earlier;
@@ -12,9 +12,10 @@ ghost use mathlib.Core.List.{List};
 ghost use Prim.Native.Nat.{ℕ, _+_, _<_};
 ghost use lib.ListN.{getD};
 ghost use Rattle.rule.specs.Graph.{Graph};
-ghost use Rattle.edits.specs.Recount.{Recounting, SeedQueued};
-ghost use Rattle.edits.specs.Seeds.{Search, Turning, Seedable, Seeded};
-ghost use Rattle.edits.specs.Change.{Origin, editAt};
+ghost use Rattle.memory.specs.Lent.{slicesGiven, slicesBefore, slicesAfter};
+ghost use Rattle.edits.specs.inner.Recount.{Recounting, SeedQueued};
+ghost use Rattle.edits.specs.inner.Seeds.{Search, Turning, Seedable, Seeded};
+ghost use Rattle.edits.specs.inner.Change.{Origin, editAt};
 
 // Counts anew for v, and queues it.
 fn queue_seed(
@@ -26,9 +27,12 @@ fn queue_seed(
     banks: u16,
     v: Bank,
 )
-    requires { ⌜ ((G : Graph) × (was : List ℕ) × Recounting G (now neighbours) (now degrees) (now waves) was (now counts) (now queue) banks) ⌝ }
+    requires { ⌜ ((G : Graph) × (was : List ℕ)
+        × Recounting G (slicesGiven neighbours degrees waves counts) was (now queue) banks) ⌝ }
     requires { ⌜ v .0 < banks ⌝ }
-    ensures { λ _. ⌜ ((G : Graph) → (was : List ℕ) → Recounting G (now (neighbours .entry)) (now (degrees .entry)) (now (waves .entry)) was (now (counts .entry)) (now (queue .entry)) banks → SeedQueued G (now (neighbours .entry)) (now (degrees .entry)) (now (waves .entry)) was (now (counts .exit)) (now (queue .entry)) (now (queue .exit)) banks (v .0)) ⌝ }
+    ensures { λ _. ⌜ ((G : Graph) → (was : List ℕ)
+        → Recounting G (slicesBefore neighbours degrees waves counts) was (now (queue .entry)) banks
+        → SeedQueued G (slicesAfter neighbours degrees waves counts) was (now (queue .entry)) (now (queue .exit)) banks (v .0)) ⌝ }
 {
     recount_one(neighbours, degrees, waves, counts, banks, v);
     enqueue(degrees, queue, v, true);
@@ -46,9 +50,11 @@ fn queue_turned_one(
     old: u16,
     i: usize,
 )
-    requires { ⌜ ((s : Search) × Turning s (now neighbours) (now degrees) (now waves) (now counts) (now queue) banks (b .0) old i) ⌝ }
+    requires { ⌜ ((s : Search) × Turning s (slicesGiven neighbours degrees waves counts) (now queue) banks (b .0) old i) ⌝ }
     requires { ⌜ i < getD (now degrees) (b .0) 0 ⌝ }
-    ensures { λ _. ⌜ ((s : Search) → Turning s (now (neighbours .entry)) (now (degrees .entry)) (now (waves .entry)) (now (counts .entry)) (now (queue .entry)) banks (b .0) old i → Turning s (now (neighbours .entry)) (now (degrees .entry)) (now (waves .entry)) (now (counts .exit)) (now (queue .exit)) banks (b .0) old (i + 1)) ⌝ }
+    ensures { λ _. ⌜ ((s : Search)
+        → Turning s (slicesBefore neighbours degrees waves counts) (now (queue .entry)) banks (b .0) old i
+        → Turning s (slicesAfter neighbours degrees waves counts) (now (queue .exit)) banks (b .0) old (i + 1)) ⌝ }
 {
     let at = b.0 as usize;
     let v = Bank(neighbours[at * ROW_CELLS + i]);
@@ -72,8 +78,11 @@ fn queue_turned(
     b: Bank,
     old: u16,
 )
-    requires { ⌜ ((s : Search) × Turning s (now neighbours) (now degrees) (now waves) (now counts) (now queue) banks (b .0) old 0) ⌝ }
-    ensures { λ _. ⌜ ((s : Search) → Turning s (now (neighbours .entry)) (now (degrees .entry)) (now (waves .entry)) (now (counts .entry)) (now (queue .entry)) banks (b .0) old 0 → Turning s (now (neighbours .entry)) (now (degrees .entry)) (now (waves .entry)) (now (counts .exit)) (now (queue .exit)) banks (b .0) old (getD (now (degrees .entry)) (b .0) 0)) ⌝ }
+    requires { ⌜ ((s : Search) × Turning s (slicesGiven neighbours degrees waves counts) (now queue) banks (b .0) old 0) ⌝ }
+    ensures { λ _. ⌜ ((s : Search)
+        → Turning s (slicesBefore neighbours degrees waves counts) (now (queue .entry)) banks (b .0) old 0
+        → Turning s (slicesAfter neighbours degrees waves counts) (now (queue .exit)) banks (b .0) old
+        (getD (now (degrees .entry)) (b .0) 0)) ⌝ }
 {
     let at = b.0 as usize;
     let degree = degrees[at] as usize;
@@ -96,8 +105,11 @@ pub fn queue_seeds(
     b: Bank,
     before: Degrees,
 )
-    requires { ⌜ ((o : Origin) × Seedable (editAt o (a .0) (b .0)) (now neighbours) (now degrees) (now waves) (now counts) (now queue) banks before) ⌝ }
-    ensures { λ _. ⌜ ((o : Origin) → Seedable (editAt o (a .0) (b .0)) (now (neighbours .entry)) (now (degrees .entry)) (now (waves .entry)) (now (counts .entry)) (now (queue .entry)) banks before → Seeded (editAt o (a .0) (b .0)) (now (neighbours .entry)) (now (degrees .entry)) (now (waves .entry)) (now (counts .entry)) (now (counts .exit)) (now (queue .exit)) banks) ⌝ }
+    requires { ⌜ ((o : Origin)
+        × Seedable (editAt o (a .0) (b .0)) (slicesGiven neighbours degrees waves counts) (now queue) banks before) ⌝ }
+    ensures { λ _. ⌜ ((o : Origin)
+        → Seedable (editAt o (a .0) (b .0)) (slicesBefore neighbours degrees waves counts) (now (queue .entry)) banks before
+        → Seeded (editAt o (a .0) (b .0)) (slicesAfter neighbours degrees waves counts) (now (counts .entry)) (now (queue .exit)) banks) ⌝ }
 {
     let old_a = before.a;
     let old_b = before.b;

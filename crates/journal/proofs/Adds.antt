@@ -1,5 +1,5 @@
 -- The clashes of a plan as adds, bank by bank, and their bytes.
-use mathlib.Core.List.{List, [], _∷_, _++_, map, append-nil}
+use mathlib.Core.List.{List, [], _∷_, _++_, map, append-nil, map-append}
 use mathlib.Core.Path.{_≡_, refl, sym, ap, _∙_}
 use Prim.Native.Nat.{ℕ, zero, suc, _+_, _-_, _≤_, _<_}
 use native.Mathlib.Numerals.{add-one}
@@ -10,26 +10,26 @@ use lib.Seq.{take-suc}
 use borrow.Author.Tests.{lt-ltb, le-ltb}
 use Rattle.rule.specs.Lists.{filter}
 use Rattle.rule.specs.Graph.{Graph, neighbours, degree}
+use Rattle.rule.specs.declared.Kind.the-variants.{Adding}
+use Rattle.rule.proofs.Lists.{filter-append}
 use Rattle.memory.specs.declared.Tally.{Tally}
 use Rattle.memory.specs.Plan.{Slices, PlanOf}
 use Rattle.memory.proofs.Views.{tally-banks}
-use Rattle.list_rows.specs.Rows.{bank}
-use Rattle.sheet_writer.proofs.Lists.{filter-append, map-append}
-use Rattle.journal_fields.specs.declared.field.Entry.the-variants.{Add}
+use Rattle.journal_fields.specs.declared.field.Entry.{Entry}
 use Rattle.journal_fields.specs.Fields.{entryBytes, entriesBytes}
 use Rattle.journal_fields.proofs.Entries.{entries-append}
-use Rattle.journal.specs.Calls.{addsOf, addsBelow}
+use Rattle.journal.specs.Calls.{entryFor, addsOf, addsBelow}
 
 -- one bank after others
 pub adds-append : (a : ℕ) (xs ys : List ℕ) → addsOf a (xs ++ ys) ≡ addsOf a xs ++ addsOf a ys
 unfolding addsOf
-adds-append a xs ys = ap (map (λ (b : ℕ). Add (bank a) (bank b))) (filter-append (ltb a) xs ys) ∙ map-append (λ (b : ℕ). Add (bank a) (bank b)) (filter (ltb a) xs) (filter (ltb a) ys)
+adds-append a xs ys = ap (map (entryFor Adding a)) (filter-append (ltb a) xs ys) ∙ map-append (entryFor Adding a) (filter (ltb a) xs) (filter (ltb a) ys)
 
 pub adds-smaller : (a b : ℕ) → b ≤ a → addsOf a (b ∷ []) ≡ []
 unfolding addsOf filter
 adds-smaller a b h = rw (le-ltb a b h)
 
-pub adds-larger : (a b : ℕ) → a < b → addsOf a (b ∷ []) ≡ Add (bank a) (bank b) ∷ []
+pub adds-larger : (a b : ℕ) → a < b → addsOf a (b ∷ []) ≡ entryFor Adding a b ∷ []
 unfolding addsOf filter
 adds-larger a b h = rw (lt-ltb a b h)
 
@@ -47,9 +47,9 @@ pub bytes-smaller : (a b : ℕ) → b ≤ a → entriesBytes (addsOf a (b ∷ []
 unfolding entriesBytes
 bytes-smaller a b h = ap entriesBytes (adds-smaller a b h)
 
-pub bytes-larger : (a b : ℕ) → a < b → entriesBytes (addsOf a (b ∷ [])) ≡ entryBytes (Add (bank a) (bank b))
+pub bytes-larger : (a b : ℕ) → a < b → entriesBytes (addsOf a (b ∷ [])) ≡ entryBytes (entryFor Adding a b)
 unfolding entriesBytes
-bytes-larger a b h = ap entriesBytes (adds-larger a b h) ∙ append-nil (entryBytes (Add (bank a) (bank b)))
+bytes-larger a b h = ap entriesBytes (adds-larger a b h) ∙ append-nil (entryBytes (entryFor Adding a b))
 
 pub bytes-none : (a : ℕ) → entriesBytes (addsOf a []) ≡ []
 unfolding entriesBytes
@@ -61,9 +61,17 @@ module _ (a : ℕ) (row : List ℕ) (i : ℕ) (h : i < length row) where
 
   pub bytes-room : length (entriesBytes (addsOf a (take i row))) + length (entriesBytes (addsOf a (getD row i 0 ∷ []))) ≤ length (entriesBytes (addsOf a row))
   bytes-room =
+      let front : List ℕ = take (i + 1) row in
+      let back : List ℕ = drop (i + 1) row in
       let all = ap (λ (l : List ℕ). entriesBytes (addsOf a l)) (sym (take-append-drop (i + 1) row)) in
-      let cut = ap entriesBytes (adds-append a (take (i + 1) row) (drop (i + 1) row)) ∙ entries-append (addsOf a (take (i + 1) row)) (addsOf a (drop (i + 1) row)) in
-      omega (arith, ap length (all ∙ cut), length-append (entriesBytes (addsOf a (take (i + 1) row))) (entriesBytes (addsOf a (drop (i + 1) row))), ap length bytes-next, length-append (entriesBytes (addsOf a (take i row))) (entriesBytes (addsOf a (getD row i 0 ∷ []))))
+      let cut = ap entriesBytes (adds-append a front back) ∙ entries-append (addsOf a front) (addsOf a back) in
+      omega (
+        arith,
+        ap length (all ∙ cut),
+        length-append (entriesBytes (addsOf a front)) (entriesBytes (addsOf a back)),
+        ap length bytes-next,
+        length-append (entriesBytes (addsOf a (take i row))) (entriesBytes (addsOf a (getD row i 0 ∷ []))),
+      )
 
 -- of all banks below k
 module _ (G : Graph) where
@@ -84,12 +92,25 @@ module _ (G : Graph) where
   below-more a zero = let e : 0 + a ≡ a = omega arith in omega (arith, ap (λ (k : ℕ). length (entriesBytes (addsBelow G k))) e)
   below-more a (suc d) =
       let e : suc d + a ≡ suc (d + a) = omega arith in
-      omega (arith, below-more a d, ap (λ (k : ℕ). length (entriesBytes (addsBelow G k))) e, ap length (entries-append (addsBelow G (d + a)) (addsOf (d + a) (neighbours G (d + a)))), length-append (entriesBytes (addsBelow G (d + a))) (entriesBytes (addsOf (d + a) (neighbours G (d + a)))))
+      let more : List Entry = addsOf (d + a) (neighbours G (d + a)) in
+      omega (
+        arith,
+        below-more a d,
+        ap (λ (k : ℕ). length (entriesBytes (addsBelow G k))) e,
+        ap length (entries-append (addsBelow G (d + a)) more),
+        length-append (entriesBytes (addsBelow G (d + a))) (entriesBytes more),
+      )
 
   pub below-room : (a n : ℕ) → a < n → length (entriesBytes (addsBelow G a)) + length (entriesBytes (addsOf a (neighbours G a))) ≤ length (entriesBytes (addsBelow G n))
   below-room a n h =
       let e : n - (a + 1) + (a + 1) ≡ n = omega arith in
-      omega (arith, ap length (below-bytes a), length-append (entriesBytes (addsBelow G a)) (entriesBytes (addsOf a (neighbours G a))), below-more (a + 1) (n - (a + 1)), ap (λ (k : ℕ). length (entriesBytes (addsBelow G k))) e)
+      omega (
+        arith,
+        ap length (below-bytes a),
+        length-append (entriesBytes (addsBelow G a)) (entriesBytes (addsOf a (neighbours G a))),
+        below-more (a + 1) (n - (a + 1)),
+        ap (λ (k : ℕ). length (entriesBytes (addsBelow G k))) e,
+      )
 
   pub below-count : (a : ℕ) → length (addsBelow G (a + 1)) ≡ length (addsBelow G a) + length (addsOf a (neighbours G a))
   below-count a = ap length (below-next a) ∙ length-append (addsBelow G a) (addsOf a (neighbours G a))
@@ -101,6 +122,11 @@ module _ (G : Graph) (s : Slices) (t : Tally) (p : PlanOf G s t) where
 
   pub plan-few : t .banks ≤ 1024
   plan-few = omega (arith, plan-banks, p .clashes .most)
+
+  -- a row that names the clashes of a has room for its adds
+  pub row-room : (a : ℕ) → a < t .banks → (row : List ℕ) → row ≡ neighbours G a
+      → length (entriesBytes (addsBelow G a)) + length (entriesBytes (addsOf a row)) ≤ length (entriesBytes (addsBelow G (G .banks)))
+  row-room a h row e = rw e (below-room G a (G .banks) (omega (arith, plan-banks)))
 
   pub row-few : (a : ℕ) → a < t .banks → length (neighbours G a) ≤ 23
   unfolding degree

@@ -8,27 +8,27 @@ use native.Mathlib.Omega.{arith}
 use lib.Dec.{T, ltb, eqb, eqb→eq, ltb→lt, lt→ltb}
 use borrow.Author.Tests.{lt-ltb, le-ltb}
 use Rattle.rule.specs.Lists.{upto, filter, some, memb, Once}
-use Rattle.rule.specs.Graph.{Graph, neighbours, degree, empty, pair, added}
-use Rattle.rule.specs.Reach.{adding, edited}
+use Rattle.rule.specs.Graph.{Graph, neighbours, degree, empty, pair, added, Same}
+use Rattle.rule.specs.Reach.{edited}
+use Rattle.rule.specs.declared.Kind.the-variants.{Adding}
 use Rattle.rule.proofs.Booleans.{and-l, and-r, both, or-l, or-r, or-cases, or-false, and-true, and-false, T-along, test-ext, is-false, lt-or-ge}
 use Rattle.rule.proofs.Lists.{in-head, in-tail, in-upto, in-filter, filter-in, upto-below, count-lt, some-in, in-some}
 use Rattle.rule.proofs.Neighbours.{neighbours-in, in-neighbours, neighbours-sorted}
 use Rattle.rule.proofs.OneClash.{pair-a}
 use Rattle.rule.proofs.Order.{ltb-strict}
 use Rattle.rule.proofs.Pairs.{pair-is, pair-here, pair-there}
-use Rattle.rule.proofs.Reaches.{sorted-once, Same}
+use Rattle.rule.proofs.Reaches.{sorted-once}
 use Rattle.rule.proofs.Sorting.{sorted-filter}
 use Rattle.memory.specs.Plan.{Clashes}
 use Rattle.planner.specs.Calls.{editNumber}
-use Rattle.planner.proofs.Numbers.{add-fine}
+use Rattle.planner.proofs.Numbers.{two-banks, add-fine}
 use Rattle.planner.proofs.Outcomes.{acceptable}
 use Rattle.planner.proofs.After.{pair-clash, clashes-edited}
-use Rattle.list_rows.specs.Rows.{bank}
 use Rattle.journal_fields.specs.declared.field.Entry.{Entry}
-use Rattle.journal_fields.specs.declared.field.Entry.the-variants.{Add}
-use Rattle.journal.specs.Calls.{addsOf, addsBelow}
+use Rattle.journal.specs.Calls.{entryFor, addsOf, addsBelow}
+use Rattle.journal_replay.specs.Ends.{afterEntries}
 use Rattle.journal_replay.specs.Replay.{entryNumber}
-use Rattle.journal.proofs.Turns.{entryGraph, graphAfter, NoneRefused, after-append, none-append, no-clashes}
+use Rattle.journal.proofs.Turns.{NoneRefused, after-append, none-append, no-clashes}
 
 -- one of a pair with a is a
 pair-near : (a b x y : ℕ) → T (pair a b x y) → T (ltb x (suc a) || ltb y (suc a))
@@ -40,19 +40,19 @@ pair-near a b x y t =
 
 -- the adds of a with each of these banks
 abbrev adds : ℕ → List ℕ → List Entry
-adds a bs = map (λ b. Add (bank a) (bank b)) bs
+adds a bs = map (entryFor Adding a) bs
 
 -- the clashes after them
-adds-clash : (a : ℕ) (bs : List ℕ) (H : Graph) (x y : ℕ) → graphAfter (adds a bs) H .clash x y ≡ (H .clash x y || some (λ b. pair a b x y) bs)
-unfolding graphAfter entryGraph edited some
+adds-clash : (a : ℕ) (bs : List ℕ) (H : Graph) (x y : ℕ) → afterEntries (adds a bs) H .clash x y ≡ (H .clash x y || some (λ b. pair a b x y) bs)
+unfolding afterEntries edited some
 adds-clash a [] H x y = sym (or-false (H .clash x y))
 adds-clash a (b ∷ bs) H x y = adds-clash a bs (added H a b) x y ∙ or-assoc (H .clash x y) (pair a b x y) (some (λ b. pair a b x y) bs)
 
 -- one of two numbers is at most a: one is below a, or one is a and the other no less
 data Near (a x y : ℕ) : Type 0 where
   below : T (ltb x a || ltb y a) → Near a x y
-  left : x ≡ a → a ≤ y → Near a x y
-  right : y ≡ a → a ≤ x → Near a x y
+  first : x ≡ a → a ≤ y → Near a x y
+  second : y ≡ a → a ≤ x → Near a x y
 
 near : (a x y : ℕ) → T (ltb x (suc a) || ltb y (suc a)) → Near a x y
 near a x y t = by (lt-or-ge x a) (lt-or-ge y a)
@@ -62,8 +62,8 @@ near a x y t = by (lt-or-ge x a) (lt-or-ge y a)
     by (inr h) (inl k) = below (or-r (ltb x a) (ltb y a) (lt→ltb y a k))
     by (inr h) (inr k) =
         elim (or-cases (ltb x (suc a)) (ltb y (suc a)) t) [
-          | inl u ↦ left (omega (arith, ltb→lt x (suc a) u)) k
-          | inr u ↦ right (omega (arith, ltb→lt y (suc a) u)) h
+          | inl u ↦ first (omega (arith, ltb→lt x (suc a) u)) k
+          | inr u ↦ second (omega (arith, ltb→lt y (suc a) u)) h
         ]
 
 -- below a is below a + 1
@@ -94,19 +94,20 @@ module _ (G : Graph) (c : Clashes G) where
     differ : a ≢ b
     differ e = c .apart a ha (subst (λ (x : ℕ). T (G .clash a x)) (sym e) g)
 
-    add-due : editNumber adding H a b ≡ 0
+    add-due : editNumber Adding H a b ≡ 0
     add-due =
         let ka : a < H .banks = omega (arith, p .banks) in
         let kb : b < H .banks = omega (arith, p .banks) in
         let g′ : T (G .clash b a) = T-along (c .symmetric a b ha hb) g in
         let f′ : T (H .clash b a) → ⊥ = λ t. f (T-along (p .clashes .symmetric b a kb ka) t) in
-        add-fine H a b ka kb differ (is-false (H .clash a b) f)
-        (omega (arith, part-degree H p a b ha hb g f, c .few a ha)) (omega (arith, part-degree H p b a hb ha g′ f′, c .few b hb))
+        two-banks H a b ka kb Adding differ
+        ∙ rw (is-false (H .clash a b) f) (add-fine (degree H a) (degree H b)
+        (omega (arith, part-degree H p a b ha hb g f, c .few a ha)) (omega (arith, part-degree H p b a hb ha g′ f′, c .few b hb)))
 
     part-added : Part (added H a b)
     part-added = record {
       banks = p .banks;
-      clashes = unfold edited in clashes-edited H a b (p .clashes) adding (acceptable H a b adding add-due);
+      clashes = unfold edited in clashes-edited H a b (p .clashes) Adding (acceptable H a b Adding add-due);
       within = λ x y hx hy t. elim (or-cases (H .clash x y) (pair a b x y) t) [
         | inl u ↦ p .within x y hx hy u
         | inr u ↦ T-along (sym (pair-clash G a b c ha hb x y u)) g
@@ -117,8 +118,8 @@ module _ (G : Graph) (c : Clashes G) where
   abbrev Missing : ℕ → List ℕ → Graph → Type 0
   Missing a bs H = (b : ℕ) → T (memb b bs) → (b < n) × T (G .clash a b) × (T (H .clash a b) → ⊥)
 
-  adds-fine : (a : ℕ) → a < n → (bs : List ℕ) (H : Graph) → Part H → Once bs → Missing a bs H → NoneRefused (adds a bs) H × Part (graphAfter (adds a bs) H)
-  unfolding graphAfter entryGraph entryNumber edited
+  adds-fine : (a : ℕ) → a < n → (bs : List ℕ) (H : Graph) → Part H → Once bs → Missing a bs H → NoneRefused (adds a bs) H × Part (afterEntries (adds a bs) H)
+  unfolding afterEntries entryNumber edited
   adds-fine a ha [] H p o w = (tt, p)
   adds-fine a ha (b ∷ bs) H p o w =
       let u = w b (in-head b b bs refl) in
@@ -164,7 +165,7 @@ module _ (G : Graph) (c : Clashes G) where
         )
 
     abbrev H′ : Graph
-    H′ = graphAfter (adds a (larger a)) H
+    H′ = afterEntries (adds a (larger a)) H
 
     abbrev new : ℕ → ℕ → Bool
     new x y = some (λ b. pair a b x y) (larger a)
@@ -191,8 +192,8 @@ module _ (G : Graph) (c : Clashes G) where
 
       fro : T (G .clash x y) → Near a x y → T (H .clash x y || new x y)
       fro g (below t) = or-l (H .clash x y) (new x y) (T-along (sym (l x y hx hy)) (both (G .clash x y) (ltb x a || ltb y a) g t))
-      fro g (left e h) = by-new y hy (rw e at g) h (rw e (pair-here a y))
-      fro g (right e h) = by-new x hx (T-along (c .symmetric x a hx ha) (rw e at g)) h (rw e (pair-there a x))
+      fro g (first e h) = by-new y hy (rw e at g) h (rw e (pair-here a y))
+      fro g (second e h) = by-new x hx (T-along (c .symmetric x a hx ha) (rw e at g)) h (rw e (pair-there a x))
 
     listed-next : Listed (suc a) H′
     listed-next x y hx hy =
@@ -203,11 +204,11 @@ module _ (G : Graph) (c : Clashes G) where
   -- the adds of all banks below k
   record Below (k : ℕ) : Type 0 where
     none : NoneRefused (addsBelow G k) (empty n)
-    part : Part (graphAfter (addsBelow G k) (empty n))
-    listed : Listed k (graphAfter (addsBelow G k) (empty n))
+    part : Part (afterEntries (addsBelow G k) (empty n))
+    listed : Listed k (afterEntries (addsBelow G k) (empty n))
 
   adds-below : (k : ℕ) → k ≤ n → Below k
-  unfolding addsBelow addsOf graphAfter
+  unfolding addsBelow addsOf afterEntries
   adds-below zero h = record {
     none = tt;
     part = record { banks = refl; clashes = no-clashes n (c .most); within = λ x y hx hy t. absurd t };
@@ -215,7 +216,7 @@ module _ (G : Graph) (c : Clashes G) where
   }
   adds-below (suc a) h =
       let b = adds-below a (omega arith) in
-      let H = graphAfter (addsBelow G a) (empty n) in
+      let H = afterEntries (addsBelow G a) (empty n) in
       let once = sorted-once ltb (ltb-strict .irrefl) (larger a) (sorted-filter ltb (ltb a) (neighbours G a) (neighbours-sorted G a)) in
       let r = adds-fine a h (larger a) H (b .part) once (not-yet a h H (b .listed)) in
       let e = after-append (addsBelow G a) (adds a (larger a)) (empty n) in
@@ -229,7 +230,7 @@ module _ (G : Graph) (c : Clashes G) where
   pub adds-none : NoneRefused (addsBelow G n) (empty n)
   adds-none = adds-below n (omega arith) .none
 
-  pub adds-same : Same (graphAfter (addsBelow G n) (empty n)) G
+  pub adds-same : Same (afterEntries (addsBelow G n) (empty n)) G
   adds-same =
       let b = adds-below n (omega arith) in
       record {

@@ -4,7 +4,7 @@ pub mod Starting
 pub mod Recording
 pub mod Turns
 pub mod AddsInTurn
-pub mod Present
+pub mod Presents
 pub mod NewJournals
 pub mod RecordedEdits
 pub mod Theorems

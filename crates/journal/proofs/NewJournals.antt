@@ -10,16 +10,19 @@ use Rattle.rule.specs.Graph.{Graph}
 use Rattle.memory.specs.declared.Tally.{Tally}
 use Rattle.memory.specs.Cells.{over}
 use Rattle.memory.specs.Plan.{Slices, graphIn, Clashes, PlanOf}
-use Rattle.planner.specs.Calls.{Memory, allLong, planNumber}
+use Rattle.memory.specs.Memory.{Memory}
+use Rattle.planner.specs.Calls.{allLong, planNumber}
 use Rattle.planner.proofs.Numbers.{number-plan}
 use Rattle.journal.specs.Calls.{addsBelow, startBytes, startNumber, startBy, started}
 use Rattle.journal_fields.specs.Numbers.{spaceNumber}
 use Rattle.journal_replay.specs.Replay.{replayed}
 use Rattle.journal_fields.proofs.Numbers.{first-zero, space-room}
-use Rattle.journal_replay.proofs.Replaying.{begin-fine, journal-reads}
+use Rattle.planner.proofs.Made.{begin-fine}
+use Rattle.journal_replay.proofs.Replaying.{journal-reads}
 use Rattle.journal.proofs.Turns.{Ends}
 use Rattle.journal.proofs.AddsInTurn.{adds-none, adds-same}
-use Rattle.journal.proofs.Present.{ReplaysTo, reads-ends, ends-same, ends-replay}
+use Rattle.journal.specs.Present.{ReplaysTo}
+use Rattle.journal.proofs.Presents.{reads-ends, ends-same, ends-replay}
 
 -- the bytes of a new journal
 pub start-ends : (G : Graph) → Clashes G → (m : Memory) → allLong (G .banks) m ≡ true → length (startBytes G) ≤ 60000

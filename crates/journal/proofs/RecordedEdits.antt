@@ -9,35 +9,38 @@ use lib.ListN.{length, take, drop, length-append, length-drop, take-append-drop,
 use lib.Seq.{take-at, take-append-add, take-append-le, drop-append-le, length-take-le}
 use borrow.Author.Tests.{eqb-true, not-true}
 use Rattle.rule.specs.Lists.{memb}
-use Rattle.rule.specs.Graph.{Graph, empty, pair}
-use Rattle.rule.specs.Reach.{Kind, adding, striking, edited}
-use Rattle.rule.proofs.Booleans.{both-true, is-true, is-false}
-use Rattle.rule.proofs.Agree.{degree-agree}
-use Rattle.rule.proofs.Reaches.{Same}
+use Rattle.rule.specs.Graph.{Graph, empty, Same}
+use Rattle.rule.specs.Reach.{edited}
+use Rattle.rule.specs.declared.Kind.{Kind}
+use Rattle.rule.proofs.Booleans.{both-true}
 use Rattle.memory.specs.declared.Tally.{Tally}
 use Rattle.memory.specs.Plan.{Slices, longEnough, graphIn, PlanOf}
-use Rattle.memory.proofs.Agree.{PlanCells, planCells}
+use Rattle.memory.specs.PlanCells.{PlanCells, planCells}
 use Rattle.memory.proofs.Theorems.{rows-give-clashes, long}
 use Rattle.memory.proofs.Views.{tally-banks}
-use Rattle.planner.specs.Calls.{Memory, memoryNumber, editNumber}
-use Rattle.planner.specs.Held.{Ready}
-use Rattle.planner.proofs.Numbers.{none, memory-passed, number-ready, add-fine, strike-fine}
+use Rattle.memory.specs.Memory.{Memory, Ready}
+use Rattle.planner.specs.Calls.{editResult, memoryNumber, editNumber, accepted, editBy, editOf, checkedBy, edit}
+use Rattle.planner.specs.States.{begin, beginNumber}
+use Rattle.planner.specs.inner.Held.{ReadyIn}
+use Rattle.planner.proofs.Numbers.{none, memory-passed, number-ready}
 use Rattle.planner.proofs.Outcomes.{acceptable}
-use Rattle.planner.proofs.After.{plan-in}
-use Rattle.planner.proofs.Theorems.{after-plan}
-use Rattle.list_reader.specs.Pass.{begin, beginNumber}
-use Rattle.sheet_writer.specs.Put.{put}
+use Rattle.planner.proofs.After.{plan-in, after-plan}
+use Rattle.planner.proofs.EditCalls.{number-agree, edited-same}
+use Rattle.planner.proofs.Made.{begin-passed}
+use Rattle.text.specs.Places.{put}
 use Rattle.journal_fields.specs.declared.field.Entry.{Entry}
-use Rattle.journal_fields.specs.Fields.{entryBytes, entriesBytes, hasFirst, banksIn, Fields, fields, areWhole}
+use Rattle.journal_fields.specs.Fields.{firstSize, entrySize, entryBytes, entriesBytes, hasFirst, banksIn, Fields, fields, areWhole}
 use Rattle.journal_fields.specs.Numbers.{spaceNumber, headNumber, fieldsNumber}
-use Rattle.journal.specs.Calls.{recordNumber, RecordResult, entryFor, recordedAs, recordedBy, recorded}
+use Rattle.journal.specs.Calls.{entryFor, clashesIn, recordNumber, RecordResult, recordedAs, recordedBy, recorded}
 use Rattle.journal_replay.specs.Replay.{ReplayResult, replayAnswer, entryNumber, replayed}
 use Rattle.journal_fields.proofs.Numbers.{first-zero, space-room, size-inside, size-first}
 use Rattle.journal_fields.proofs.Entries.{length-entry, whole, following, fields-written}
 use Rattle.journal_fields.proofs.Bytes.{first-long, first-same, fields-more}
-use Rattle.journal_replay.proofs.Replaying.{begin-passed, replayFrom, Reads, replay-is}
-use Rattle.journal.proofs.Turns.{no-clashes, entryGraph, graphAfter, NoneRefused, after-banks, after-clashes, after-append, none-append, Ends, enter-passed}
-use Rattle.journal.proofs.Present.{ReplaysTo, reads-ends, ends-same, ends-replay}
+use Rattle.journal_replay.proofs.Replaying.{replayFrom, Reads, replay-is}
+use Rattle.journal_replay.specs.Ends.{afterEntries}
+use Rattle.journal.specs.Present.{ReplaysTo, editAnswer}
+use Rattle.journal.proofs.Turns.{no-clashes, NoneRefused, after-banks, after-clashes, after-append, none-append, Ends, enter-passed}
+use Rattle.journal.proofs.Presents.{reads-ends, ends-same, ends-replay}
 
 -- equal plan cells have equal rows
 front-part : (i k n : ℕ) (l : List ℕ) → i + k ≤ n → n ≤ length l → take k (drop i l) ≡ take k (drop i (take n l))
@@ -69,54 +72,24 @@ plans-same H G s s′ t p q e =
           ∙ rows-give-clashes s′ t G q x y hx hy;
     }
 
--- the same clashes: the same edit is due no refusal, and leaves the same clashes
-module _ {H G : Graph} (q : Same H G) (a b : ℕ) where
-  due-same : (k : Kind) → editNumber k G a b ≡ 0 → editNumber k H a b ≡ 0
-  due-same adding z =
-      let ok = acceptable G a b adding z in
-      add-fine H a b (omega (arith, q .banks, ok .bankA)) (omega (arith, q .banks, ok .bankB)) (ok .differ)
-      (q .clash a b (ok .bankA) (ok .bankB) ∙ is-false (G .clash a b) (ok .allowed))
-      (rw (degree-agree H G (q .banks) (q .clash) a (ok .bankA)) (ok .room .0))
-      (rw (degree-agree H G (q .banks) (q .clash) b (ok .bankB)) (ok .room .1))
-  due-same striking z =
-      let ok = acceptable G a b striking z in
-      strike-fine H a b (omega (arith, q .banks, ok .bankA)) (omega (arith, q .banks, ok .bankB)) (ok .differ)
-      (q .clash a b (ok .bankA) (ok .bankB) ∙ is-true (G .clash a b) (ok .allowed))
-
-  edited-same : (k : Kind) → Same (edited k H a b) (edited k G a b)
-  unfolding edited
-  edited-same adding = record { banks = q .banks; clash = λ x y hx hy. ap (λ (t : Bool). t || pair a b x y) (q .clash x y hx hy) }
-  edited-same striking = record { banks = q .banks; clash = λ x y hx hy. ap (λ (t : Bool). t && not (pair a b x y)) (q .clash x y hx hy) }
-
--- the entry of an edit
-entry-number : (k : Kind) (a b : ℕ) (G : Graph) → entryNumber (entryFor k a b) G ≡ editNumber k G a b
-unfolding entryNumber entryFor
-entry-number adding a b G = refl
-entry-number striking a b G = refl
-
-entry-graph : (k : Kind) (a b : ℕ) (G : Graph) → entryGraph (entryFor k a b) G ≡ edited k G a b
-unfolding entryGraph entryFor
-entry-graph adding a b G = refl
-entry-graph striking a b G = refl
-
 -- whole fields are those of entries
 are-whole : (f : Fields) → areWhole f ≡ true → f ≡ whole (f .entries)
 unfolding areWhole
 are-whole f e =
-    let p = both-true (not (f .wrong)) (eqb (f .left) 0) e in
+    let p = both-true (not (f .wrong)) (eqb (f .leftOver) 0) e in
     let w = not-true (f .wrong) (p .0) in
-    let l = eqb-true (f .left) 0 (p .1) in
-    λ i. record { entries = f .entries; wrong = w i; left = l i }
+    let l = eqb-true (f .leftOver) 0 (p .1) in
+    λ i. record { entries = f .entries; wrong = w i; leftOver = l i }
 
 -- a journal of whole fields, and one entry more
-module _ {bytes : List ℕ} {n : ℕ} {es : List Entry} (r : Reads bytes n (whole es)) (e : Entry) (space : length bytes + 7 ≤ 60000) where
-  five : 5 ≤ length bytes
-  five = first-long bytes (r .first)
+module _ {bytes : List ℕ} {n : ℕ} {es : List Entry} (r : Reads bytes n (whole es)) (e : Entry) (space : length bytes + entrySize ≤ 60000) where
+  has-first : firstSize ≤ length bytes
+  has-first = first-long bytes (r .first)
 
   same-first : (hasFirst (bytes ++ entryBytes e) ≡ hasFirst bytes) × (banksIn (bytes ++ entryBytes e) ≡ banksIn bytes)
   same-first =
-      first-same (bytes ++ entryBytes e) bytes (omega (arith, length-append bytes (entryBytes e), five)) five (λ i h.
-      List·getD-append bytes (entryBytes e) 0 i (omega (arith, five)))
+      first-same (bytes ++ entryBytes e) bytes (omega (arith, length-append bytes (entryBytes e), has-first)) has-first (λ i h.
+      List·getD-append bytes (entryBytes e) 0 i (omega (arith, has-first)))
 
   more-reads : Reads (bytes ++ entryBytes e) n (whole (es ++ (e ∷ [])))
   unfolding entriesBytes
@@ -125,8 +98,8 @@ module _ {bytes : List ℕ} {n : ℕ} {es : List Entry} (r : Reads bytes n (whol
     first = same-first .0 ∙ r .first;
     banks = same-first .1 ∙ r .banks;
     fields-are =
-        ap fields (drop-append-le 5 bytes (entryBytes e) five)
-        ∙ fields-more es (drop 5 bytes) (entryBytes e) (r .fields-are)
+        ap fields (drop-append-le firstSize bytes (entryBytes e) has-first)
+        ∙ fields-more es (drop firstSize bytes) (entryBytes e) (r .fields-are)
         ∙ ap (following es) (ap fields (sym (append-nil (entryBytes e))) ∙ fields-written (e ∷ []));
   }
 
@@ -141,11 +114,11 @@ replay-passed {bytes} {n} {es} m r z = by (beginNumber n m) refl (ap (λ (x : Re
     by (suc c) e z = absurd (omega arith)
 
 -- a journal of whole fields that replays to the present plan, and the entry of an edit of it
-module _ {bytes : List ℕ} {n : ℕ} {es : List Entry} (r : Reads bytes n (whole es)) (space : length bytes + 7 ≤ 60000)
+module _ {bytes : List ℕ} {n : ℕ} {es : List Entry} (r : Reads bytes n (whole es)) (space : length bytes + entrySize ≤ 60000)
     (k : Kind) (G : Graph) (a b : ℕ) (m m₀ : Memory) (ready : Ready G m) (due : editNumber k G a b ≡ 0)
     (before : ReplaysTo bytes m₀ (m .slices) (m .tally)) where
   abbrev H : Graph
-  H = graphAfter es (empty n)
+  H = afterEntries es (empty n)
 
   opened : beginNumber n m₀ ≡ 0
   opened = replay-passed m₀ r (before .number) .0
@@ -169,30 +142,32 @@ module _ {bytes : List ℕ} {n : ℕ} {es : List Entry} (r : Reads bytes n (whol
   e = entryFor k a b
 
   due-after : NoneRefused (e ∷ []) H
-  due-after = (entry-number k a b H ∙ due-same same-before a b k due, tt)
+  unfolding entryNumber
+  due-after = (number-agree same-before k a b ∙ due, tt)
 
   entry-ends : Ends (m₀ .slices) (edited k G a b) 0 (replayed (bytes ++ entryBytes e) m₀)
-  unfolding graphAfter
+  unfolding afterEntries
   entry-ends =
-      let g : graphAfter (es ++ (e ∷ [])) (empty n) ≡ edited k H a b = after-append es (e ∷ []) (empty n) ∙ entry-graph k a b H in
-      ends-same (edited-same same-before a b k)
+      let g : afterEntries (es ++ (e ∷ [])) (empty n) ≡ edited k H a b = after-append es (e ∷ []) (empty n) in
+      ends-same (edited-same same-before k a b)
       (rw g at (reads-ends m₀ (more-reads r e space) opened (none-append es (e ∷ []) (empty n) passed due-after)))
 
 -- the call: what the number 0 says, and what it leaves
 pub record Passes (k : Kind) (a b : ℕ) (m : Memory) (size : ℕ) (journal : List ℕ) : Type 0 where
   pub inside : size ≤ length journal
   pub first : hasFirst (take size journal) ≡ true
-  pub whole-fields : areWhole (fields (drop 5 (take size journal))) ≡ true
-  pub ready : Ready (graphIn (m .tally .banks) (m .slices)) m
-  pub due : editNumber k (graphIn (m .tally .banks) (m .slices)) a b ≡ 0
-  pub space : size + 7 ≤ 60000
+  pub whole-fields : areWhole (fields (drop firstSize (take size journal))) ≡ true
+  pub memory : memoryNumber m ≡ 0
+  pub ready : ReadyIn m
+  pub due : editNumber k (clashesIn m) a b ≡ 0
+  pub space : size + entrySize ≤ 60000
 
 module _ (k : Kind) (a b : ℕ) (m : Memory) (size : ℕ) (journal : List ℕ) where
-  fields-passed : fieldsNumber size journal ≡ 0 → areWhole (fields (drop 5 (take size journal))) ≡ true
+  fields-passed : fieldsNumber size journal ≡ 0 → areWhole (fields (drop firstSize (take size journal))) ≡ true
   unfolding fieldsNumber
-  fields-passed z = none (areWhole (fields (drop 5 (take size journal)))) 13 [] z .0
+  fields-passed z = none (areWhole (fields (drop firstSize (take size journal)))) 13 [] z .0
 
-  memory-ready : memoryNumber m ≡ 0 → Ready (graphIn (m .tally .banks) (m .slices)) m
+  memory-ready : memoryNumber m ≡ 0 → ReadyIn m
   memory-ready z = let p = memory-passed m z in number-ready m (p .0) (p .1) (p .2)
 
   record-passed : recordNumber k a b m size journal ≡ 0 → Passes k a b m size journal
@@ -201,15 +176,16 @@ module _ (k : Kind) (a b : ℕ) (m : Memory) (size : ℕ) (journal : List ℕ) w
       let p = first-zero (headNumber size journal) _ z in
       let q = first-zero (memoryNumber m) _ (p .1) in
       let r = first-zero (fieldsNumber size journal) _ (q .1) in
-      let u = first-zero (editNumber k (graphIn (m .tally .banks) (m .slices)) a b) _ (r .1) in
-      let v = first-zero (spaceNumber (size + 7) journal) [] (u .1) in
+      let u = first-zero (editNumber k (clashesIn m) a b) _ (r .1) in
+      let v = first-zero (spaceNumber (size + entrySize) journal) [] (u .1) in
       record {
         inside = size-inside size journal (p .0);
         first = size-first size journal (p .0);
         whole-fields = fields-passed (r .0);
+        memory = q .0;
         ready = memory-ready (q .0);
         due = u .0;
-        space = space-room (size + 7) journal (v .0) .1;
+        space = space-room (size + entrySize) journal (v .0) .1;
       }
 
   by-recorded : (c : ℕ) → recordedBy c k a b m size journal .answer .number ≡ 0 → (c ≡ 0) × (recordedBy c k a b m size journal ≡ recordedAs k a b m size journal)
@@ -218,17 +194,22 @@ module _ (k : Kind) (a b : ℕ) (m : Memory) (size : ℕ) (journal : List ℕ) w
   by-recorded (suc c) z = absurd (omega arith)
 
   -- the bytes left: those before, and the entry's
-  put-bytes : (e : Entry) → size ≤ length journal → take (size + 7) (put (entryBytes e) size journal) ≡ take size journal ++ entryBytes e
+  put-bytes : (e : Entry) → size ≤ length journal → take (size + entrySize) (put (entryBytes e) size journal) ≡ take size journal ++ entryBytes e
   unfolding put
   put-bytes e h =
       let n = length-take-le size journal h in
       let rest = drop (size + length (entryBytes e)) journal in
-      ap (λ (x : ℕ). take (x + 7) (take size journal ++ (entryBytes e ++ rest))) (sym n)
-      ∙ take-append-add (take size journal) (entryBytes e ++ rest) 7
-      ∙ ap (λ (l : List ℕ). take size journal ++ l) (take-at (entryBytes e) rest 7 (length-entry e))
+      ap (λ (x : ℕ). take (x + entrySize) (take size journal ++ (entryBytes e ++ rest))) (sym n)
+      ∙ take-append-add (take size journal) (entryBytes e ++ rest) entrySize
+      ∙ ap (λ (l : List ℕ). take size journal ++ l) (take-at (entryBytes e) rest entrySize (length-entry e))
+
+  -- the edit of the call, of a plan that memory holds
+  edit-is : memoryNumber m ≡ 0 → editNumber k (clashesIn m) a b ≡ 0 → edit k a b m ≡ accepted k (clashesIn m) a b m
+  unfolding edit checkedBy editOf editBy
+  edit-is z d = rw (z, d)
 
   -- an edit that is recorded
-  module _ (yes : recorded k a b m size journal .answer .number ≡ 0) (m₀ : Memory) (before : ReplaysTo (take size journal) m₀ (m .slices) (m .tally)) where
+  module _ (yes : recorded k a b m size journal .answer .number ≡ 0) where
     abbrev after : RecordResult
     after = recorded k a b m size journal
 
@@ -242,21 +223,31 @@ module _ (k : Kind) (a b : ℕ) (m : Memory) (size : ℕ) (journal : List ℕ) w
     passes : Passes k a b m size journal
     passes = record-passed (unfold recorded in by-recorded (recordNumber k a b m size journal) yes .0)
 
+    -- it is the edit of the call
+    as-edit : (r : RecordResult) → r ≡ recordedAs k a b m size journal → accepted k (clashesIn m) a b m ≡ editResult (editAnswer (r .answer)) (r .memory)
+    unfolding recordedAs accepted
+    as-edit r e = ap (λ (x : RecordResult). editResult (editAnswer (x .answer)) (x .memory)) (sym e)
+
+    pub recorded-edit : edit k a b m ≡ editResult (editAnswer (after .answer)) (after .memory)
+    recorded-edit = edit-is (passes .memory) (passes .due) ∙ as-edit after is-as
+
     is-bytes : bytes ≡ take size journal ++ entryBytes (entryFor k a b)
     unfolding recordedAs
     is-bytes = rw is-as (put-bytes (entryFor k a b) (passes .inside))
 
-    recorded-ends : Ends (m₀ .slices) (edited k (graphIn (m .tally .banks) (m .slices)) a b) 0 (replayed bytes m₀)
-    recorded-ends =
-        let n = length-take-le size journal (passes .inside) in
-        rw is-bytes
-        (entry-ends (record { within = omega (arith, passes .space); first = passes .first; banks = refl; fields-are = are-whole (fields (drop 5 (take size journal))) (passes .whole-fields) })
-        (omega (arith, passes .space)) k (graphIn (m .tally .banks) (m .slices)) a b m m₀ (passes .ready) (passes .due) before)
+    -- a journal that replayed to the present plan
+    module _ (m₀ : Memory) (before : ReplaysTo (take size journal) m₀ (m .slices) (m .tally)) where
+      recorded-ends : Ends (m₀ .slices) (edited k (clashesIn m) a b) 0 (replayed bytes m₀)
+      recorded-ends =
+          let n = length-take-le size journal (passes .inside) in
+          let f = fields (drop firstSize (take size journal)) in
+          let reads : Reads (take size journal) (banksIn (take size journal)) (whole (f .entries)) =
+          record { within = omega (arith, passes .space); first = passes .first; banks = refl; fields-are = are-whole f (passes .whole-fields) } in
+          rw is-bytes (entry-ends reads (omega (arith, passes .space)) k (clashesIn m) a b m m₀ (passes .ready) (passes .due) before)
 
-    pub recorded-answer : replayed bytes m₀ .answer ≡ replayAnswer 0 0 0
-    recorded-answer = recorded-ends .answer
+      pub recorded-answer : replayed bytes m₀ .answer ≡ replayAnswer 0 0 0
+      recorded-answer = recorded-ends .answer
 
-    pub recorded-replays : ReplaysTo bytes m₀ (after .memory .slices) (after .memory .tally)
-    unfolding recordedAs
-    recorded-replays =
-        ends-replay (rw is-as (after-plan k (graphIn (m .tally .banks) (m .slices)) a b m (passes .ready) (passes .due))) recorded-ends
+      pub recorded-replays : ReplaysTo bytes m₀ (after .memory .slices) (after .memory .tally)
+      unfolding recordedAs
+      recorded-replays = ends-replay (rw is-as (after-plan k (clashesIn m) a b m (passes .ready) (passes .due))) recorded-ends

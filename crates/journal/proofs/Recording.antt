@@ -6,37 +6,37 @@ use Prim.Native.Nat.{ℕ, zero, suc, _+_, _-_}
 use native.Mathlib.Omega.{arith}
 use lib.ListN.{length, take, drop}
 use Rattle.rule.specs.Graph.{Graph}
-use Rattle.rule.specs.Reach.{Kind}
-use Rattle.memory.specs.Plan.{graphIn}
+use Rattle.rule.specs.declared.Kind.{Kind}
 use Rattle.planner.specs.declared.Answer.{Answer}
 use Rattle.planner.specs.declared.Edited.{Edited}
 use Rattle.planner.specs.Questions.{firstNo}
-use Rattle.planner.specs.Calls.{Memory, EditResult, memoryNumber, editNumber, accepted, editBy, editOf}
-use Rattle.planner.specs.Held.{Ready, Edits}
-use Rattle.sheet_writer.specs.Put.{put, Puts}
+use Rattle.memory.specs.Memory.{Memory, Ready}
+use Rattle.planner.specs.Calls.{EditResult, memoryNumber, editNumber, accepted, editBy, editOf}
+use Rattle.planner.specs.inner.Held.{ReadyIn, EditMade}
+use Rattle.text.specs.Places.{put, Puts}
 use Rattle.journal_fields.specs.declared.field.Entry.{Entry}
 use Rattle.journal.specs.declared.record.Recorded.{Recorded}
-use Rattle.journal_fields.specs.Fields.{fields, areWhole, entryBytes}
+use Rattle.journal_fields.specs.Fields.{firstSize, entrySize, fields, areWhole, entryBytes}
 use Rattle.journal_fields.specs.Numbers.{firstOf, spaceNumber, headNumber, fieldsNumber}
-use Rattle.journal.specs.Calls.{recordNumber, recordResult, noRecord, entryFor, recordedAs, recordedBy, recorded}
-use Rattle.journal.specs.Recording.{Checked, Accepts, RecordedOf}
+use Rattle.journal.specs.Calls.{clashesIn, recordNumber, recordResult, noRecord, entryFor, recordedAs, recordedBy, recorded}
+use Rattle.journal.specs.inner.Recording.{Checked, Accepts, RecordedOf}
 use Rattle.journal_fields.proofs.Reading.{drop-take}
 use Rattle.journal_fields.proofs.Entries.{length-entry}
-use Rattle.journal_fields.proofs.Numbers.{first-none, first-some, first-last, size-few, size-inside, size-five}
+use Rattle.journal_fields.proofs.Numbers.{first-none, first-some, first-last, size-few, size-inside, size-first-field}
 
 module _ (size : ℕ) (journal : List ℕ) (z : headNumber size journal ≡ 0) where
   -- the fields after the first, as a part of the journal
-  later : fields (take (size - 5) (drop 5 journal)) ≡ fields (drop 5 (take size journal))
+  later : fields (take (size - firstSize) (drop firstSize journal)) ≡ fields (drop firstSize (take size journal))
   later =
-      let five = size-five size journal z in
-      let e : 5 + (size - 5) ≡ size = omega (arith, five) in
-      ap fields (sym (drop-take 5 (size - 5) journal (omega (arith, five, size-inside size journal z))) ∙ ap (λ (k : ℕ). drop 5 (take k journal)) e)
+      let five = size-first-field size journal z in
+      let e : firstSize + (size - firstSize) ≡ size = omega (arith, five) in
+      ap fields (sym (drop-take firstSize (size - firstSize) journal (omega (arith, five, size-inside size journal z))) ∙ ap (λ (k : ℕ). drop firstSize (take k journal)) e)
 
-  pub fields-no : areWhole (fields (take (size - 5) (drop 5 journal))) ≡ false → 14 ≡ fieldsNumber size journal
+  pub fields-no : areWhole (fields (take (size - firstSize) (drop firstSize journal))) ≡ false → 14 ≡ fieldsNumber size journal
   unfolding fieldsNumber firstNo
   fields-no e = rw (← later, e)
 
-  pub fields-yes : areWhole (fields (take (size - 5) (drop 5 journal))) ≡ true → 0 ≡ fieldsNumber size journal
+  pub fields-yes : areWhole (fields (take (size - firstSize) (drop firstSize journal))) ≡ true → 0 ≡ fieldsNumber size journal
   unfolding fieldsNumber firstNo
   fields-yes e = rw (← later, e)
 
@@ -65,7 +65,7 @@ module _ (m : Memory) (size : ℕ) (journal : List ℕ) where
       few = λ q. absurd (z q);
     }
 
-    pub checked-fields : memoryNumber m ≡ 0 → Ready (graphIn (m .tally .banks) (m .slices)) m → (r : ℕ) → r ≡ fieldsNumber size journal → Checked m size journal r
+    pub checked-fields : memoryNumber m ≡ 0 → ReadyIn m → (r : ℕ) → r ≡ fieldsNumber size journal → Checked m size journal r
     checked-fields z h r e = record {
       number = e ∙ sym (first-rest (headNumber size journal) (memoryNumber m) _ head z ∙ first-last (fieldsNumber size journal));
       ready = λ q. h;
@@ -74,9 +74,6 @@ module _ (m : Memory) (size : ℕ) (journal : List ℕ) where
 
   -- then those of the edit, and the space
   module _ (k : Kind) (a b : ℕ) where
-    G : Graph
-    G = graphIn (m .tally .banks) (m .slices)
-
     first-parts : (x y z u v : ℕ) → firstOf (x ∷ y ∷ z ∷ u ∷ v ∷ []) ≡ firstOf (firstOf (x ∷ y ∷ z ∷ []) ∷ u ∷ v ∷ [])
     unfolding firstOf
     first-parts zero zero zero u v = refl
@@ -84,11 +81,11 @@ module _ (m : Memory) (size : ℕ) (journal : List ℕ) where
     first-parts zero (suc y) z u v = refl
     first-parts (suc x) y z u v = refl
 
-    as-parts : (c : ℕ) → Checked m size journal c → recordNumber k a b m size journal ≡ firstOf (c ∷ editNumber k (graphIn (m .tally .banks) (m .slices)) a b ∷ spaceNumber (size + 7) journal ∷ [])
+    as-parts : (c : ℕ) → Checked m size journal c → recordNumber k a b m size journal ≡ firstOf (c ∷ editNumber k (clashesIn m) a b ∷ spaceNumber (size + entrySize) journal ∷ [])
     unfolding recordNumber
     as-parts c d =
         first-parts (headNumber size journal) (memoryNumber m) (fieldsNumber size journal) _ _
-        ∙ ap (λ (n : ℕ). firstOf (n ∷ editNumber k (graphIn (m .tally .banks) (m .slices)) a b ∷ spaceNumber (size + 7) journal ∷ [])) (sym (d .number))
+        ∙ ap (λ (n : ℕ). firstOf (n ∷ editNumber k (clashesIn m) a b ∷ spaceNumber (size + entrySize) journal ∷ [])) (sym (d .number))
 
     pub accepts-checked : (c : ℕ) → Checked m size journal c → (c ≡ 0 → ⊥) → Accepts k a b m size journal c
     accepts-checked c d z = record {
@@ -99,17 +96,17 @@ module _ (m : Memory) (size : ℕ) (journal : List ℕ) where
     }
 
     module _ (c : ℕ) (d : Checked m size journal c) (none : c ≡ 0) where
-      pub accepts-edit : (r : ℕ) → r ≡ editNumber k (graphIn (m .tally .banks) (m .slices)) a b → (r ≡ 0 → ⊥) → Accepts k a b m size journal r
+      pub accepts-edit : (r : ℕ) → r ≡ editNumber k (clashesIn m) a b → (r ≡ 0 → ⊥) → Accepts k a b m size journal r
       accepts-edit r e z = record {
-        number = e ∙ sym (as-parts c d ∙ first-second c (editNumber k (graphIn (m .tally .banks) (m .slices)) a b) _ none (λ q. z (e ∙ q)));
+        number = e ∙ sym (as-parts c d ∙ first-second c (editNumber k (clashesIn m) a b) _ none (λ q. z (e ∙ q)));
         ready = λ q. absurd (z q);
         due = λ q. absurd (z q);
         space = λ q. absurd (z q);
       }
 
-      pub accepts-space : (n : ℕ) → n ≡ editNumber k (graphIn (m .tally .banks) (m .slices)) a b → n ≡ 0 → (r : ℕ) → r ≡ spaceNumber (size + 7) journal → Accepts k a b m size journal r
+      pub accepts-space : (n : ℕ) → n ≡ editNumber k (clashesIn m) a b → n ≡ 0 → (r : ℕ) → r ≡ spaceNumber (size + entrySize) journal → Accepts k a b m size journal r
       accepts-space n f z r e = record {
-        number = e ∙ sym (as-parts c d ∙ first-rest c (editNumber k (graphIn (m .tally .banks) (m .slices)) a b) _ none (sym f ∙ z) ∙ first-last (spaceNumber (size + 7) journal));
+        number = e ∙ sym (as-parts c d ∙ first-rest c (editNumber k (clashesIn m) a b) _ none (sym f ∙ z) ∙ first-last (spaceNumber (size + entrySize) journal));
         ready = λ q. d .ready none;
         due = λ q. sym f ∙ z;
         space = λ q. sym e ∙ q;
@@ -130,25 +127,26 @@ module _ (m : Memory) (size : ℕ) (journal : List ℕ) where
     unfolding recorded
     record-refused c d z = by-some c z ∙ ap (λ (n : ℕ). recordedBy n k a b m size journal) (d .number)
 
-    edit-is : (n : ℕ) → n ≡ 0 → editBy n k (graphIn (m .tally .banks) (m .slices)) a b m ≡ accepted k (graphIn (m .tally .banks) (m .slices)) a b m
+    edit-is : (n : ℕ) → n ≡ 0 → editBy n k (clashesIn m) a b m ≡ accepted k (clashesIn m) a b m
     unfolding editBy
     edit-is zero z = refl
     edit-is (suc c) z = absurd (omega arith)
 
     pub record-done : (c : ℕ) → Accepts k a b m size journal c → c ≡ 0 → (r : Edited) (m′ : Memory)
-        → ((H : Graph) → Ready H m → Edits k H a b m r m′)
-        → (e : Entry) → e ≡ entryFor k a b → (x : Recorded) (journal′ : List ℕ) → RecordedOf e (r .answer) size journal x journal′
+        → ((H : Graph) → Ready H m → EditMade k H a b m r m′)
+        → (x : Recorded) (journal′ : List ℕ) → RecordedOf (entryFor k a b) (r .answer) size journal x journal′
         → recordResult x m′ journal′ ≡ recorded k a b m size journal
     unfolding recorded recordedAs editOf
-    record-done c d z r m′ f e q x journal′ w =
-        let done = f (graphIn (m .tally .banks) (m .slices)) (d .ready z) .is ∙ edit-is (editNumber k (graphIn (m .tally .banks) (m .slices)) a b) (d .due z) in
-        rw (w .is, w .left, q)
-        (ap (λ (y : EditResult). recordResult (record { number = 0; moved = y .answer .moved; trail = y .answer .trail; length = size + 7 }) (y .memory) (put (entryBytes (entryFor k a b)) size journal)) done
+    record-done c d z r m′ f x journal′ w =
+        let done = f (clashesIn m) (d .ready z) .is ∙ edit-is (editNumber k (clashesIn m) a b) (d .due z) in
+        rw (w .is, w .written)
+        (ap (λ (y : EditResult). recordResult (record { number = 0; moved = y .answer .moved; trail = y .answer .trail; length = size + entrySize })
+        (y .memory) (put (entryBytes (entryFor k a b)) size journal)) done
         ∙ by-none c z ∙ ap (λ (n : ℕ). recordedBy n k a b m size journal) (d .number))
 
 -- the entry after the first bytes
 pub recorded-of : (e : Entry) (answer : Answer) (size r : ℕ) (journal journal′ : List ℕ) → Puts (entryBytes e) size journal r journal′
     → RecordedOf e answer size journal (record { number = 0; moved = answer .moved; trail = answer .trail; length = r }) journal′
 recorded-of e answer size r journal journal′ p =
-    let n : r ≡ size + 7 = omega (arith, p .next, length-entry e) in
-    record { is = ap (λ (k : ℕ). record { number = 0; moved = answer .moved; trail = answer .trail; length = k }) n; left = p .left }
+    let n : r ≡ size + entrySize = omega (arith, p .next, length-entry e) in
+    record { is = ap (λ (k : ℕ). record { number = 0; moved = answer .moved; trail = answer .trail; length = k }) n; written = p .left }

@@ -9,26 +9,26 @@ use Rattle.memory.specs.declared.Tally.{Tally}
 use Rattle.memory.specs.Cells.{over}
 use Rattle.memory.specs.Plan.{Slices, graphIn}
 use Rattle.planner.specs.Calls.{planNumber}
-use Rattle.sheet_writer.specs.Put.{Puts}
-use Rattle.sheet_writer.proofs.Putting.{puts-then, put-over}
-use Rattle.journal_fields.specs.Fields.{twoBytes, fieldBytes, firstBytes, entriesBytes, journalBytes}
+use Rattle.text.specs.Places.{Puts}
+use Rattle.text.proofs.Putting.{puts-then, put-front}
+use Rattle.journal_fields.specs.Fields.{firstSize, entrySize, twoBytes, fieldBytes, firstBytes, entriesBytes, journalBytes}
 use Rattle.journal.specs.Calls.{addsBelow, startBytes, startNumber, startResult, startBy, started}
 use Rattle.journal_fields.specs.Numbers.{spaceNumber}
 use Rattle.journal_fields.proofs.Entries.{length-entries}
 use Rattle.journal_fields.proofs.Bytes.{length-journal}
 use Rattle.journal_fields.proofs.Numbers.{first-none, first-some, first-last, space-room}
 
-length-first : (n : ℕ) → length (firstBytes n) ≡ 5
+length-first : (n : ℕ) → length (firstBytes n) ≡ firstSize
 unfolding firstBytes fieldBytes twoBytes
 length-first n = refl
 
 -- the size of a new journal
-pub start-size : (G : Graph) (k : ℕ) → k ≡ length (addsBelow G (G .banks)) → 5 + 7 * k ≡ length (startBytes G)
+pub start-size : (G : Graph) (k : ℕ) → k ≡ length (addsBelow G (G .banks)) → firstSize + entrySize * k ≡ length (startBytes G)
 unfolding startBytes
 start-size G k e = omega (arith, length-journal (G .banks) (addsBelow G (G .banks)), e)
 
 -- after the first field there is room for the adds
-pub adds-room : (G : Graph) (k n r : ℕ) (journal journal′ : List ℕ) → k ≡ length (addsBelow G (G .banks)) → 5 + 7 * k ≤ length journal
+pub adds-room : (G : Graph) (k n r : ℕ) (journal journal′ : List ℕ) → k ≡ length (addsBelow G (G .banks)) → firstSize + entrySize * k ≤ length journal
     → Puts (firstBytes n) 0 journal r journal′ → length journal′ ≡ length journal → r + length (entriesBytes (addsBelow G (G .banks))) ≤ length journal′
 adds-room G k n r journal journal′ e h p l = omega (arith, length-entries (addsBelow G (G .banks)), length-first n, p .next, e, h, l)
 
@@ -62,9 +62,10 @@ module _ (s : Slices) (t : Tally) (journal : List ℕ) where
 
     pub start-done : 0 ≡ spaceNumber size journal → (r₁ r₂ : ℕ) (j₁ j₂ : List ℕ) → Puts (firstBytes (t .banks)) 0 journal r₁ j₁
         → Puts (entriesBytes (addsBelow (graphIn (t .banks) s) (graphIn (t .banks) s .banks))) r₁ j₁ r₂ j₂ → startResult (record { number = 0; length = size }) j₂ ≡ started s t journal
-    unfolding started startBytes journalBytes graphIn
+    unfolding started startBytes journalBytes graphIn over
     start-done z r₁ r₂ j₁ j₂ p q =
         let room = space-room size journal (sym z) in
         let e = length-append (firstBytes (t .banks)) (entriesBytes (addsBelow (graphIn (t .banks) s) (t .banks))) in
         let put = puts-then (firstBytes (t .banks)) (entriesBytes (addsBelow (graphIn (t .banks) s) (t .banks))) 0 journal (omega (arith, e, right, room .0)) r₁ r₂ j₁ j₂ p q in
-        rw (right, put .left ∙ put-over (firstBytes (t .banks) ++ entriesBytes (addsBelow (graphIn (t .banks) s) (t .banks))) journal) (by-none (startNumber s t journal) (startBytes (graphIn (t .banks) s)) journal (number-space ∙ sym z))
+        rw (right, put .left ∙ put-front (firstBytes (t .banks) ++ entriesBytes (addsBelow (graphIn (t .banks) s) (t .banks))) journal)
+        (by-none (startNumber s t journal) (startBytes (graphIn (t .banks) s)) journal (number-space ∙ sym z))

@@ -5,13 +5,14 @@ use mathlib.Core.Path.{_≡_}
 use Prim.Native.Nat.{ℕ, _≤_}
 use lib.ListN.{length, take}
 use Rattle.rule.specs.Graph.{Graph}
-use Rattle.rule.specs.Reach.{Kind}
+use Rattle.rule.specs.declared.Kind.{Kind}
 use Rattle.memory.specs.declared.Tally.{Tally}
 use Rattle.memory.specs.Plan.{Slices, planIn, tallyOf, graphIn, Clashes}
-use Rattle.planner.specs.Calls.{Memory, allLong}
+use Rattle.memory.specs.Memory.{Memory}
+use Rattle.planner.specs.Calls.{allLong, editResult, edit}
 use Rattle.journal.specs.Calls.{startBytes, started, RecordResult, recorded}
+use Rattle.journal.specs.Present.{ReplaysTo, editAnswer}
 use Rattle.journal_replay.specs.Replay.{replayAnswer, replayed}
-use Rattle.journal.proofs.Present.{ReplaysTo}
 use Rattle.journal.proofs.NewJournals as NewJournals
 use Rattle.journal.proofs.RecordedEdits as RecordedEdits
 
@@ -35,14 +36,18 @@ module _ (s : Slices) (t : Tally) (journal : List ℕ) (yes : started s t journa
       → ReplaysTo (take (started s t journal .answer .length) (started s t journal .journal)) m s t
   started-replays = NewJournals.started-replays s t journal yes
 
--- 2. a journal that replayed with no refusal to the present plan does so after an edit that is recorded, with nothing left over
-module _ (k : Kind) (a b : ℕ) (m : Memory) (size : ℕ) (journal : List ℕ) (yes : recorded k a b m size journal .answer .number ≡ 0)
-    (m₀ : Memory) (before : ReplaysTo (take size journal) m₀ (m .slices) (m .tally)) where
+-- 2. an edit that is recorded is the edit of the call, answer and memory
+module _ (k : Kind) (a b : ℕ) (m : Memory) (size : ℕ) (journal : List ℕ) (yes : recorded k a b m size journal .answer .number ≡ 0) where
   abbrev after : RecordResult
   after = recorded k a b m size journal
 
-  pub recorded-replays : ReplaysTo (take (after .answer .length) (after .journal)) m₀ (after .memory .slices) (after .memory .tally)
-  recorded-replays = RecordedEdits.recorded-replays k a b m size journal yes m₀ before
+  pub recorded-edit : edit k a b m ≡ editResult (editAnswer (after .answer)) (after .memory)
+  recorded-edit = RecordedEdits.recorded-edit k a b m size journal yes
 
-  pub recorded-answer : replayed (take (after .answer .length) (after .journal)) m₀ .answer ≡ replayAnswer 0 0 0
-  recorded-answer = RecordedEdits.recorded-answer k a b m size journal yes m₀ before
+  -- 3. and a journal that replayed with no refusal to the present plan does so after it, with nothing left over
+  module _ (m₀ : Memory) (before : ReplaysTo (take size journal) m₀ (m .slices) (m .tally)) where
+    pub recorded-replays : ReplaysTo (take (after .answer .length) (after .journal)) m₀ (after .memory .slices) (after .memory .tally)
+    recorded-replays = RecordedEdits.recorded-replays k a b m size journal yes m₀ before
+
+    pub recorded-answer : replayed (take (after .answer .length) (after .journal)) m₀ .answer ≡ replayAnswer 0 0 0
+    recorded-answer = RecordedEdits.recorded-answer k a b m size journal yes m₀ before

@@ -5,23 +5,28 @@ use lib.Dec.{ltb}
 use lib.ListN.{length}
 use Rattle.rule.specs.Lists.{filter}
 use Rattle.rule.specs.Graph.{Graph, neighbours}
-use Rattle.rule.specs.Reach.{Kind, adding, striking}
+use Rattle.rule.specs.declared.Kind.{Kind}
+use Rattle.rule.specs.declared.Kind.the-variants.{Adding}
+use Rattle.rule.specs.Numbers.{bank}
 use Rattle.memory.specs.declared.Tally.{Tally}
 use Rattle.memory.specs.Cells.{over}
 use Rattle.memory.specs.Plan.{Slices, graphIn}
-use Rattle.planner.specs.Calls.{Memory, planNumber, memoryNumber, editNumber, accepted}
-use Rattle.list_rows.specs.Rows.{bank}
-use Rattle.sheet_writer.specs.Put.{put}
+use Rattle.memory.specs.Memory.{Memory}
+use Rattle.planner.specs.Calls.{planNumber, memoryNumber, editNumber, accepted}
+use Rattle.text.specs.Places.{put}
 use Rattle.journal_fields.specs.declared.field.Entry.{Entry}
-use Rattle.journal_fields.specs.declared.field.Entry.the-variants.{Add, Strike}
 use Rattle.journal.specs.declared.start.Started.{Started}
 use Rattle.journal.specs.declared.record.Recorded.{Recorded}
-use Rattle.journal_fields.specs.Fields.{entryBytes, journalBytes}
+use Rattle.journal_fields.specs.Fields.{entrySize, entryBytes, journalBytes}
 use Rattle.journal_fields.specs.Numbers.{firstOf, spaceNumber, headNumber, fieldsNumber}
+
+-- the entry of an edit
+abbrev pub entryFor : Kind → ℕ → ℕ → Entry
+entryFor k a b = record { kind = k; a = bank a; b = bank b }
 
 -- the clashes of a with those of these banks that are larger, as adds
 unfoldable pub addsOf : ℕ → List ℕ → List Entry
-addsOf a banks = map (λ b. Add (bank a) (bank b)) (filter (ltb a) banks)
+addsOf a banks = map (entryFor Adding a) (filter (ltb a) banks)
 
 -- the clashes of all banks below k with larger ones, the lowest pair first
 unfoldable pub addsBelow : Graph → ℕ → List Entry
@@ -53,6 +58,10 @@ startBy (suc c) bytes journal = startResult (record { number = suc c; length = 0
 unfoldable pub started : Slices → Tally → List ℕ → StartResult
 started s t journal = startBy (startNumber s t journal) (startBytes (graphIn (t .banks) s)) journal
 
+-- the clashes that the memory's rows name
+abbrev pub clashesIn : Memory → Graph
+clashesIn m = graphIn (m .tally .banks) (m .slices)
+
 -- all questions of an edit that is recorded
 unfoldable pub recordNumber : Kind → ℕ → ℕ → Memory → ℕ → List ℕ → ℕ
 recordNumber k a b m size journal =
@@ -60,8 +69,8 @@ recordNumber k a b m size journal =
     (headNumber size journal
     ∷ memoryNumber m
     ∷ fieldsNumber size journal
-    ∷ editNumber k (graphIn (m .tally .banks) (m .slices)) a b
-    ∷ spaceNumber (size + 7) journal
+    ∷ editNumber k (clashesIn m) a b
+    ∷ spaceNumber (size + entrySize) journal
     ∷ [])
 
 -- what it leaves
@@ -77,17 +86,12 @@ recordResult answer memory journal = record { answer = answer; memory = memory; 
 abbrev pub noRecord : ℕ → Recorded
 noRecord c = record { number = c; moved = 0; trail = 0; length = 0 }
 
--- the entry of an edit
-unfoldable pub entryFor : Kind → ℕ → ℕ → Entry
-entryFor adding a b = Add (bank a) (bank b)
-entryFor striking a b = Strike (bank a) (bank b)
-
 -- accepted: what the edit leaves, and its entry after the last field
 unfoldable pub recordedAs : Kind → ℕ → ℕ → Memory → ℕ → List ℕ → RecordResult
 recordedAs k a b m size journal =
-    let e = accepted k (graphIn (m .tally .banks) (m .slices)) a b m in
+    let e = accepted k (clashesIn m) a b m in
     recordResult
-    (record { number = 0; moved = e .answer .moved; trail = e .answer .trail; length = size + 7 })
+    (record { number = 0; moved = e .answer .moved; trail = e .answer .trail; length = size + entrySize })
     (e .memory)
     (put (entryBytes (entryFor k a b)) size journal)
 

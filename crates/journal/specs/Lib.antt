@@ -1,3 +1,4 @@
--- What a reader must believe of starting a journal and recording in it: Calls. Recording serves the functions.
+-- What a reader must believe of starting a journal and recording in it: Calls; of the theorems: Present. inner serves the functions.
 pub mod Calls
-pub mod Recording
+pub mod Present
+pub mod inner

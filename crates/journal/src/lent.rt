@@ -5,8 +5,8 @@ use crate::record::strike_recorded_core;
 use memory::Tally;
 use rule::Bank;
 ghost use mathlib.Core.Path.{_≡_};
-ghost use Rattle.rule.specs.Reach.{Kind.adding, Kind.striking};
-ghost use Rattle.planner.specs.Calls.{memoryOf};
+ghost use Rattle.rule.specs.declared.Kind.the-variants.{Adding, Striking};
+ghost use Rattle.memory.specs.Lent.{before, after};
 ghost use Rattle.journal.specs.Calls.{recordResult, recorded};
 
 // Adds the clash of a and b to the plan in memory and records it in the journal, whose first `size` bytes are written; or changes nothing and
@@ -24,10 +24,11 @@ pub fn add_recorded(
     journal: &mut [u8],
     size: usize,
 ) -> Recorded
-    ensures { λ r. ⌜ recordResult r (memoryOf (now (neighbours .exit)) (now (degrees .exit)) (now (waves .exit)) (now (counts .exit)) (now (trail .exit)) (now (moved .exit)) (now (tally .exit))) (now (journal .exit)) ≡ recorded adding (a .0) (b .0) (memoryOf (now (neighbours .entry)) (now (degrees .entry)) (now (waves .entry)) (now (counts .entry)) (now (trail .entry)) (now (moved .entry)) (now (tally .entry))) size (now (journal .entry)) ⌝ }
+    ensures { λ r. ⌜ recordResult r (after neighbours degrees waves counts trail moved (now (tally .exit))) (now (journal .exit))
+        ≡ recorded Adding (a .0) (b .0) (before neighbours degrees waves counts trail moved (now (tally .entry))) size (now (journal .entry)) ⌝ }
 {
     let t = *tally;
-    let r = add_recorded_core(
+    let added = add_recorded_core(
         neighbours,
         degrees,
         waves,
@@ -40,8 +41,8 @@ pub fn add_recorded(
         journal,
         size,
     );
-    *tally = r.tally;
-    r.answer
+    *tally = added.tally;
+    added.answer
 }
 
 // Strikes the clash of a and b from the plan in memory and records it, or changes nothing, like add_recorded.
@@ -58,10 +59,11 @@ pub fn strike_recorded(
     journal: &mut [u8],
     size: usize,
 ) -> Recorded
-    ensures { λ r. ⌜ recordResult r (memoryOf (now (neighbours .exit)) (now (degrees .exit)) (now (waves .exit)) (now (counts .exit)) (now (trail .exit)) (now (moved .exit)) (now (tally .exit))) (now (journal .exit)) ≡ recorded striking (a .0) (b .0) (memoryOf (now (neighbours .entry)) (now (degrees .entry)) (now (waves .entry)) (now (counts .entry)) (now (trail .entry)) (now (moved .entry)) (now (tally .entry))) size (now (journal .entry)) ⌝ }
+    ensures { λ r. ⌜ recordResult r (after neighbours degrees waves counts trail moved (now (tally .exit))) (now (journal .exit))
+        ≡ recorded Striking (a .0) (b .0) (before neighbours degrees waves counts trail moved (now (tally .entry))) size (now (journal .entry)) ⌝ }
 {
     let t = *tally;
-    let r = strike_recorded_core(
+    let struck = strike_recorded_core(
         neighbours,
         degrees,
         waves,
@@ -74,6 +76,6 @@ pub fn strike_recorded(
         journal,
         size,
     );
-    *tally = r.tally;
-    r.answer
+    *tally = struck.tally;
+    struck.answer
 }

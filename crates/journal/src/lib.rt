@@ -8,6 +8,7 @@ pub use lent::strike_recorded;
 pub use record::Recorded;
 pub use record::RecordedEdit;
 pub use record::add_recorded_core;
+pub use record::record_core;
 pub use record::strike_recorded_core;
 pub use start::Started;
 pub use start::start_journal;

@@ -8,19 +8,19 @@ use journal_fields::space_number;
 use journal_fields::whole_fields;
 use memory::Tally;
 use planner::Answer;
-use planner::add_held;
-use planner::add_number;
 use planner::check_memory;
-use planner::strike_held;
-use planner::strike_number;
+use planner::edit_held;
+use planner::edit_number;
 use rule::Bank;
+use rule::Kind;
 ghost use mathlib.Core.Path.{_≡_};
 ghost use Prim.Native.Nat.{_+_, _≤_};
 ghost use lib.ListN.{length};
-ghost use Rattle.rule.specs.Reach.{Kind.adding, Kind.striking};
-ghost use Rattle.planner.specs.Calls.{memoryOf};
+ghost use Rattle.rule.specs.declared.Kind.the-variants.{Adding, Striking};
+ghost use Rattle.memory.specs.Lent.{before, after};
+ghost use Rattle.journal_fields.specs.Fields.{entrySize};
 ghost use Rattle.journal.specs.Calls.{noRecord, recordResult, recorded};
-ghost use Rattle.journal.specs.Recording.{Checked, Accepts, RecordedOf};
+ghost use Rattle.journal.specs.inner.Recording.{Checked, Accepts, RecordedOf};
 
 // The answer of an edit that is recorded: that of the edit, and the journal's new length, at most 60,000.
 pub struct Recorded {
@@ -48,7 +48,7 @@ fn check_record(
     journal: &[u8],
     size: usize,
 ) -> u16
-    ensures { λ r. ⌜ Checked (memoryOf (now (neighbours .entry)) (now (degrees .entry)) (now (waves .entry)) (now (counts .entry)) (now (trail .entry)) (now (moved .entry)) tally) size (now (journal .entry)) r ⌝ }
+    ensures { λ r. ⌜ Checked (before neighbours degrees waves counts trail moved tally) size (now (journal .entry)) r ⌝ }
 {
     let head = head_number(journal, size);
     if head != 0 {
@@ -64,8 +64,9 @@ fn check_record(
     0
 }
 
-// All questions of an add that is recorded: 0, or the number of the first no.
-fn check_add(
+// All questions of an edit that is recorded: 0, or the number of the first no.
+fn check_edit(
+    kind: Kind,
     neighbours: &[u16],
     degrees: &[u16],
     waves: &[u16],
@@ -78,7 +79,7 @@ fn check_add(
     journal: &[u8],
     size: usize,
 ) -> u16
-    ensures { λ r. ⌜ Accepts adding (a .0) (b .0) (memoryOf (now (neighbours .entry)) (now (degrees .entry)) (now (waves .entry)) (now (counts .entry)) (now (trail .entry)) (now (moved .entry)) tally) size (now (journal .entry)) r ⌝ }
+    ensures { λ r. ⌜ Accepts kind (a .0) (b .0) (before neighbours degrees waves counts trail moved tally) size (now (journal .entry)) r ⌝ }
 {
     let checked = check_record(
         neighbours,
@@ -94,46 +95,9 @@ fn check_add(
     if checked != 0 {
         return checked;
     }
-    let number = add_number(neighbours, degrees, waves, counts, tally, a, b);
-    if number != 0 {
-        return number;
-    }
-    space_number(journal, size + ENTRY_BYTES)
-}
-
-// All questions of a strike that is recorded: 0, or the number of the first no.
-fn check_strike(
-    neighbours: &[u16],
-    degrees: &[u16],
-    waves: &[u16],
-    counts: &[u16],
-    trail: &[u16],
-    moved: &[u16],
-    tally: Tally,
-    a: Bank,
-    b: Bank,
-    journal: &[u8],
-    size: usize,
-) -> u16
-    ensures { λ r. ⌜ Accepts striking (a .0) (b .0) (memoryOf (now (neighbours .entry)) (now (degrees .entry)) (now (waves .entry)) (now (counts .entry)) (now (trail .entry)) (now (moved .entry)) tally) size (now (journal .entry)) r ⌝ }
-{
-    let checked = check_record(
-        neighbours,
-        degrees,
-        waves,
-        counts,
-        trail,
-        moved,
-        tally,
-        journal,
-        size,
-    );
-    if checked != 0 {
-        return checked;
-    }
-    let number = strike_number(neighbours, degrees, waves, counts, tally, a, b);
-    if number != 0 {
-        return number;
+    let edit = edit_number(kind, neighbours, degrees, waves, counts, tally, a, b);
+    if edit != 0 {
+        return edit;
     }
     space_number(journal, size + ENTRY_BYTES)
 }
@@ -155,7 +119,7 @@ fn refuse(number: u16, tally: Tally) -> RecordedEdit
 
 // Writes the entry of an accepted edit after the journal's first `size` bytes. The answer is that of the edit, and the new length.
 fn record_entry(journal: &mut [u8], size: usize, entry: Entry, answer: Answer) -> Recorded
-    requires { ⌜ (size + 7 ≤ length (now journal)) × (size + 7 ≤ 60000) ⌝ }
+    requires { ⌜ (size + entrySize ≤ length (now journal)) × (size + entrySize ≤ 60000) ⌝ }
     ensures { λ r. ⌜ RecordedOf entry answer size (now (journal .entry)) r (now (journal .exit)) ⌝ }
 {
     let next = put_entry(journal, size, entry);
@@ -167,7 +131,67 @@ fn record_entry(journal: &mut [u8], size: usize, entry: Entry, answer: Answer) -
     }
 }
 
-// The call add_recorded with the tally by value: the core of `add_recorded`, for programs and other crates.
+// An edit that is recorded, with the tally by value: the core of `add_recorded` and `strike_recorded`, for programs and other crates.
+pub fn record_core(
+    kind: Kind,
+    neighbours: &mut [u16],
+    degrees: &mut [u16],
+    waves: &mut [u16],
+    counts: &mut [u16],
+    trail: &mut [u16],
+    moved: &mut [u16],
+    tally: Tally,
+    a: Bank,
+    b: Bank,
+    journal: &mut [u8],
+    size: usize,
+) -> RecordedEdit
+    ensures { λ r. ⌜ recordResult (r .answer) (after neighbours degrees waves counts trail moved (r .tally)) (now (journal .exit))
+        ≡ recorded kind (a .0) (b .0) (before neighbours degrees waves counts trail moved tally) size (now (journal .entry)) ⌝ }
+{
+    let number = check_edit(
+        kind,
+        neighbours,
+        degrees,
+        waves,
+        counts,
+        trail,
+        moved,
+        tally,
+        a,
+        b,
+        journal,
+        size,
+    );
+    if number != 0 {
+        return refuse(number, tally);
+    }
+    let done = edit_held(
+        kind,
+        neighbours,
+        degrees,
+        waves,
+        counts,
+        trail,
+        moved,
+        tally,
+        a,
+        b,
+    );
+    let after = done.tally;
+    let entry = Entry {
+        kind: kind,
+        a: a,
+        b: b,
+    };
+    let answer = record_entry(journal, size, entry, done.answer);
+    RecordedEdit {
+        answer: answer,
+        tally: after,
+    }
+}
+
+// The core of `add_recorded`.
 pub fn add_recorded_core(
     neighbours: &mut [u16],
     degrees: &mut [u16],
@@ -181,9 +205,11 @@ pub fn add_recorded_core(
     journal: &mut [u8],
     size: usize,
 ) -> RecordedEdit
-    ensures { λ r. ⌜ recordResult (r .answer) (memoryOf (now (neighbours .exit)) (now (degrees .exit)) (now (waves .exit)) (now (counts .exit)) (now (trail .exit)) (now (moved .exit)) (r .tally)) (now (journal .exit)) ≡ recorded adding (a .0) (b .0) (memoryOf (now (neighbours .entry)) (now (degrees .entry)) (now (waves .entry)) (now (counts .entry)) (now (trail .entry)) (now (moved .entry)) tally) size (now (journal .entry)) ⌝ }
+    ensures { λ r. ⌜ recordResult (r .answer) (after neighbours degrees waves counts trail moved (r .tally)) (now (journal .exit))
+        ≡ recorded Adding (a .0) (b .0) (before neighbours degrees waves counts trail moved tally) size (now (journal .entry)) ⌝ }
 {
-    let number = check_add(
+    record_core(
+        Kind::Adding,
         neighbours,
         degrees,
         waves,
@@ -195,30 +221,10 @@ pub fn add_recorded_core(
         b,
         journal,
         size,
-    );
-    if number != 0 {
-        return refuse(number, tally);
-    }
-    let done = add_held(
-        neighbours,
-        degrees,
-        waves,
-        counts,
-        trail,
-        moved,
-        tally,
-        a,
-        b,
-    );
-    let after = done.tally;
-    let answer = record_entry(journal, size, Entry::Add(a, b), done.answer);
-    RecordedEdit {
-        answer: answer,
-        tally: after,
-    }
+    )
 }
 
-// The call strike_recorded with the tally by value: the core of `strike_recorded`, for programs and other crates.
+// The core of `strike_recorded`.
 pub fn strike_recorded_core(
     neighbours: &mut [u16],
     degrees: &mut [u16],
@@ -232,9 +238,11 @@ pub fn strike_recorded_core(
     journal: &mut [u8],
     size: usize,
 ) -> RecordedEdit
-    ensures { λ r. ⌜ recordResult (r .answer) (memoryOf (now (neighbours .exit)) (now (degrees .exit)) (now (waves .exit)) (now (counts .exit)) (now (trail .exit)) (now (moved .exit)) (r .tally)) (now (journal .exit)) ≡ recorded striking (a .0) (b .0) (memoryOf (now (neighbours .entry)) (now (degrees .entry)) (now (waves .entry)) (now (counts .entry)) (now (trail .entry)) (now (moved .entry)) tally) size (now (journal .entry)) ⌝ }
+    ensures { λ r. ⌜ recordResult (r .answer) (after neighbours degrees waves counts trail moved (r .tally)) (now (journal .exit))
+        ≡ recorded Striking (a .0) (b .0) (before neighbours degrees waves counts trail moved tally) size (now (journal .entry)) ⌝ }
 {
-    let number = check_strike(
+    record_core(
+        Kind::Striking,
         neighbours,
         degrees,
         waves,
@@ -246,25 +254,5 @@ pub fn strike_recorded_core(
         b,
         journal,
         size,
-    );
-    if number != 0 {
-        return refuse(number, tally);
-    }
-    let done = strike_held(
-        neighbours,
-        degrees,
-        waves,
-        counts,
-        trail,
-        moved,
-        tally,
-        a,
-        b,
-    );
-    let after = done.tally;
-    let answer = record_entry(journal, size, Entry::Strike(a, b), done.answer);
-    RecordedEdit {
-        answer: answer,
-        tally: after,
-    }
+    )
 }

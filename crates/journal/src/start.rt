@@ -9,20 +9,32 @@ use memory::Tally;
 use planner::check_plan;
 use planner::clashes_held;
 use rule::Bank;
+use rule::Kind;
 ghost use mathlib.Core.List.{[], _∷_};
 ghost use mathlib.Core.Path.{_≡_};
-ghost use Prim.Native.Nat.{_+_, _*_, _≤_};
+ghost use Prim.Native.Nat.{_≤_};
 ghost use lib.ListN.{length};
 ghost use Rattle.rule.specs.Graph.{Graph};
-ghost use Rattle.memory.specs.Plan.{slicesOf, PlanOf};
-ghost use Rattle.sheet_writer.specs.Put.{Puts};
-ghost use Rattle.journal_fields.specs.Fields.{entriesBytes};
+ghost use Rattle.memory.specs.Plan.{PlanOf};
+ghost use Rattle.memory.specs.Lent.{slicesGiven, slicesBefore};
+ghost use Rattle.text.specs.Places.{Room, Wrote};
 ghost use Rattle.journal.specs.Calls.{addsOf, addsBelow, startResult, started};
+ghost use Rattle.journal.specs.inner.Adds.{rowBytes, planBytes};
 
 // The answer of start_journal: the number, and the journal's length, at most 60,000.
 pub struct Started {
     pub number: u16,
     pub length: u16,
+}
+
+// 1 if b is larger than a, else 0.
+fn larger(a: Bank, b: Bank) -> usize
+    ensures { λ r. ⌜ (r ≡ length (addsOf (a .0) (b .0 ∷ []))) × (r ≤ 1) ⌝ }
+{
+    if b.0 <= a.0 {
+        return 0;
+    }
+    1
 }
 
 // How many of these banks are larger than a.
@@ -38,16 +50,6 @@ fn count_larger(row: &[u16], a: Bank) -> usize
     count
 }
 
-// 1 if b is larger than a, else 0.
-fn larger(a: Bank, b: Bank) -> usize
-    ensures { λ r. ⌜ (r ≡ length (addsOf (a .0) (b .0 ∷ []))) × (r ≤ 1) ⌝ }
-{
-    if b.0 <= a.0 {
-        return 0;
-    }
-    1
-}
-
 // The number of clashes of a plan, each counted at its smaller bank.
 fn count_adds(
     neighbours: &[u16],
@@ -56,8 +58,10 @@ fn count_adds(
     counts: &[u16],
     tally: Tally,
 ) -> usize
-    requires { ⌜ ((G : Graph) × PlanOf G (slicesOf (now neighbours) (now degrees) (now waves) (now counts)) tally) ⌝ }
-    ensures { λ r. ⌜ ((G : Graph) → PlanOf G (slicesOf (now (neighbours .entry)) (now (degrees .entry)) (now (waves .entry)) (now (counts .entry))) tally → (r ≡ length (addsBelow G (G .banks))) × (r ≤ 23552)) ⌝ }
+    requires { ⌜ ((G : Graph) × PlanOf G (slicesGiven neighbours degrees waves counts) tally) ⌝ }
+    ensures { λ r. ⌜ ((G : Graph)
+        → PlanOf G (slicesBefore neighbours degrees waves counts) tally
+        → (r ≡ length (addsBelow G (G .banks))) × (r ≤ 23552)) ⌝ }
 {
     let mut count = 0;
     let mut a: u16 = 0;
@@ -71,19 +75,24 @@ fn count_adds(
 
 // Writes the clash of a and b as an add at `at`, if b is larger, and answers the place after it.
 fn put_add(journal: &mut [u8], at: usize, a: Bank, b: Bank) -> usize
-    requires { ⌜ at + length (entriesBytes (addsOf (a .0) (b .0 ∷ []))) ≤ length (now journal) ⌝ }
-    ensures { λ r. ⌜ Puts (entriesBytes (addsOf (a .0) (b .0 ∷ []))) at (now (journal .entry)) r (now (journal .exit)) ⌝ }
+    requires { ⌜ Room (rowBytes (a .0) (b .0 ∷ [])) at journal ⌝ }
+    ensures { λ r. ⌜ Wrote (rowBytes (a .0) (b .0 ∷ [])) at journal r ⌝ }
 {
     if b.0 <= a.0 {
         return at;
     }
-    put_entry(journal, at, Entry::Add(a, b))
+    let entry = Entry {
+        kind: Kind::Adding,
+        a: a,
+        b: b,
+    };
+    put_entry(journal, at, entry)
 }
 
 // Writes the clashes of a with the larger of these banks as adds at `at`, and answers the place after them.
 fn put_adds_of(journal: &mut [u8], at: usize, row: &[u16], a: Bank) -> usize
-    requires { ⌜ at + length (entriesBytes (addsOf (a .0) (now row))) ≤ length (now journal) ⌝ }
-    ensures { λ r. ⌜ Puts (entriesBytes (addsOf (a .0) (now (row .entry)))) at (now (journal .entry)) r (now (journal .exit)) ⌝ }
+    requires { ⌜ Room (rowBytes (a .0) (now row)) at journal ⌝ }
+    ensures { λ r. ⌜ Wrote (rowBytes (a .0) (now (row .entry))) at journal r ⌝ }
 {
     let mut next = at;
     let mut i = 0;
@@ -104,8 +113,13 @@ fn put_adds(
     counts: &[u16],
     tally: Tally,
 ) -> usize
-    requires { ⌜ ((G : Graph) × PlanOf G (slicesOf (now neighbours) (now degrees) (now waves) (now counts)) tally × (at + length (entriesBytes (addsBelow G (G .banks))) ≤ length (now journal))) ⌝ }
-    ensures { λ r. ⌜ ((G : Graph) → PlanOf G (slicesOf (now (neighbours .entry)) (now (degrees .entry)) (now (waves .entry)) (now (counts .entry))) tally → at + length (entriesBytes (addsBelow G (G .banks))) ≤ length (now (journal .entry)) → Puts (entriesBytes (addsBelow G (G .banks))) at (now (journal .entry)) r (now (journal .exit))) ⌝ }
+    requires { ⌜ ((G : Graph)
+        × PlanOf G (slicesGiven neighbours degrees waves counts) tally
+        × Room (planBytes G) at journal) ⌝ }
+    ensures { λ r. ⌜ ((G : Graph)
+        → PlanOf G (slicesBefore neighbours degrees waves counts) tally
+        → Room (planBytes G) at (journal .entry)
+        → Wrote (planBytes G) at journal r) ⌝ }
 {
     let mut next = at;
     let mut a: u16 = 0;
@@ -126,7 +140,8 @@ pub fn start_journal(
     tally: Tally,
     journal: &mut [u8],
 ) -> Started
-    ensures { λ r. ⌜ startResult r (now (journal .exit)) ≡ started (slicesOf (now (neighbours .entry)) (now (degrees .entry)) (now (waves .entry)) (now (counts .entry))) tally (now (journal .entry)) ⌝ }
+    ensures { λ r. ⌜ startResult r (now (journal .exit))
+        ≡ started (slicesBefore neighbours degrees waves counts) tally (now (journal .entry)) ⌝ }
 {
     let number = check_plan(neighbours, degrees, waves, counts, tally);
     if number != 0 {

@@ -10,12 +10,15 @@ use lib.ListN.{length, getD, drop, length-append, List·getD-append}
 use lib.Seq.{getD-drop, drop-cons, drop-append-le}
 use borrow.Author.Tests.{le-leb, leb-true, eqb-true}
 use Rattle.rule.proofs.Booleans.{both-true}
-use Rattle.list_rows.specs.Rows.{bank}
+use Rattle.rule.specs.declared.Kind.{Kind}
+use Rattle.rule.specs.declared.Kind.the-variants.{Adding, Striking}
 use Rattle.journal_fields.specs.declared.field.Entry.{Entry}
-use Rattle.journal_fields.specs.declared.field.Entry.the-variants.{Add, Strike}
 use Rattle.journal_fields.specs.declared.field.Field.{Field}
 use Rattle.journal_fields.specs.declared.field.Field.the-variants.{Edit, Wrong, Short}
-use Rattle.journal_fields.specs.Fields.{twoBytes, numberAt, fieldBytes, firstBytes, banksBytes, entryBytes, entriesBytes, journalBytes, hasFirst, banksIn, isEntryTag, isEntry, entryIn, fieldOf, Fields, fieldsBy, fields}
+use Rattle.journal_fields.specs.Fields.{headSize, firstSize, valueSize, entrySize, firstTag, tagOf, twoBytes, numberAt, fieldBytes, firstBytes}
+use Rattle.journal_fields.specs.Fields.{entryBytes, entriesBytes, journalBytes, hasFirst, banksIn, isEntryTag, kindOf, isEntry, entryIn}
+use Rattle.journal_fields.specs.Fields.{fieldOf, Fields, fieldsBy, fields}
+use Rattle.journal_fields.specs.Bounds.{AreBytes, Below, AllBelow}
 use Rattle.journal_fields.proofs.Reading.{fields-step}
 use Rattle.journal_fields.proofs.Forms.{edit-long}
 use Rattle.journal_fields.proofs.Entries.{length-entries, whole, following, two-back, long-field, fields-written}
@@ -24,23 +27,19 @@ use Rattle.journal_fields.proofs.Entries.{length-entries, whole, follow
 module _ (n : ℕ) (rest : List ℕ) where
   pub first-has : hasFirst (firstBytes n ++ rest) ≡ true
   unfolding hasFirst numberAt firstBytes fieldBytes twoBytes
-  first-has = rw (le-leb 5 (length (firstBytes n ++ rest)) (omega arith))
+  first-has = rw (le-leb firstSize (length (firstBytes n ++ rest)) (omega arith))
 
   pub first-banks : banksIn (firstBytes n ++ rest) ≡ n
   unfolding banksIn numberAt firstBytes fieldBytes twoBytes
   first-banks = two-back n
 
-  pub first-drop : drop 5 (firstBytes n ++ rest) ≡ rest
+  pub first-drop : drop firstSize (firstBytes n ++ rest) ≡ rest
   unfolding firstBytes fieldBytes twoBytes
   first-drop = refl
 
-  pub length-first : length (firstBytes n ++ rest) ≡ 5 + length rest
+  pub length-first : length (firstBytes n ++ rest) ≡ firstSize + length rest
   unfolding firstBytes fieldBytes twoBytes
   length-first = omega arith
-
--- each is below 256
-abbrev pub AreBytes : List ℕ → Type 0
-AreBytes bytes = (i : ℕ) → getD bytes i 0 < 256
 
 bytes-drop : (k : ℕ) (bytes : List ℕ) → AreBytes bytes → AreBytes (drop k bytes)
 bytes-drop k bytes b i = rw (getD-drop k bytes i 0) (b (k + i))
@@ -62,30 +61,41 @@ module _ (bytes : List ℕ) where
         at k (x % 256) (x / 256 ∷ xs) (omega arith) p (at (suc k) (x / 256) xs h (rw (add-one k) at q) r)
 
     -- a field's tag, length and value
-    field-at : (tag size : ℕ) (value : List ℕ) → 3 ≤ length bytes → getD bytes 0 0 ≡ tag → numberAt 1 bytes ≡ size → drop 3 bytes ≡ value
+    field-at : (tag size : ℕ) (value : List ℕ) → headSize ≤ length bytes → getD bytes 0 0 ≡ tag → numberAt 1 bytes ≡ size → drop headSize bytes ≡ value
         → bytes ≡ tag ∷ (twoBytes size ++ value)
     field-at tag size value h e l r = at 0 tag (twoBytes size ++ value) (omega arith) e (two-at 1 size value (omega arith) l r)
 
     -- bytes with a first field start with it
-    pub first-only : hasFirst bytes ≡ true → bytes ≡ firstBytes (banksIn bytes) ++ drop 5 bytes
+    pub first-only : hasFirst bytes ≡ true → bytes ≡ firstBytes (banksIn bytes) ++ drop firstSize bytes
     unfolding hasFirst banksIn firstBytes fieldBytes twoBytes
     first-only h =
-        let p = both-true (leb 5 (length bytes)) (eqb (getD bytes 0 0) 78 && eqb (numberAt 1 bytes) 2) h in
-        let q = both-true (eqb (getD bytes 0 0) 78) (eqb (numberAt 1 bytes) 2) (p .1) in
-        let l = leb-true 5 (length bytes) (p .0) in
-        field-at 78 2 (twoBytes (numberAt 3 bytes) ++ drop 5 bytes) (omega arith) (eqb-true (getD bytes 0 0) 78 (q .0)) (eqb-true (numberAt 1 bytes) 2 (q .1))
-        (two-at 3 (numberAt 3 bytes) (drop 5 bytes) (omega arith) refl refl)
+        let p = both-true (leb firstSize (length bytes)) (eqb (getD bytes 0 0) firstTag && eqb (numberAt 1 bytes) 2) h in
+        let q = both-true (eqb (getD bytes 0 0) firstTag) (eqb (numberAt 1 bytes) 2) (p .1) in
+        let l = leb-true firstSize (length bytes) (p .0) in
+        field-at firstTag 2 (twoBytes (banksIn bytes) ++ drop firstSize bytes) (omega arith) (eqb-true (getD bytes 0 0) firstTag (q .0)) (eqb-true (numberAt 1 bytes) 2 (q .1))
+        (two-at headSize (banksIn bytes) (drop firstSize bytes) (omega arith) refl refl)
 
     -- an entry's bytes, by its tag
-    banks-only : (tag : ℕ) → 7 ≤ length bytes → getD bytes 0 0 ≡ tag → numberAt 1 bytes ≡ 4
-        → bytes ≡ banksBytes tag (numberAt 3 bytes) (numberAt 5 bytes) ++ drop 7 bytes
-    unfolding banksBytes fieldBytes twoBytes
-    banks-only tag l t s =
-        field-at tag 4 _ (omega arith) t s
-        (two-at 3 (numberAt 3 bytes) (twoBytes (numberAt 5 bytes) ++ drop 7 bytes) (omega arith) refl (two-at 5 (numberAt 5 bytes) (drop 7 bytes) (omega arith) refl refl))
+    pair-only : (tag : ℕ) → entrySize ≤ length bytes → getD bytes 0 0 ≡ tag → numberAt 1 bytes ≡ valueSize
+        → bytes ≡ fieldBytes tag (twoBytes (numberAt headSize bytes) ++ twoBytes (numberAt (headSize + 2) bytes)) ++ drop entrySize bytes
+    unfolding fieldBytes twoBytes
+    pair-only tag l t s =
+        let a = numberAt headSize bytes in
+        let b = numberAt (headSize + 2) bytes in
+        field-at tag valueSize _ (omega arith) t s
+        (two-at headSize a (twoBytes b ++ drop entrySize bytes) (omega arith) refl (two-at (headSize + 2) b (drop entrySize bytes) (omega arith) refl refl))
+
+-- an entry's tag is that of its kind
+tag-only : (tag : ℕ) → isEntryTag tag ≡ true → tag ≡ tagOf (kindOf tag)
+unfolding isEntryTag kindOf
+tag-only tag h = by (eqb tag (tagOf Adding)) refl h
+  where
+    by : (c : Bool) → eqb tag (tagOf Adding) ≡ c → (c || eqb tag (tagOf Striking)) ≡ true → tag ≡ tagOf (cond c Adding Striking)
+    by true u v = eqb-true tag (tagOf Adding) u
+    by false u v = eqb-true tag (tagOf Striking) v
 
 -- what a field that is an entry says of its bytes
-edit-field : (bytes : List ℕ) (e : Entry) → fieldOf bytes ≡ Edit e → (7 ≤ length bytes) × (isEntry bytes ≡ true) × (entryIn bytes ≡ e)
+edit-field : (bytes : List ℕ) (e : Entry) → fieldOf bytes ≡ Edit e → (entrySize ≤ length bytes) × (isEntry bytes ≡ true) × (entryIn bytes ≡ e)
 edit-field bytes e q =
     let l = edit-long bytes e (sym q) in
     let r = by (isEntry bytes) (sym (long-field bytes l) ∙ q) in
@@ -96,21 +106,13 @@ edit-field bytes e q =
     by false q = let z : _≡_ {A = ℕ} 0 1 = cc in absurd (omega arith)
 
 -- bytes with an entry at the front start with its bytes
-entry-only : (bytes : List ℕ) (e : Entry) → AreBytes bytes → fieldOf bytes ≡ Edit e → bytes ≡ entryBytes e ++ drop 7 bytes
-unfolding isEntry isEntryTag entryIn entryBytes
+entry-only : (bytes : List ℕ) (e : Entry) → AreBytes bytes → fieldOf bytes ≡ Edit e → bytes ≡ entryBytes e ++ drop entrySize bytes
+unfolding isEntry entryIn entryBytes
 entry-only bytes e b q =
     let f = edit-field bytes e q in
     let t = getD bytes 0 0 in
-    let p = both-true (eqb t 43 || eqb t 45) (eqb (numberAt 1 bytes) 4) (f .1) in
-    rw (← (f .2)) (go (f .0) (eqb-true (numberAt 1 bytes) 4 (p .1)) (eqb t 43) refl (p .0))
-  where
-    entry : Bool → Entry
-    entry c = cond c (Add (bank (numberAt 3 bytes)) (bank (numberAt 5 bytes))) (Strike (bank (numberAt 3 bytes)) (bank (numberAt 5 bytes)))
-
-    go : 7 ≤ length bytes → numberAt 1 bytes ≡ 4 → (c : Bool) → eqb (getD bytes 0 0) 43 ≡ c → (c || eqb (getD bytes 0 0) 45) ≡ true
-        → bytes ≡ entryBytes (entry c) ++ drop 7 bytes
-    go l s true u v = banks-only bytes b 43 l (eqb-true (getD bytes 0 0) 43 u) s
-    go l s false u v = banks-only bytes b 45 l (eqb-true (getD bytes 0 0) 45 v) s
+    let p = both-true (isEntryTag t) (eqb (numberAt 1 bytes) valueSize) (f .1) in
+    rw (← (f .2)) (pair-only bytes b (tagOf (kindOf t)) (f .0) (tag-only t (p .0)) (eqb-true (numberAt 1 bytes) valueSize (p .1)))
 
 -- fields that are whole: none, or one and the others
 whole-none : (f : Field) (size : ℕ) (rest : Fields) → fieldsBy f size rest ≡ whole [] → size ≡ 0
@@ -123,7 +125,7 @@ whole-none Wrong size rest q =
     let w : true ≡ false = ap (λ (x : Fields). x .wrong) q in
     let z : _≡_ {A = ℕ} 0 1 = cc in
     absurd (omega arith)
-whole-none Short size rest q = ap (λ (x : Fields). x .left) q
+whole-none Short size rest q = ap (λ (x : Fields). x .leftOver) q
 
 entries-more : (f : Field) (size : ℕ) (rest : Fields) (e : Entry) (es : List Entry) → fieldsBy f size rest .entries ≡ e ∷ es
     → (f ≡ Edit e) × (rest .entries ≡ es)
@@ -139,21 +141,21 @@ no-bytes [] z = refl
 no-bytes (x ∷ xs) z = absurd (omega arith)
 
 pub read-none : (bytes : List ℕ) → fields bytes ≡ whole [] → bytes ≡ []
-read-none bytes q = no-bytes bytes (whole-none (fieldOf bytes) (length bytes) (fields (drop 7 bytes)) (sym (fields-step bytes) ∙ q))
+read-none bytes q = no-bytes bytes (whole-none (fieldOf bytes) (length bytes) (fields (drop entrySize bytes)) (sym (fields-step bytes) ∙ q))
 
 -- bytes with an entry first: the field at the front is it, and the rest have the other entries
 module _ (bytes : List ℕ) (e : Entry) (es : List Entry) where
-  pub read-first : fields bytes .entries ≡ e ∷ es → (fieldOf bytes ≡ Edit e) × (fields (drop 7 bytes) .entries ≡ es)
+  pub read-first : fields bytes .entries ≡ e ∷ es → (fieldOf bytes ≡ Edit e) × (fields (drop entrySize bytes) .entries ≡ es)
   read-first q =
-      entries-more (fieldOf bytes) (length bytes) (fields (drop 7 bytes)) e es (ap (λ (x : Fields). x .entries) (sym (fields-step bytes)) ∙ q)
+      entries-more (fieldOf bytes) (length bytes) (fields (drop entrySize bytes)) e es (ap (λ (x : Fields). x .entries) (sym (fields-step bytes)) ∙ q)
 
-  read-more : fields bytes ≡ whole (e ∷ es) → (fieldOf bytes ≡ Edit e) × (fields (drop 7 bytes) ≡ whole es)
+  read-more : fields bytes ≡ whole (e ∷ es) → (fieldOf bytes ≡ Edit e) × (fields (drop entrySize bytes) ≡ whole es)
   unfolding fieldsBy
   read-more q =
       let r = read-first (ap (λ (x : Fields). x .entries) q) in
-      let p : following (e ∷ []) (fields (drop 7 bytes)) ≡ whole (e ∷ es) =
-      sym (fields-step bytes ∙ ap (λ (f : Field). fieldsBy f (length bytes) (fields (drop 7 bytes))) (r .0)) ∙ q in
-      (r .0, λ i. record { entries = r .1 i; wrong = p i .wrong; left = p i .left })
+      let p : following (e ∷ []) (fields (drop entrySize bytes)) ≡ whole (e ∷ es) =
+      sym (fields-step bytes ∙ ap (λ (f : Field). fieldsBy f (length bytes) (fields (drop entrySize bytes))) (r .0)) ∙ q in
+      (r .0, λ i. record { entries = r .1 i; wrong = p i .wrong; leftOver = p i .leftOver })
 
 -- bytes that read as entries, and nothing else, are those of the entries
 pub fields-only : (es : List Entry) (bytes : List ℕ) → AreBytes bytes → fields bytes ≡ whole es → bytes ≡ entriesBytes es
@@ -161,22 +163,22 @@ unfolding entriesBytes
 fields-only [] bytes b q = read-none bytes q
 fields-only (e ∷ es) bytes b q =
     let r = read-more bytes e es q in
-    entry-only bytes e b (r .0) ∙ ap (λ (l : List ℕ). entryBytes e ++ l) (fields-only es (drop 7 bytes) (bytes-drop 7 bytes b) (r .1))
+    entry-only bytes e b (r .0) ∙ ap (λ (l : List ℕ). entryBytes e ++ l) (fields-only es (drop entrySize bytes) (bytes-drop entrySize bytes b) (r .1))
 
-pub first-long : (bytes : List ℕ) → hasFirst bytes ≡ true → 5 ≤ length bytes
+pub first-long : (bytes : List ℕ) → hasFirst bytes ≡ true → firstSize ≤ length bytes
 unfolding hasFirst
-first-long bytes h = leb-true 5 (length bytes) (both-true (leb 5 (length bytes)) _ h .0)
+first-long bytes h = leb-true firstSize (length bytes) (both-true (leb firstSize (length bytes)) _ h .0)
 
--- a first field goes by its 5 bytes, and an entry by its 7
+-- a first field goes by its firstSize bytes, and an entry by its entrySize
 module _ (l l′ : List ℕ) where
-  pub first-same : 5 ≤ length l → 5 ≤ length l′ → ((i : ℕ) → i < 5 → getD l i 0 ≡ getD l′ i 0) → (hasFirst l ≡ hasFirst l′) × (banksIn l ≡ banksIn l′)
+  pub first-same : firstSize ≤ length l → firstSize ≤ length l′ → ((i : ℕ) → i < firstSize → getD l i 0 ≡ getD l′ i 0) → (hasFirst l ≡ hasFirst l′) × (banksIn l ≡ banksIn l′)
   unfolding hasFirst banksIn numberAt
   first-same h h′ e = (
-    rw (le-leb 5 (length l) h, le-leb 5 (length l′) h′, e 0 (omega arith), e 1 (omega arith), e 2 (omega arith)),
+    rw (le-leb firstSize (length l) h, le-leb firstSize (length l′) h′, e 0 (omega arith), e 1 (omega arith), e 2 (omega arith)),
     rw (e 3 (omega arith), e 4 (omega arith)),
   )
 
-  pub field-same : 7 ≤ length l → 7 ≤ length l′ → ((i : ℕ) → i < 7 → getD l i 0 ≡ getD l′ i 0) → fieldOf l ≡ fieldOf l′
+  pub field-same : entrySize ≤ length l → entrySize ≤ length l′ → ((i : ℕ) → i < entrySize → getD l i 0 ≡ getD l′ i 0) → fieldOf l ≡ fieldOf l′
   unfolding isEntry entryIn numberAt
   field-same h h′ e =
       long-field l h
@@ -192,7 +194,7 @@ fields-more (e ∷ es) bytes more q =
     let l = edit-field bytes e (r .0) .0 in
     let f = field-same (bytes ++ more) bytes (omega (arith, length-append bytes more)) l (λ i h. List·getD-append bytes more 0 i (omega arith)) in
     fields-step (bytes ++ more)
-    ∙ rw (f ∙ r .0, drop-append-le 7 bytes more l) (ap (following (e ∷ [])) (fields-more es (drop 7 bytes) more (r .1)))
+    ∙ rw (f ∙ r .0, drop-append-le entrySize bytes more l) (ap (following (e ∷ [])) (fields-more es (drop entrySize bytes) more (r .1)))
 
 -- the bytes of a journal are bytes
 bytes-cons : (x : ℕ) (xs : List ℕ) → x < 256 → AreBytes xs → AreBytes (x ∷ xs)
@@ -207,24 +209,16 @@ bytes-two x xs h b = bytes-cons (x % 256) (x / 256 ∷ xs) (omega arith) (bytes-
 bytes-field : (tag size : ℕ) (value : List ℕ) → tag < 256 → size < 65536 → AreBytes value → AreBytes (tag ∷ (twoBytes size ++ value))
 bytes-field tag size value t s r = bytes-cons tag (twoBytes size ++ value) t (bytes-two size value s r)
 
-bytes-banks : (tag a b : ℕ) (xs : List ℕ) → tag < 256 → a < 65536 → b < 65536 → AreBytes xs → AreBytes (banksBytes tag a b ++ xs)
-unfolding banksBytes fieldBytes twoBytes
-bytes-banks tag a b xs t ha hb r =
-    bytes-field tag 4 (twoBytes a ++ (twoBytes b ++ xs)) t (omega arith) (bytes-two a (twoBytes b ++ xs) ha (bytes-two b xs hb r))
-
--- the banks of an entry, and of entries, are below k
-abbrev pub Below : ℕ → Entry → Type 0
-Below k (Add a b) = (a .0 < k) × (b .0 < k)
-Below k (Strike a b) = (a .0 < k) × (b .0 < k)
-
-abbrev pub AllBelow : ℕ → List Entry → Type 0
-AllBelow k [] = Unit {0}
-AllBelow k (e ∷ es) = Below k e × AllBelow k es
+tag-byte : (k : Kind) → tagOf k < 256
+unfolding tagOf
+tag-byte Adding = omega arith
+tag-byte Striking = omega arith
 
 bytes-entry : (e : Entry) (xs : List ℕ) → Below 65536 e → AreBytes xs → AreBytes (entryBytes e ++ xs)
-unfolding entryBytes
-bytes-entry (Add a b) xs h r = bytes-banks 43 (a .0) (b .0) xs (omega arith) (h .0) (h .1) r
-bytes-entry (Strike a b) xs h r = bytes-banks 45 (a .0) (b .0) xs (omega arith) (h .0) (h .1) r
+unfolding entryBytes fieldBytes twoBytes
+bytes-entry e xs h r =
+    bytes-field (tagOf (e .kind)) valueSize (twoBytes (e .a .0) ++ (twoBytes (e .b .0) ++ xs)) (tag-byte (e .kind)) (omega arith)
+    (bytes-two (e .a .0) (twoBytes (e .b .0) ++ xs) (h .0) (bytes-two (e .b .0) xs (h .1) r))
 
 bytes-entries : (es : List Entry) → AllBelow 65536 es → AreBytes (entriesBytes es)
 unfolding entriesBytes
@@ -233,7 +227,7 @@ bytes-entries (e ∷ es) h = bytes-entry e (entriesBytes es) (h .0) (bytes-entri
 
 pub journal-bytes : (n : ℕ) (es : List Entry) → n < 65536 → AllBelow 65536 es → AreBytes (journalBytes n es)
 unfolding journalBytes firstBytes fieldBytes twoBytes
-journal-bytes n es l h = bytes-field 78 2 (twoBytes n ++ entriesBytes es) (omega arith) (omega arith) (bytes-two n (entriesBytes es) l (bytes-entries es h))
+journal-bytes n es l h = bytes-field firstTag 2 (twoBytes n ++ entriesBytes es) (omega arith) (omega arith) (bytes-two n (entriesBytes es) l (bytes-entries es h))
 
 -- a journal that was written, read
 module _ (n : ℕ) (es : List Entry) where
@@ -245,21 +239,21 @@ module _ (n : ℕ) (es : List Entry) where
   unfolding journalBytes
   journal-banks = first-banks n (entriesBytes es)
 
-  pub journal-drop : drop 5 (journalBytes n es) ≡ entriesBytes es
+  pub journal-drop : drop firstSize (journalBytes n es) ≡ entriesBytes es
   unfolding journalBytes
   journal-drop = first-drop n (entriesBytes es)
 
-  pub journal-fields : fields (drop 5 (journalBytes n es)) ≡ whole es
+  pub journal-fields : fields (drop firstSize (journalBytes n es)) ≡ whole es
   journal-fields = ap fields journal-drop ∙ fields-written es
 
-  pub length-journal : length (journalBytes n es) ≡ 5 + 7 * length es
+  pub length-journal : length (journalBytes n es) ≡ firstSize + entrySize * length es
   unfolding journalBytes
   length-journal = omega (arith, length-first n (entriesBytes es), length-entries es)
 
 -- bytes that read as a journal are the journal's
-pub journal-only : (bytes : List ℕ) (n : ℕ) (es : List Entry) → AreBytes bytes → hasFirst bytes ≡ true → banksIn bytes ≡ n → fields (drop 5 bytes) ≡ whole es
+pub journal-only : (bytes : List ℕ) (n : ℕ) (es : List Entry) → AreBytes bytes → hasFirst bytes ≡ true → banksIn bytes ≡ n → fields (drop firstSize bytes) ≡ whole es
     → bytes ≡ journalBytes n es
 unfolding journalBytes
 journal-only bytes n es b h k q =
     first-only bytes b h
-    ∙ ap₂ (λ (x : ℕ) (l : List ℕ). firstBytes x ++ l) k (fields-only es (drop 5 bytes) (bytes-drop 5 bytes b) q)
+    ∙ ap₂ (λ (x : ℕ) (l : List ℕ). firstBytes x ++ l) k (fields-only es (drop firstSize bytes) (bytes-drop firstSize bytes b) q)

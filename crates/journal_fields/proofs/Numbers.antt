@@ -11,7 +11,7 @@ use borrow.Author.Tests.{le-leb, lt-leb, leb-true}
 use Rattle.rule.proofs.Booleans.{both-true}
 use Rattle.planner.specs.Questions.{firstNo}
 use Rattle.planner.proofs.Numbers.{none}
-use Rattle.journal_fields.specs.Fields.{hasFirst}
+use Rattle.journal_fields.specs.Fields.{firstSize, hasFirst}
 use Rattle.journal_fields.specs.Numbers.{firstOf, spaceNumber, headNumber}
 use Rattle.journal_fields.proofs.Bytes.{first-long}
 
@@ -99,5 +99,5 @@ module _ (size : ℕ) (journal : List ℕ) where
     size-first = passed .2
 
     -- and have room for it
-    pub size-five : 5 ≤ size
-    size-five = omega (arith, first-long (take size journal) size-first, length-take-le size journal size-inside)
+    pub size-first-field : firstSize ≤ size
+    size-first-field = omega (arith, first-long (take size journal) size-first, length-take-le size journal size-inside)

@@ -5,13 +5,13 @@ use mathlib.Core.Path.{_≡_}
 use Prim.Native.Nat.{ℕ, _*_, _/_, _%_, _≤_, _<_}
 use lib.ListN.{length, take, drop}
 use Rattle.journal_fields.specs.declared.field.Entry.{Entry}
-use Rattle.journal_fields.specs.Fields.{entriesBytes, journalBytes, hasFirst, banksIn, fields}
+use Rattle.journal_fields.specs.Fields.{firstSize, entrySize, entriesBytes, journalBytes, hasFirst, banksIn, fields}
+use Rattle.journal_fields.specs.Bounds.{AreBytes, AllBelow}
 use Rattle.journal_fields.proofs.Entries as Entries
 use Rattle.journal_fields.proofs.Bytes as Bytes
-use Rattle.journal_fields.proofs.Bytes.{AreBytes, AllBelow}
 
 -- 1. a journal that was written reads as its bank count and its entries, with no wrong field and nothing left over
-pub fields-back : (es : List Entry) → fields (entriesBytes es) ≡ record { entries = es; wrong = false; left = 0 }
+pub fields-back : (es : List Entry) → fields (entriesBytes es) ≡ record { entries = es; wrong = false; leftOver = 0 }
 fields-back = Entries.fields-written
 
 module _ (n : ℕ) (es : List Entry) where
@@ -21,7 +21,7 @@ module _ (n : ℕ) (es : List Entry) where
   pub journal-banks : banksIn (journalBytes n es) ≡ n
   journal-banks = Bytes.journal-banks n es
 
-  pub journal-fields : fields (drop 5 (journalBytes n es)) ≡ record { entries = es; wrong = false; left = 0 }
+  pub journal-fields : fields (drop firstSize (journalBytes n es)) ≡ record { entries = es; wrong = false; leftOver = 0 }
   journal-fields = Bytes.journal-fields n es
 
   -- numbers below 65,536 are written as bytes,
@@ -30,10 +30,10 @@ module _ (n : ℕ) (es : List Entry) where
 
   -- and no other bytes read so
   pub journal-only : (bytes : List ℕ) → AreBytes bytes → hasFirst bytes ≡ true → banksIn bytes ≡ n
-      → fields (drop 5 bytes) ≡ record { entries = es; wrong = false; left = 0 } → bytes ≡ journalBytes n es
+      → fields (drop firstSize bytes) ≡ record { entries = es; wrong = false; leftOver = 0 } → bytes ≡ journalBytes n es
   journal-only bytes = Bytes.journal-only bytes n es
 
 -- 2. cut at byte i after its first field, it reads as its whole fields and the bytes left over
-pub cut-fields : (es : List Entry) (i : ℕ) → i ≤ 7 * length es
-    → fields (take i (entriesBytes es)) ≡ record { entries = take (i / 7) es; wrong = false; left = i % 7 }
+pub cut-fields : (es : List Entry) (i : ℕ) → i ≤ entrySize * length es
+    → fields (take i (entriesBytes es)) ≡ record { entries = take (i / entrySize) es; wrong = false; leftOver = i % entrySize }
 cut-fields = Entries.fields-cut

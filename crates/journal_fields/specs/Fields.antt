@@ -4,11 +4,34 @@ use mathlib.Core.List.{List, [], _∷_, _++_}
 use Prim.Native.Nat.{ℕ, zero, suc, _+_, _*_, _/_, _%_}
 use lib.Dec.{ltb, leb, eqb}
 use lib.ListN.{length, getD, drop}
-use Rattle.list_rows.specs.Rows.{bank}
+use Rattle.rule.specs.Numbers.{bank}
+use Rattle.rule.specs.declared.Kind.{Kind}
+use Rattle.rule.specs.declared.Kind.the-variants.{Adding, Striking}
 use Rattle.journal_fields.specs.declared.field.Entry.{Entry}
-use Rattle.journal_fields.specs.declared.field.Entry.the-variants.{Add, Strike}
 use Rattle.journal_fields.specs.declared.field.Field.{Field}
 use Rattle.journal_fields.specs.declared.field.Field.the-variants.{Edit, Wrong, Short}
+
+-- how many bytes: a tag and a length, the first field, an entry's value and its field
+abbrev pub headSize : ℕ
+headSize = 3
+
+abbrev pub firstSize : ℕ
+firstSize = headSize + 2
+
+abbrev pub valueSize : ℕ
+valueSize = 4
+
+abbrev pub entrySize : ℕ
+entrySize = headSize + valueSize
+
+-- the tag of the first field: 4E hex
+abbrev pub firstTag : ℕ
+firstTag = 78
+
+-- the tag of an entry: 2B hex for add and 2D hex for strike
+unfoldable pub tagOf : Kind → ℕ
+tagOf Adding = 43
+tagOf Striking = 45
 
 -- a 16-bit number as two bytes, the low one first
 unfoldable pub twoBytes : ℕ → List ℕ
@@ -22,18 +45,13 @@ numberAt i bytes = getD bytes i 0 + 256 * getD bytes (i + 1) 0
 unfoldable pub fieldBytes : ℕ → List ℕ → List ℕ
 fieldBytes tag value = tag ∷ (twoBytes (length value) ++ value)
 
--- the first field: tag 4E hex, value n
+-- the first field: its value is n
 unfoldable pub firstBytes : ℕ → List ℕ
-firstBytes n = fieldBytes 78 (twoBytes n)
+firstBytes n = fieldBytes firstTag (twoBytes n)
 
--- a field of two banks, in the order given
-unfoldable pub banksBytes : ℕ → ℕ → ℕ → List ℕ
-banksBytes tag a b = fieldBytes tag (twoBytes a ++ twoBytes b)
-
--- an entry's field: tag 2B hex for add and 2D hex for strike
+-- an entry's field: its value is the two banks, in the order given
 unfoldable pub entryBytes : Entry → List ℕ
-entryBytes (Add a b) = banksBytes 43 (a .0) (b .0)
-entryBytes (Strike a b) = banksBytes 45 (a .0) (b .0)
+entryBytes e = fieldBytes (tagOf (e .kind)) (twoBytes (e .a .0) ++ twoBytes (e .b .0))
 
 -- the fields of entries, one after the other
 unfoldable pub entriesBytes : List Entry → List ℕ
@@ -46,44 +64,49 @@ journalBytes n es = firstBytes n ++ entriesBytes es
 
 -- is the first field whole, with its tag and length right?
 unfoldable pub hasFirst : List ℕ → Bool
-hasFirst bytes = leb 5 (length bytes) && (eqb (getD bytes 0 0) 78 && eqb (numberAt 1 bytes) 2)
+hasFirst bytes = leb firstSize (length bytes) && (eqb (getD bytes 0 0) firstTag && eqb (numberAt 1 bytes) 2)
 
 -- the banks that it names
 unfoldable pub banksIn : List ℕ → ℕ
-banksIn bytes = numberAt 3 bytes
+banksIn bytes = numberAt headSize bytes
 
 -- is the tag an entry's?
 unfoldable pub isEntryTag : ℕ → Bool
-isEntryTag tag = eqb tag 43 || eqb tag 45
+isEntryTag tag = eqb tag (tagOf Adding) || eqb tag (tagOf Striking)
+
+-- the kind of an entry that has this tag
+unfoldable pub kindOf : ℕ → Kind
+kindOf tag = cond (eqb tag (tagOf Adding)) Adding Striking
 
 -- are the tag and the length an entry's?
 unfoldable pub isEntry : List ℕ → Bool
-isEntry bytes = isEntryTag (getD bytes 0 0) && eqb (numberAt 1 bytes) 4
+isEntry bytes = isEntryTag (getD bytes 0 0) && eqb (numberAt 1 bytes) valueSize
 
 -- the entry of a whole field
 unfoldable pub entryIn : List ℕ → Entry
-entryIn bytes = cond (eqb (getD bytes 0 0) 43) (Add (bank (numberAt 3 bytes)) (bank (numberAt 5 bytes))) (Strike (bank (numberAt 3 bytes)) (bank (numberAt 5 bytes)))
+entryIn bytes = record { kind = kindOf (getD bytes 0 0); a = bank (numberAt headSize bytes); b = bank (numberAt (headSize + 2) bytes) }
 
--- what stands at the front: fewer than 3 bytes, or a right tag and length with a short value, are left over
+-- what stands at the front: less than a tag and a length, or a right tag and length with a short value, is left over
 unfoldable pub fieldOf : List ℕ → Field
-fieldOf bytes = cond (ltb (length bytes) 3) Short (cond (isEntry bytes) (cond (ltb (length bytes) 7) Short (Edit (entryIn bytes))) Wrong)
+fieldOf bytes =
+    cond (ltb (length bytes) headSize) Short (cond (isEntry bytes) (cond (ltb (length bytes) entrySize) Short (Edit (entryIn bytes))) Wrong)
 
 -- what the bytes after the first field read as: the entries, and then a field that is wrong, or so many bytes left over
 pub record Fields : Type 0 where
   pub entries : List Entry
   pub wrong : Bool
-  pub left : ℕ
+  pub leftOver : ℕ
 
 -- by what stands at the front of this many bytes
 unfoldable pub fieldsBy : Field → ℕ → Fields → Fields
-fieldsBy (Edit e) size rest = record { entries = e ∷ rest .entries; wrong = rest .wrong; left = rest .left }
-fieldsBy Wrong size rest = record { entries = []; wrong = true; left = 0 }
-fieldsBy Short size rest = record { entries = []; wrong = false; left = size }
+fieldsBy (Edit e) size rest = record { entries = e ∷ rest .entries; wrong = rest .wrong; leftOver = rest .leftOver }
+fieldsBy Wrong size rest = record { entries = []; wrong = true; leftOver = 0 }
+fieldsBy Short size rest = record { entries = []; wrong = false; leftOver = size }
 
--- the fields, if they are no more than `depth`; an entry's has 7 bytes
+-- the fields, if they are no more than `depth`
 unfoldable pub fieldsIn : ℕ → List ℕ → Fields
-fieldsIn zero bytes = fieldsBy Short (length bytes) (record { entries = []; wrong = false; left = 0 })
-fieldsIn (suc depth) bytes = fieldsBy (fieldOf bytes) (length bytes) (fieldsIn depth (drop 7 bytes))
+fieldsIn zero bytes = fieldsBy Short (length bytes) (record { entries = []; wrong = false; leftOver = 0 })
+fieldsIn (suc depth) bytes = fieldsBy (fieldOf bytes) (length bytes) (fieldsIn depth (drop entrySize bytes))
 
 -- the fields: no more than there are bytes
 unfoldable pub fields : List ℕ → Fields
@@ -91,4 +114,4 @@ fields bytes = fieldsIn (length bytes) bytes
 
 -- are they whole, with no wrong one and no byte left over?
 unfoldable pub areWhole : Fields → Bool
-areWhole f = not (f .wrong) && eqb (f .left) 0
+areWhole f = not (f .wrong) && eqb (f .leftOver) 0

@@ -1,4 +1,4 @@
--- What a reader must believe of a journal's bytes: Fields, Numbers. Examples are computed.
+-- What a reader must believe of a journal's bytes: Fields, Numbers; Bounds for the theorems.
 pub mod Fields
 pub mod Numbers
-pub mod Examples
+pub mod Bounds

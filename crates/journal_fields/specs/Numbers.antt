@@ -5,7 +5,7 @@ use Prim.Native.Nat.{ℕ, zero, suc}
 use lib.Dec.{leb}
 use lib.ListN.{length, take, drop}
 use Rattle.planner.specs.Questions.{_else_, firstNo}
-use Rattle.journal_fields.specs.Fields.{hasFirst, fields, areWhole}
+use Rattle.journal_fields.specs.Fields.{firstSize, hasFirst, fields, areWhole}
 
 -- the first number that is not 0
 unfoldable pub firstOf : List ℕ → ℕ
@@ -24,4 +24,4 @@ headNumber size journal =
 
 -- are its other fields entries, with nothing left over?
 unfoldable pub fieldsNumber : ℕ → List ℕ → ℕ
-fieldsNumber size journal = firstNo ((areWhole (fields (drop 5 (take size journal))) else 14) ∷ [])
+fieldsNumber size journal = firstNo ((areWhole (fields (drop firstSize (take size journal))) else 14) ∷ [])

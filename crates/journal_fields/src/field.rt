@@ -1,16 +1,19 @@
 // A journal's fields: a one-byte tag, a two-byte length and the value, low byte first.
 use rule::Bank;
-use sheet_writer::put_text;
+use rule::Kind;
+use text::put_text;
 ghost use mathlib.Core.Path.{_≡_};
 ghost use Prim.Native.Nat.{_+_, _≤_, _<_};
 ghost use lib.ListN.{length};
-ghost use Rattle.sheet_writer.specs.Put.{Puts};
-ghost use Rattle.journal_fields.specs.Fields.{numberAt, hasFirst, firstBytes, banksBytes, entryBytes, isEntryTag, isEntry, entryIn, fieldOf, fields, areWhole};
+ghost use Rattle.text.specs.Places.{Wrote};
+ghost use Rattle.journal_fields.specs.Fields.{headSize, firstSize, entrySize, tagOf, kindOf, numberAt, hasFirst, firstBytes, entryBytes};
+ghost use Rattle.journal_fields.specs.Fields.{isEntryTag, isEntry, entryIn, fieldOf, fields, areWhole};
 
 // An edit as a journal has it.
-pub enum Entry {
-    Add(Bank, Bank),
-    Strike(Bank, Bank),
+pub struct Entry {
+    pub kind: Kind,
+    pub a: Bank,
+    pub b: Bank,
 }
 
 // What stands at the front of the bytes after the first field.
@@ -31,9 +34,12 @@ const FIRST_VALUE: u8 = 2;
 
 const ENTRY_VALUE: u8 = 4;
 
-// The bytes of a tag and a length, of the first field and of an entry's.
+// The bytes of a tag and a length, and the place of an entry's second bank.
 const HEAD_BYTES: usize = 3;
 
+const SECOND_PLACE: usize = 5;
+
+// The bytes of the first field and of an entry's.
 pub const FIRST_BYTES: usize = 5;
 
 pub const ENTRY_BYTES: usize = 7;
@@ -68,6 +74,26 @@ pub fn has_first(bytes: &[u8]) -> bool
     number_at(bytes, 1) == wide_byte(FIRST_VALUE)
 }
 
+// The tag of an entry of this kind.
+fn tag_of(kind: Kind) -> u8
+    ensures { λ r. ⌜ r ≡ tagOf kind ⌝ }
+{
+    match kind {
+        Kind::Adding => ADD_TAG,
+        Kind::Striking => STRIKE_TAG,
+    }
+}
+
+// The kind of an entry that has this tag.
+fn kind_of(tag: u8) -> Kind
+    ensures { λ r. ⌜ r ≡ kindOf tag ⌝ }
+{
+    if tag == ADD_TAG {
+        return Kind::Adding;
+    }
+    Kind::Striking
+}
+
 // Whether a tag is an entry's.
 fn is_entry_tag(tag: u8) -> bool
     ensures { λ r. ⌜ r ≡ isEntryTag tag ⌝ }
@@ -80,7 +106,7 @@ fn is_entry_tag(tag: u8) -> bool
 
 // Whether a tag and a length are an entry's.
 fn is_entry(bytes: &[u8]) -> bool
-    requires { ⌜ 3 ≤ length (now bytes) ⌝ }
+    requires { ⌜ headSize ≤ length (now bytes) ⌝ }
     ensures { λ r. ⌜ r ≡ isEntry (now (bytes .entry)) ⌝ }
 {
     if !is_entry_tag(bytes[0]) {
@@ -91,15 +117,17 @@ fn is_entry(bytes: &[u8]) -> bool
 
 // The entry of a whole field.
 fn entry_in(bytes: &[u8]) -> Entry
-    requires { ⌜ 7 ≤ length (now bytes) ⌝ }
+    requires { ⌜ entrySize ≤ length (now bytes) ⌝ }
     ensures { λ r. ⌜ r ≡ entryIn (now (bytes .entry)) ⌝ }
 {
-    let a = Bank(number_at(bytes, 3));
-    let b = Bank(number_at(bytes, 5));
-    if bytes[0] == ADD_TAG {
-        return Entry::Add(a, b);
+    let kind = kind_of(bytes[0]);
+    let a = number_at(bytes, HEAD_BYTES);
+    let b = number_at(bytes, SECOND_PLACE);
+    Entry {
+        kind: kind,
+        a: Bank(a),
+        b: Bank(b),
     }
-    Entry::Strike(a, b)
 }
 
 // Reads what stands at the front of the bytes after the first field.
@@ -134,18 +162,22 @@ pub fn whole_fields(bytes: &[u8]) -> bool
 
 // Writes the first field of n banks to the front, and answers the place after it.
 pub fn put_first(journal: &mut [u8], n: u16) -> usize
-    requires { ⌜ 5 ≤ length (now journal) ⌝ }
-    ensures { λ r. ⌜ Puts (firstBytes n) 0 (now (journal .entry)) r (now (journal .exit)) ⌝ }
+    requires { ⌜ firstSize ≤ length (now journal) ⌝ }
+    ensures { λ r. ⌜ Wrote (firstBytes n) 0 journal r ⌝ }
 {
     let bytes = [FIRST_TAG, FIRST_VALUE, 0, (n % 256) as u8, (n / 256) as u8];
     put_text(journal, 0, &bytes)
 }
 
-// Writes a field of two banks at `at`, and answers the place after it.
-fn put_banks(journal: &mut [u8], at: usize, tag: u8, a: Bank, b: Bank) -> usize
-    requires { ⌜ at + 7 ≤ length (now journal) ⌝ }
-    ensures { λ r. ⌜ Puts (banksBytes tag (a .0) (b .0)) at (now (journal .entry)) r (now (journal .exit)) ⌝ }
+// Writes an entry's field at `at`, and answers the place after it.
+pub fn put_entry(journal: &mut [u8], at: usize, entry: Entry) -> usize
+    requires { ⌜ at + entrySize ≤ length (now journal) ⌝ }
+    ensures { λ r. ⌜ Wrote (entryBytes entry) at journal r ⌝ }
 {
+    let kind = entry.kind;
+    let tag = tag_of(kind);
+    let a = entry.a;
+    let b = entry.b;
     let bytes = [
         tag,
         ENTRY_VALUE,
@@ -156,15 +188,4 @@ fn put_banks(journal: &mut [u8], at: usize, tag: u8, a: Bank, b: Bank) -> usize
         (b.0 / 256) as u8,
     ];
     put_text(journal, at, &bytes)
-}
-
-// Writes an entry's field at `at`, and answers the place after it.
-pub fn put_entry(journal: &mut [u8], at: usize, entry: Entry) -> usize
-    requires { ⌜ at + 7 ≤ length (now journal) ⌝ }
-    ensures { λ r. ⌜ Puts (entryBytes entry) at (now (journal .entry)) r (now (journal .exit)) ⌝ }
-{
-    match entry {
-        Entry::Add(a, b) => put_banks(journal, at, ADD_TAG, a, b),
-        Entry::Strike(a, b) => put_banks(journal, at, STRIKE_TAG, a, b),
-    }
 }

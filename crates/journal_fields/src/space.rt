@@ -1,10 +1,8 @@
 // The questions about a journal's length and its bytes. Each function answers 0, or the number of the first no.
 use crate::field::has_first;
+use text::MOST_BYTES;
 ghost use mathlib.Core.Path.{_≡_};
 ghost use Rattle.journal_fields.specs.Numbers.{spaceNumber, headNumber};
-
-// The most bytes of a journal.
-const MOST_BYTES: usize = 60000;
 
 // Whether there is space for `needed` bytes, in the slice and in a journal.
 pub fn space_number(journal: &[u8], needed: usize) -> u16

@@ -11,15 +11,14 @@ use borrow.Author.Tests.{le-leb}
 use Rattle.rule.specs.Graph.{Graph}
 use Rattle.planner.specs.declared.Opened.{Opened}
 use Rattle.planner.specs.Questions.{firstNo}
-use Rattle.planner.specs.Calls.{Memory}
-use Rattle.planner.specs.Held.{Ready}
-use Rattle.list_reader.specs.Pass.{begin, beginNumber}
-use Rattle.list_reader.specs.Steps.{at, OpensAll}
-use Rattle.journal_fields.specs.Fields.{numberAt, hasFirst, banksIn, fields}
+use Rattle.memory.specs.Memory.{Memory, Ready}
+use Rattle.planner.specs.States.{begin, beginNumber}
+use Rattle.planner.specs.inner.Held.{at, OpensAll}
+use Rattle.journal_fields.specs.Fields.{headSize, firstSize, numberAt, hasFirst, banksIn, fields}
 use Rattle.journal_fields.specs.Numbers.{headNumber}
 use Rattle.journal_fields.proofs.Numbers.{size-few, size-first}
 use Rattle.journal_replay.specs.Replay.{ReplayResult, replayResult, replayNumber, replayBy, replayed}
-use Rattle.journal_replay.specs.Steps.{enterFields, refusedFirst}
+use Rattle.journal_replay.specs.inner.Steps.{enterFields, refusedFirst}
 
 module _ (bytes : List ℕ) where
   -- all of the journal is asked about
@@ -58,7 +57,7 @@ module _ (bytes : List ℕ) where
     pub replay-refused : (c : ℕ) → c ≡ headNumber (length bytes) bytes → (c ≡ 0 → ⊥) → replayResult (refusedFirst c) m ≡ replayed bytes m
     replay-refused c e z = refused-by c z (e ∙ head-number (λ q. z (e ∙ q)))
 
-    by-none : (c : ℕ) → c ≡ 0 → enterFields 2 (fields (drop 5 bytes)) (begin (banksIn bytes) m) ≡ replayBy c bytes m
+    by-none : (c : ℕ) → c ≡ 0 → enterFields 2 (fields (drop firstSize bytes)) (begin (banksIn bytes) m) ≡ replayBy c bytes m
     unfolding replayBy enterFields
     by-none zero z = refl
     by-none (suc c) z = absurd (omega arith)
@@ -70,16 +69,16 @@ module _ (bytes : List ℕ) where
       pub open-refused : (r .number ≡ 0 → ⊥) → replayResult (refusedFirst (r .number)) m′ ≡ replayed bytes m
       open-refused z = ap (replayResult (refusedFirst (r .number))) (o .refused z) ∙ refused-by (r .number) z number-opened
 
-      pub open-replayed : r .number ≡ 0 → (x : ReplayResult) → ((G : Graph) → Ready G m′ → x ≡ enterFields 2 (fields (drop 5 bytes)) (at G m′)) → x ≡ replayed bytes m
+      pub open-replayed : r .number ≡ 0 → (x : ReplayResult) → ((G : Graph) → Ready G m′ → x ≡ enterFields 2 (fields (drop firstSize bytes)) (at G m′)) → x ≡ replayed bytes m
       unfolding replayed
       open-replayed z x f =
           let s = o .opened z in
           f (begin n m .graph) (s .ready)
-          ∙ ap (λ (y : Memory). enterFields 2 (fields (drop 5 bytes)) (at (begin n m .graph) y)) (s .memory)
-          ∙ ap (λ (k : ℕ). enterFields 2 (fields (drop 5 bytes)) (begin k m)) e
+          ∙ ap (λ (y : Memory). enterFields 2 (fields (drop firstSize bytes)) (at (begin n m .graph) y)) (s .memory)
+          ∙ ap (λ (k : ℕ). enterFields 2 (fields (drop firstSize bytes)) (begin k m)) e
           ∙ by-none (replayNumber bytes m) (sym number-opened ∙ z)
 
 -- the banks' number
-pub banks-read : (bytes : List ℕ) (n : ℕ) → n ≡ numberAt 3 bytes → n ≡ banksIn bytes
+pub banks-read : (bytes : List ℕ) (n : ℕ) → n ≡ numberAt headSize bytes → n ≡ banksIn bytes
 unfolding banksIn
 banks-read bytes n e = e

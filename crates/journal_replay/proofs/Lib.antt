@@ -2,7 +2,7 @@
 pub mod Passing
 pub mod FirstField
 pub mod Replaying
-pub mod Decimals
 pub mod SameEdits
+pub mod Holds
 pub mod Refusals
 pub mod Theorems

@@ -6,69 +6,59 @@ use mathlib.Core.Path.{_≡_, refl, sym, ap, _∙_}
 use Prim.Native.Nat.{ℕ, zero, suc, _+_, _-_, _≤_, _<_}
 use native.Mathlib.Omega.{arith}
 use types.Run.{OneOf}
-use denote.Enum.Declared.{tagOf}
+use denote.Enum.Declared.{tagOf as variant}
 use lib.ListN.{length, take, drop, length-drop}
 use lib.Seq.{take-all, drop-drop, length-take-le}
-use Rattle.rule.specs.declared.Bank.{Bank}
 use Rattle.rule.specs.Graph.{Graph}
-use Rattle.rule.specs.Reach.{adding, striking}
+use Rattle.memory.specs.Memory.{Memory, Ready}
 use Rattle.planner.specs.declared.Edited.{Edited}
-use Rattle.planner.specs.Calls.{Memory}
-use Rattle.planner.specs.Held.{Ready, Edits}
-use Rattle.list_reader.specs.Pass.{State}
-use Rattle.list_reader.specs.Steps.{at, tried}
-use Rattle.list_reader.proofs.Made.{edit-made}
+use Rattle.planner.specs.States.{State}
+use Rattle.planner.specs.inner.Held.{EditMade, at, tried}
+use Rattle.planner.proofs.Made.{edit-made}
 use Rattle.journal_fields.specs.declared.field.Entry.{Entry}
-use Rattle.journal_fields.specs.declared.field.Entry.the-variants.{Add, Strike}
 use Rattle.journal_fields.specs.declared.field.Field.{Field}
 use Rattle.journal_fields.specs.declared.field.Field.the-variants.{Edit, Wrong, Short}
 use Rattle.journal_replay.specs.declared.rerun.Replayed.{Replayed}
-use Rattle.journal_replay.specs.declared.rerun.Step.{Step}
-use Rattle.journal_fields.specs.Fields.{Fields, fieldOf, fieldsBy, fields}
+use Rattle.journal_replay.specs.declared.rerun.Entered.{Entered}
+use Rattle.journal_fields.specs.Fields.{entrySize, Fields, fieldOf, fieldsBy, fields}
 use Rattle.journal_replay.specs.Replay.{ReplayResult, replayResult, replayAnswer, entryNumber, enter, ended, enterBy, enterAll}
-use Rattle.journal_replay.specs.Steps.{Entered, Enters, fieldNumber, fieldStep, FieldDone, EntersField, enterFields, lastBy, ending}
+use Rattle.journal_replay.specs.inner.Steps.{fieldNumber, fieldStep, FieldDone, EntersField, enterFields, lastBy, ending}
 use Rattle.journal_fields.proofs.field.Field.{the-type}
 use Rattle.journal_fields.proofs.Reading.{fields-step}
 use Rattle.journal_fields.proofs.Forms.{edit-long, short-short}
 
-module _ (G : Graph) (m : Memory) (r : Edited) (m′ : Memory) where
-  pub entered-add : (a b : Bank) → Edits adding G (a .0) (b .0) m r m′ → Entered (Add a b) G m (r .answer .number) m′
-  unfolding entryNumber enter
-  entered-add a b e = let d = edit-made adding G (a .0) (b .0) m r m′ e in record { is = d .0; stands = d .1 }
-
-  pub entered-strike : (a b : Bank) → Edits striking G (a .0) (b .0) m r m′ → Entered (Strike a b) G m (r .answer .number) m′
-  unfolding entryNumber enter
-  entered-strike a b e = let d = edit-made striking G (a .0) (b .0) m r m′ e in record { is = d .0; stands = d .1 }
-
 -- a field that is no entry
-field-other : (f : Field) (G : Graph) (m : Memory) → Ready G m → OneOf (1 ∷ 2 ∷ []) (tagOf the-type f) → FieldDone f G m 14 m
+field-other : (f : Field) (G : Graph) (m : Memory) → Ready G m → OneOf (1 ∷ 2 ∷ []) (variant the-type f) → FieldDone f G m 14 m
 unfolding fieldNumber fieldStep tried
 field-other (Edit e) G m h k = absurd (⊎-elim (λ q. omega arith) (λ q. omega arith) k)
 field-other Wrong G m h k = record { is = refl; stands = record { memory = refl; ready = h } }
 field-other Short G m h k = record { is = refl; stands = record { memory = refl; ready = h } }
 
-field-edit : (e : Entry) (G : Graph) (m : Memory) (n : ℕ) (m′ : Memory) → Entered e G m n m′ → FieldDone (Edit e) G m n m′
-unfolding fieldNumber fieldStep
-field-edit e G m n m′ d = record { is = d .is; stands = d .stands }
+-- a field that is one: its edit is made
+field-edit : (e : Entry) (G : Graph) (m : Memory) (r : Edited) (m′ : Memory) → EditMade (e .kind) G (e .a .0) (e .b .0) m r m′
+    → FieldDone (Edit e) G m (r .answer .number) m′
+unfolding fieldNumber fieldStep entryNumber enter
+field-edit e G m r m′ d = let x = edit-made (e .kind) G (e .a .0) (e .b .0) m r m′ d in record { is = x .0; stands = x .1 }
 
 -- the field from `start` on, as a part of the journal
 module _ (journal : List ℕ) (start : ℕ) (f : Field) (read : f ≡ fieldOf (take (length journal - start) (drop start journal))) (i : ℕ) (m : Memory)
-    (r : Step) (field : r .field ≡ i) (next : r .next ≡ start + 7) where
+    (r : Entered) (field : r .field ≡ i) (next : r .next ≡ start + entrySize) where
   here : f ≡ fieldOf (drop start journal)
   here = read ∙ ap fieldOf (take-all (length journal - start) (drop start journal) (omega (arith, length-drop start journal)))
 
-  pub enters-none : OneOf (1 ∷ 2 ∷ []) (tagOf the-type f) → r .number ≡ 14 → EntersField journal start i m r m
+  pub enters-none : OneOf (1 ∷ 2 ∷ []) (variant the-type f) → r .number ≡ 14 → EntersField journal start i m r m
   enters-none k z = record { field = field; next = next; of = λ G h. rw (z, ← here) (field-other f G m h k) }
 
-  pub enters-one : (e : Entry) → f ≡ Edit e → (a : Edited) (m′ : Memory) → Enters e m a m′ → r .number ≡ a .answer .number → EntersField journal start i m r m′
-  enters-one e q a m′ d z = record { field = field; next = next; of = λ G h. rw (z, ← here, q) (field-edit e G m (a .answer .number) m′ (d .of G h)) }
+  pub enters-one : (e : Entry) → f ≡ Edit e → (a : Edited) (m′ : Memory) → ((G : Graph) → Ready G m → EditMade (e .kind) G (e .a .0) (e .b .0) m a m′)
+      → r .number ≡ a .answer .number → EntersField journal start i m r m′
+  enters-one e q a m′ d z = record { field = field; next = next; of = λ G h. rw (z, ← here, q) (field-edit e G m a m′ (d G h)) }
 
 -- what is ahead after field i, whose number is n
 unfoldable pub going : ℕ → ℕ → List ℕ → State → ReplayResult
 going zero i bytes s = enterFields (suc i) (fields bytes) s
 going (suc c) i bytes s = replayResult (replayAnswer (suc c) i 0) (s .memory)
 
--- field i is this one, of 7 bytes or more
+-- field i is this one, of enough bytes
 by-number : (n i : ℕ) (s t : State) (bytes : List ℕ) → enterBy n i s (enterFields (suc i) (fields bytes) t) ≡ going n i bytes (tried n t s)
 unfolding enterBy going tried
 by-number zero i s t bytes = refl
@@ -78,28 +68,28 @@ by-wrong : (i : ℕ) (s : State) (bytes : List ℕ) → ended true i 0 (s .memor
 unfolding ended going tried
 by-wrong i s bytes = refl
 
-by-field : (f : Field) (i : ℕ) (s : State) (bytes rest : List ℕ) → f ≡ fieldOf bytes → 7 ≤ length bytes
+by-field : (f : Field) (i : ℕ) (s : State) (bytes rest : List ℕ) → f ≡ fieldOf bytes → entrySize ≤ length bytes
     → enterFields i (fieldsBy f (length bytes) (fields rest)) s ≡ going (fieldNumber f (s .graph)) i rest (tried (fieldNumber f (s .graph)) (fieldStep f s) s)
 unfolding enterFields fieldsBy fieldNumber fieldStep enterAll
 by-field (Edit e) i s bytes rest q l = by-number (entryNumber e (s .graph)) i s (enter e s) rest
 by-field Wrong i s bytes rest q l = by-wrong i s rest
 by-field Short i s bytes rest q l = absurd (omega (arith, short-short bytes q))
 
-field-step : (i : ℕ) (bytes : List ℕ) (s : State) → 7 ≤ length bytes
-    → enterFields i (fields bytes) s ≡ going (fieldNumber (fieldOf bytes) (s .graph)) i (drop 7 bytes) (tried (fieldNumber (fieldOf bytes) (s .graph)) (fieldStep (fieldOf bytes) s) s)
-field-step i bytes s l = ap (λ (f : Fields). enterFields i f s) (fields-step bytes) ∙ by-field (fieldOf bytes) i s bytes (drop 7 bytes) refl l
+field-step : (i : ℕ) (bytes : List ℕ) (s : State) → entrySize ≤ length bytes
+    → enterFields i (fields bytes) s ≡ going (fieldNumber (fieldOf bytes) (s .graph)) i (drop entrySize bytes) (tried (fieldNumber (fieldOf bytes) (s .graph)) (fieldStep (fieldOf bytes) s) s)
+field-step i bytes s l = ap (λ (f : Fields). enterFields i f s) (fields-step bytes) ∙ by-field (fieldOf bytes) i s bytes (drop entrySize bytes) refl l
 
 -- fewer bytes are left
-by-last : (f : Field) (i : ℕ) (bytes : List ℕ) (rest : Fields) (s : State) → f ≡ fieldOf bytes → length bytes < 7
+by-last : (f : Field) (i : ℕ) (bytes : List ℕ) (rest : Fields) (s : State) → f ≡ fieldOf bytes → length bytes < entrySize
     → enterFields (suc i) (fieldsBy f (length bytes) rest) s ≡ replayResult (lastBy f (length bytes) i) (s .memory)
 unfolding enterFields fieldsBy lastBy enterAll ended
 by-last (Edit e) i bytes rest s q l = absurd (omega (arith, edit-long bytes e q))
 by-last Wrong i bytes rest s q l = let e : suc i ≡ i + 1 = omega arith in ap (λ (k : ℕ). replayResult (replayAnswer 14 k 0) (s .memory)) e
 by-last Short i bytes rest s q l = refl
 
-going-end : (n i : ℕ) (bytes : List ℕ) (s : State) → (n ≡ 0 → length bytes < 7) → going n i bytes s ≡ replayResult (ending n i bytes) (s .memory)
+going-end : (n i : ℕ) (bytes : List ℕ) (s : State) → (n ≡ 0 → length bytes < entrySize) → going n i bytes s ≡ replayResult (ending n i bytes) (s .memory)
 unfolding going ending
-going-end zero i bytes s h = ap (λ (f : Fields). enterFields (suc i) f s) (fields-step bytes) ∙ by-last (fieldOf bytes) i bytes (fields (drop 7 bytes)) s refl (h refl)
+going-end zero i bytes s h = ap (λ (f : Fields). enterFields (suc i) f s) (fields-step bytes) ∙ by-last (fieldOf bytes) i bytes (fields (drop entrySize bytes)) s refl (h refl)
 going-end (suc c) i bytes s h = refl
 
 going-on : (n i : ℕ) (bytes : List ℕ) (s : State) → n ≡ 0 → going n i bytes s ≡ enterFields (suc i) (fields bytes) s
@@ -107,18 +97,18 @@ unfolding going
 going-on n i bytes s z = rw z
 
 -- where a replay stands after a field
-pub record Ahead (journal : List ℕ) (first : ℕ) (G : Graph) (m : Memory) (r : Step) (m′ : Memory) : Type 0 where
+pub record Ahead (journal : List ℕ) (first : ℕ) (G : Graph) (m : Memory) (r : Entered) (m′ : Memory) : Type 0 where
   pub graph : Graph
   pub ready : Ready graph m′
   pub ahead : enterFields 2 (fields (drop first journal)) (at G m) ≡ going (r .number) (r .field) (drop (r .next) journal) (at graph m′)
 
 module _ (journal : List ℕ) (first : ℕ) (G : Graph) (m : Memory) where
-  pub ahead-start : Ready G m → (r : Step) → r .number ≡ 0 → r .field ≡ 1 → r .next ≡ first → Ahead journal first G m r m
+  pub ahead-start : Ready G m → (r : Entered) → r .number ≡ 0 → r .field ≡ 1 → r .next ≡ first → Ahead journal first G m r m
   unfolding going
   ahead-start h r z i n = record { graph = G; ready = h; ahead = rw (z, i, n) }
 
-  pub ahead-turn : (r : Step) (m′ : Memory) (w : Ahead journal first G m r m′) → r .number ≡ 0 → 7 ≤ length journal - r .next
-      → (r′ : Step) (m″ : Memory) → EntersField journal (r .next) (r .field + 1) m′ r′ m″ → Ahead journal first G m r′ m″
+  pub ahead-turn : (r : Entered) (m′ : Memory) (w : Ahead journal first G m r m′) → r .number ≡ 0 → entrySize ≤ length journal - r .next
+      → (r′ : Entered) (m″ : Memory) → EntersField journal (r .next) (r .field + 1) m′ r′ m″ → Ahead journal first G m r′ m″
   ahead-turn r m′ w z l r′ m″ d =
       let H : Graph = w .graph in
       let s : State = at H m′ in
@@ -128,7 +118,7 @@ module _ (journal : List ℕ) (first : ℕ) (G : Graph) (m : Memory) where
       let done = d .of H (w .ready) in
       let rest : List ℕ = drop (r′ .next) journal in
       let up : r′ .field ≡ suc (r .field) = omega (arith, d .field) in
-      let on : drop 7 b ≡ rest = drop-drop 7 (r .next) journal ∙ ap (λ (k : ℕ). drop k journal) (sym (d .next)) in
+      let on : drop entrySize b ≡ rest = drop-drop entrySize (r .next) journal ∙ ap (λ (k : ℕ). drop k journal) (sym (d .next)) in
       record {
         graph = t .graph;
         ready = done .stands .ready;
@@ -142,13 +132,14 @@ module _ (journal : List ℕ) (first : ℕ) (G : Graph) (m : Memory) where
             ∙ ap (λ (x : Memory). going (r′ .number) (r′ .field) rest (at (t .graph) x)) (sym (done .stands .memory));
       }
 
-  pub ahead-end : (r : Step) (m′ : Memory) → Ahead journal first G m r m′ → (r .number ≡ 0 → length journal - r .next < 7) → (a : Replayed)
+  pub ahead-end : (r : Entered) (m′ : Memory) → Ahead journal first G m r m′ → (r .number ≡ 0 → length journal - r .next < entrySize) → (a : Replayed)
       → a ≡ ending (r .number) (r .field) (take (length journal - r .next) (drop (r .next) journal))
       → replayResult a m′ ≡ enterFields 2 (fields (drop first journal)) (at G m)
   ahead-end r m′ w e a q =
       let rest = take-all (length journal - r .next) (drop (r .next) journal) (omega (arith, length-drop (r .next) journal)) in
       ap (λ (x : Replayed). replayResult x m′) (q ∙ ap (ending (r .number) (r .field)) rest)
-      ∙ sym (w .ahead ∙ going-end (r .number) (r .field) (drop (r .next) journal) (at (w .graph) m′) (λ z. let h : length journal - r .next < 7 = e z in omega (arith, h, length-drop (r .next) journal)))
+      ∙ sym (w .ahead ∙ going-end (r .number) (r .field) (drop (r .next) journal) (at (w .graph) m′)
+      (λ z. let h : length journal - r .next < entrySize = e z in omega (arith, h, length-drop (r .next) journal)))
 
 -- the answer, by the number of the last whole field
 pub ending-some : (n i : ℕ) (bytes : List ℕ) → (n ≡ 0 → ⊥) → replayAnswer n i 0 ≡ ending n i bytes
@@ -157,21 +148,22 @@ ending-some zero i bytes z = absurd (z refl)
 ending-some (suc c) i bytes z = refl
 
 module _ (n i : ℕ) (bytes : List ℕ) (f : Field) (z : n ≡ 0) (q : f ≡ fieldOf bytes) where
-  ending-by : (g : Field) → f ≡ g → lastBy g (length bytes) i ≡ ending n i bytes
+  ending-by : lastBy f (length bytes) i ≡ ending n i bytes
   unfolding ending
-  ending-by g e = rw (z, ← q, e)
+  ending-by = rw (z, ← q)
 
   pub ending-wrong : f ≡ Wrong → replayAnswer 14 (i + 1) 0 ≡ ending n i bytes
   unfolding lastBy
-  ending-wrong e = ending-by Wrong e
+  ending-wrong e = ap (λ (g : Field). lastBy g (length bytes) i) (sym e) ∙ ending-by
 
-  pub ending-short : f ≡ Short → replayAnswer 0 0 (length bytes) ≡ ending n i bytes
+  last-other : (g : Field) → OneOf (0 ∷ 2 ∷ []) (variant the-type g) → replayAnswer 0 0 (length bytes) ≡ lastBy g (length bytes) i
   unfolding lastBy
-  ending-short e = ending-by Short e
+  last-other (Edit e) k = refl
+  last-other Wrong k = absurd (⊎-elim (λ q. omega arith) (λ q. omega arith) k)
+  last-other Short k = refl
 
-  pub ending-edit : (x : Entry) → f ≡ Edit x → replayAnswer 0 0 (length bytes) ≡ ending n i bytes
-  unfolding lastBy
-  ending-edit x e = ending-by (Edit x) e
+  pub ending-other : OneOf (0 ∷ 2 ∷ []) (variant the-type f) → replayAnswer 0 0 (length bytes) ≡ ending n i bytes
+  ending-other k = last-other f k ∙ ending-by
 
 -- the bytes from `at` on
 pub rest-few : (journal : List ℕ) (at : ℕ) → length journal ≤ 60000 → at ≤ length journal → length (take (length journal - at) (drop at journal)) < 65536

@@ -1,63 +1,68 @@
 -- A replay refused after the first field leaves what the fields before that field leave.
 use mathlib.Core.Bool.{Bool, true, false, cond}
 use mathlib.Core.List.{List, [], _∷_}
-use mathlib.Core.Path.{_≡_, refl, sym, ap, _∙_}
+use mathlib.Core.Path.{_≡_, refl, sym, ap, _∙_, subst}
 use Prim.Native.Nat.{ℕ, zero, suc, _+_, _*_, _≤_}
 use native.Mathlib.Omega.{arith}
-use lib.Dec.{leb, eqb}
+use lib.Dec.{eqb}
 use lib.ListN.{length, take, drop, length-take}
 use lib.Seq.{getD-take}
-use borrow.Author.Tests.{leb-true}
-use Rattle.planner.specs.Calls.{Memory}
-use Rattle.planner.proofs.Numbers.{none}
-use Rattle.list_reader.specs.Pass.{State, begin, beginNumber}
+use Rattle.memory.specs.Plan.{PlanOf}
+use Rattle.memory.specs.Memory.{Memory}
+use Rattle.planner.specs.States.{State, begin, beginNumber}
 use Rattle.journal_fields.specs.declared.field.Entry.{Entry}
-use Rattle.journal_fields.specs.Fields.{hasFirst, banksIn, fieldsBy, fields}
-use Rattle.journal_replay.specs.Replay.{ReplayResult, replayResult, replayAnswer, entryNumber, enter, ended, enterBy, enterAll, replayNumber, replayBy, replayed}
+use Rattle.journal_fields.specs.Fields.{firstSize, entrySize, banksIn, fieldsBy, fields}
+use Rattle.journal_replay.specs.Replay.{ReplayResult, replayResult, replayAnswer, entryNumber, enter, ended, enterBy, enterAll}
+use Rattle.journal_replay.specs.Replay.{replayNumber, replayBy, replayed}
 use Rattle.journal_fields.proofs.Reading.{drop-take, fields-step}
 use Rattle.journal_fields.proofs.Forms.{edit-long}
 use Rattle.journal_fields.proofs.Entries.{whole, following, fields-none}
 use Rattle.journal_fields.proofs.Bytes.{first-long, first-same, field-same, read-first}
-use Rattle.journal_replay.proofs.Replaying.{replayFrom, Reads, number-is, replay-is}
+use Rattle.journal_replay.specs.Ends.{afterFirst, RefusedLater}
+use Rattle.journal_replay.proofs.Replaying.{replayFrom, Reads, number-is, replay-is, opened-reads}
+use Rattle.journal_replay.proofs.Holds.{enter-holds, opened-holds}
 
--- the first i entries that bytes read as are those of their first 7 i bytes
-pub fields-front : (i : ℕ) (bytes : List ℕ) (es : List Entry) → fields bytes .entries ≡ es → i ≤ length es → fields (take (7 * i) bytes) ≡ whole (take i es)
+-- the first i entries that bytes read as are those of their first i fields' bytes
+pub fields-front : (i : ℕ) (bytes : List ℕ) (es : List Entry) → fields bytes .entries ≡ es → i ≤ length es → fields (take (entrySize * i) bytes) ≡ whole (take i es)
 unfolding fieldsBy
 fields-front zero bytes es q h = fields-none
 fields-front (suc i) bytes [] q h = absurd (omega arith)
 fields-front (suc i) bytes (e ∷ es) q h =
     let r = read-first bytes e es q in
     let l = edit-long bytes e (sym (r .0)) in
-    let j : 7 * suc i ≡ 7 + 7 * i = omega arith in
-    let front : List ℕ = take (7 + 7 * i) bytes in
-    let n : 7 ≤ length front = omega (arith, length-take (7 + 7 * i) bytes) in
-    let f = field-same front bytes n l (λ k u. getD-take (7 + 7 * i) bytes k 0 (omega arith)) in
+    let j : entrySize * suc i ≡ entrySize + entrySize * i = omega arith in
+    let front : List ℕ = take (entrySize + entrySize * i) bytes in
+    let n : entrySize ≤ length front = omega (arith, length-take (entrySize + entrySize * i) bytes) in
+    let f = field-same front bytes n l (λ k u. getD-take (entrySize + entrySize * i) bytes k 0 (omega arith)) in
     ap (λ (k : ℕ). fields (take k bytes)) j
     ∙ fields-step front
-    ∙ rw (f ∙ r .0, drop-take 7 (7 * i) bytes l) (ap (following (e ∷ [])) (fields-front i (drop 7 bytes) es (r .1) (omega arith)))
+    ∙ rw (f ∙ r .0, drop-take entrySize (entrySize * i) bytes l) (ap (following (e ∷ [])) (fields-front i (drop entrySize bytes) es (r .1) (omega arith)))
 
 -- a refusal at field i + k leaves what the k entries before it leave
 abbrev Before : ℕ → List Entry → State → ReplayResult → Type 0
 Before i es s r = (k : ℕ) × (k ≤ length es) × (r .answer .field ≡ i + k) × (enterAll i (take k es) false 0 s ≡ replayResult (replayAnswer 0 0 0) (r .memory))
 
-module _ (wrong : Bool) (left : ℕ) where
+module _ (wrong : Bool) (leftOver : ℕ) where
   by-before : (c i : ℕ) (e : Entry) (es : List Entry) (s : State) → entryNumber e (s .graph) ≡ c
-      → ((enterAll (suc i) es wrong left (enter e s) .answer .number ≡ 0 → ⊥) → Before (suc i) es (enter e s) (enterAll (suc i) es wrong left (enter e s)))
-      → (enterBy c i s (enterAll (suc i) es wrong left (enter e s)) .answer .number ≡ 0 → ⊥)
-      → Before i (e ∷ es) s (enterBy c i s (enterAll (suc i) es wrong left (enter e s)))
+      → ((enterAll (suc i) es wrong leftOver (enter e s) .answer .number ≡ 0 → ⊥) → Before (suc i) es (enter e s) (enterAll (suc i) es wrong leftOver (enter e s)))
+      → (enterBy c i s (enterAll (suc i) es wrong leftOver (enter e s)) .answer .number ≡ 0 → ⊥)
+      → Before i (e ∷ es) s (enterBy c i s (enterAll (suc i) es wrong leftOver (enter e s)))
   unfolding enterBy enterAll ended
   by-before zero i e es s q f z = let b = f z in (suc (b .0), omega (arith, b .1), omega (arith, b .2), rw q (b .3))
   by-before (suc c) i e es s q f z = (0, omega arith, omega arith, refl)
 
-  end-before : (w : Bool) (i : ℕ) (s : State) → (ended w i left (s .memory) .answer .number ≡ 0 → ⊥) → Before i [] s (ended w i left (s .memory))
+  end-before : (w : Bool) (i : ℕ) (s : State) → (ended w i leftOver (s .memory) .answer .number ≡ 0 → ⊥) → Before i [] s (ended w i leftOver (s .memory))
   unfolding enterAll ended
   end-before true i s z = (0, omega arith, omega arith, refl)
   end-before false i s z = absurd (z refl)
 
-  enter-before : (i : ℕ) (es : List Entry) (s : State) → (enterAll i es wrong left s .answer .number ≡ 0 → ⊥) → Before i es s (enterAll i es wrong left s)
+  enter-before : (i : ℕ) (es : List Entry) (s : State) → (enterAll i es wrong leftOver s .answer .number ≡ 0 → ⊥) → Before i es s (enterAll i es wrong leftOver s)
   unfolding enterAll
   enter-before i [] s z = end-before wrong i s z
   enter-before i (e ∷ es) s z = by-before (entryNumber e (s .graph)) i e es s refl (enter-before (suc i) es (enter e s)) z
+
+abbrev memoryIn : ReplayResult → Memory
+memoryIn r = r .memory
 
 -- a plan was opened where a later field is refused
 late-number : (c : ℕ) (bytes : List ℕ) (m : Memory) → 2 ≤ replayBy c bytes m .answer .field → c ≡ 0
@@ -69,45 +74,45 @@ late-number (suc c) bytes m h = absurd (first (eqb (suc c) 9) h)
     first true h = omega arith
     first false h = omega arith
 
-opened-reads : (bytes : List ℕ) (m : Memory) → replayNumber bytes m ≡ 0 → Reads bytes (banksIn bytes) (fields (drop 5 bytes))
-unfolding replayNumber
-opened-reads bytes m z =
-    let p = none (leb (length bytes) 60000) 8 _ z in
-    let q = none (hasFirst bytes) 12 _ (p .1) in
-    record { within = leb-true (length bytes) 60000 (p .0); first = q .0; banks = refl; fields-are = refl }
-
 module _ (bytes : List ℕ) (m : Memory) where
-  front-reads : Reads bytes (banksIn bytes) (fields (drop 5 bytes)) → (i : ℕ) → i ≤ length (fields (drop 5 bytes) .entries)
-      → Reads (take (5 + 7 * i) bytes) (banksIn bytes) (whole (take i (fields (drop 5 bytes) .entries)))
+  front-reads : Reads bytes (banksIn bytes) (fields (drop firstSize bytes)) → (i : ℕ) → i ≤ length (fields (drop firstSize bytes) .entries)
+      → Reads (take (firstSize + entrySize * i) bytes) (banksIn bytes) (whole (take i (fields (drop firstSize bytes) .entries)))
   front-reads r i h =
       let five = first-long bytes (r .first) in
-      let n = length-take (5 + 7 * i) bytes in
-      let same = first-same (take (5 + 7 * i) bytes) bytes (omega arith) five (λ k u. getD-take (5 + 7 * i) bytes k 0 (omega arith)) in
+      let n = length-take (firstSize + entrySize * i) bytes in
+      let same = first-same (take (firstSize + entrySize * i) bytes) bytes (omega arith) five (λ k u. getD-take (firstSize + entrySize * i) bytes k 0 (omega arith)) in
       record {
         within = omega (arith, r .within);
         first = same .0 ∙ r .first;
         banks = same .1;
-        fields-are = ap fields (drop-take 5 (7 * i) bytes five) ∙ fields-front i (drop 5 bytes) (fields (drop 5 bytes) .entries) refl h;
+        fields-are = ap fields (drop-take firstSize (entrySize * i) bytes five) ∙ fields-front i (drop firstSize bytes) (fields (drop firstSize bytes) .entries) refl h;
       }
 
-  pub refused-later : (replayed bytes m .answer .number ≡ 0 → ⊥) → 2 ≤ replayed bytes m .answer .field
-      → (i : ℕ) × (replayed bytes m .answer .field ≡ 2 + i) × (replayed (take (5 + 7 * i) bytes) m ≡ replayResult (replayAnswer 0 0 0) (replayed bytes m .memory))
-  unfolding replayFrom
+  pub refused-later : (replayed bytes m .answer .number ≡ 0 → ⊥) → 2 ≤ replayed bytes m .answer .field → RefusedLater bytes m
+  unfolding replayFrom begin
   refused-later z h =
+      let n = banksIn bytes in
       let o : replayNumber bytes m ≡ 0 = late-number (replayNumber bytes m) bytes m (unfold replayed in h) in
       let r = opened-reads bytes m o in
-      let f = fields (drop 5 bytes) in
-      let b : beginNumber (banksIn bytes) m ≡ 0 = sym (number-is r m) ∙ o in
-      let q = replay-is r m ∙ ap (λ (c : ℕ). replayFrom c (banksIn bytes) f m) b in
-      let w = enter-before (f .wrong) (f .left) 2 (f .entries) (begin (banksIn bytes) m) (rw q at z) in
-      let q′ = replay-is (front-reads r (w .0) (w .1)) m ∙ ap (λ (c : ℕ). replayFrom c (banksIn bytes) (whole (take (w .0) (f .entries))) m) b in
-      (w .0, ap (λ (x : ReplayResult). x .answer .field) q ∙ w .2, q′ ∙ w .3 ∙ ap (λ (x : ReplayResult). replayResult (replayAnswer 0 0 0) (x .memory)) (sym q))
+      let f = fields (drop firstSize bytes) in
+      let b : beginNumber n m ≡ 0 = sym (number-is r m) ∙ o in
+      let q = replay-is r m ∙ ap (λ (c : ℕ). replayFrom c n f m) b in
+      let w = enter-before (f .wrong) (f .leftOver) 2 (f .entries) (begin n m) (rw q at z) in
+      let k = w .0 in
+      let before = enter-holds 2 (take k (f .entries)) false 0 (begin n m) (opened-holds bytes m o) (ap (λ (x : ReplayResult). x .answer .number) (w .3)) in
+      let q′ = replay-is (front-reads r k (w .1)) m ∙ ap (λ (c : ℕ). replayFrom c n (whole (take k (f .entries))) m) b in
+      record {
+        made = k;
+        field = ap (λ (x : ReplayResult). x .answer .field) q ∙ w .2;
+        same = q′ ∙ w .3 ∙ ap (λ (x : ReplayResult). replayResult (replayAnswer 0 0 0) (x .memory)) (sym q);
+        plan = subst (λ (x : Memory). PlanOf (afterFirst k bytes) (x .slices) (x .tally)) (ap memoryIn (w .3) ∙ ap memoryIn (sym q)) before;
+      }
 
   by-first : (c : ℕ) → (replayBy c bytes m .answer .number ≡ 0 → ⊥) → replayBy c bytes m .answer .field ≤ 1 → replayBy c bytes m .memory ≡ m
   unfolding replayBy
   by-first zero z h =
-      let f = fields (drop 5 bytes) in
-      absurd (omega (arith, enter-before (f .wrong) (f .left) 2 (f .entries) (begin (banksIn bytes) m) z .2))
+      let f = fields (drop firstSize bytes) in
+      absurd (omega (arith, enter-before (f .wrong) (f .leftOver) 2 (f .entries) (begin (banksIn bytes) m) z .2))
   by-first (suc c) z h = refl
 
   pub refused-first : (replayed bytes m .answer .number ≡ 0 → ⊥) → replayed bytes m .answer .field ≤ 1 → replayed bytes m .memory ≡ m

@@ -2,74 +2,43 @@
 use mathlib.Core.Bool.{Bool, true, false, cond, _&&_}
 use mathlib.Core.List.{List, [], _∷_, _++_, map}
 use mathlib.Core.Logic.{_⊎_, inl, inr}
-use mathlib.Core.Path.{_≡_, refl, ap, _∙_}
+use mathlib.Core.Path.{_≡_, refl, ap, ap₂, _∙_}
 use Prim.Native.Nat.{ℕ, zero, suc, _≤_, _<_}
 use native.Mathlib.Omega.{arith}
 use lib.Dec.{leb}
 use lib.ListN.{length}
-use borrow.Author.Tests.{le-leb, lt-leb, leb-true, ne-eqb}
-use Rattle.rule.proofs.Booleans.{lt-or-ge, both-true}
+use borrow.Author.Tests.{lt-leb, ne-eqb}
+use Rattle.rule.proofs.Booleans.{lt-or-ge}
 use Rattle.rule.specs.Graph.{Graph}
-use Rattle.rule.specs.Reach.{Kind, adding, striking}
+use Rattle.rule.specs.Numbers.{bank}
+use Rattle.rule.specs.declared.Kind.{Kind}
+use Rattle.rule.specs.declared.Kind.the-variants.{Adding, Striking}
+use Rattle.memory.specs.Memory.{Memory}
 use Rattle.planner.specs.Questions.{firstNo}
-use Rattle.planner.specs.Calls.{Memory, allLong, editNumber}
+use Rattle.planner.specs.Calls.{allLong, editNumber}
+use Rattle.planner.specs.States.{State, make, begin, beginNumber}
 use Rattle.planner.proofs.Numbers.{far-a, far-b}
 use Rattle.planner.proofs.Outcomes.{edited-banks}
-use Rattle.list_rows.specs.declared.number.Number.{Number}
-use Rattle.list_rows.specs.declared.number.Number.the-variants.{Value, Nothing}
+use Rattle.planner.proofs.Made.{begin-passed}
+use Rattle.text.specs.declared.number.Number.{Number}
+use Rattle.text.specs.declared.number.Number.the-variants.{Value, Nothing}
+use Rattle.text.specs.Text.{onto, rows, parts}
+use Rattle.text.specs.Numbers.{number, decimal}
+use Rattle.text.proofs.Decimal.{reads-back, reads-not}
+use Rattle.text.proofs.Without.{Without, without-append, decimal-without, rows-feed, parts-space, parts-last}
 use Rattle.list_rows.specs.declared.row.Change.{Change}
-use Rattle.list_rows.specs.declared.row.Change.the-variants as Changes
+use Rattle.list_rows.specs.declared.row.Change.the-variants.{One}
 use Rattle.list_rows.specs.declared.row.Row.the-variants.{Banks, Edit, Unreadable}
-use Rattle.list_rows.specs.Text.{onto, rows, parts, digits, number}
-use Rattle.list_rows.specs.Rows.{isByte, twoParts, threeParts, fromParts, rowOf}
-use Rattle.list_reader.specs.Pass.{State, ListResult, reading, make, change, changeNumber, rowNumber, step, passBy, pass, begin, beginNumber, beginBy, fromFirst, fromRows, readList}
-use Rattle.sheet_writer.specs.Sheet.{decimal}
+use Rattle.list_rows.specs.Rows.{isByte, twoParts, threeParts, fromParts, rowOf, rowsOf}
+use Rattle.list_reader.specs.Pass.{ListResult, reading, change, changeNumber, rowNumber, step, passBy, pass, beginBy, fromFirst, fromRows, readList}
+use Rattle.list_reader.proofs.Lists.{within}
 use Rattle.journal_fields.specs.declared.field.Entry.{Entry}
-use Rattle.journal_fields.specs.declared.field.Entry.the-variants.{Add, Strike}
-use Rattle.journal_fields.specs.Fields.{journalBytes}
-use Rattle.journal_replay.specs.SameList.{pairText, entryText, entriesText, listText}
+use Rattle.journal_fields.specs.Fields.{tagOf, journalBytes}
+use Rattle.journal_fields.specs.Bounds.{Below, AllBelow}
+use Rattle.journal_replay.specs.SameList.{pairText, entryText, entriesText, listText, entryRow}
 use Rattle.journal_replay.specs.Replay.{ReplayResult, entryNumber, enter, ended, enterBy, enterAll, replayed}
 use Rattle.journal_fields.proofs.Entries.{whole}
-use Rattle.journal_fields.proofs.Bytes.{Below, AllBelow}
-use Rattle.journal_replay.proofs.Decimals.{decimal-digits, reads-back, reads-not}
-use Rattle.journal_replay.proofs.Replaying.{begin-passed, replayFrom, replay-is, journal-reads}
-
--- none of the bytes is c
-abbrev Without : ℕ → List ℕ → Type 0
-Without c [] = Unit {0}
-Without c (x ∷ xs) = (x ≡ c → ⊥) × Without c xs
-
-without-append : (c : ℕ) (xs ys : List ℕ) → Without c xs → Without c ys → Without c (xs ++ ys)
-without-append c [] ys p q = q
-without-append c (x ∷ xs) ys p q = (p .0, without-append c xs ys (p .1) q)
-
--- digits are neither line feeds nor spaces
-digits-without : (c : ℕ) → c < 48 → (p : List ℕ) → digits p ≡ true → Without c p
-unfolding digits
-digits-without c h [] e = tt
-digits-without c h (x ∷ xs) e =
-    let p = both-true (leb 48 x) (leb x 57 && digits xs) e in
-    let q = both-true (leb x 57) (digits xs) (p .1) in
-    ((λ k. omega (arith, leb-true 48 x (p .0))), digits-without c h xs (q .1))
-
-decimal-without : (c : ℕ) → c < 48 → (x : ℕ) → Without c (decimal x)
-decimal-without c h x = digits-without c h (decimal x) (decimal-digits x)
-
--- a row and its line feed, a part and its space, a last part
-rows-feed : (r rest : List ℕ) → Without 10 r → rows (r ++ (10 ∷ rest)) ≡ r ∷ rows rest
-unfolding rows onto
-rows-feed [] rest w = refl
-rows-feed (c ∷ r) rest w = rw (ne-eqb c 10 (w .0)) (ap (onto c) (rows-feed r rest (w .1)))
-
-parts-space : (p rest : List ℕ) → Without 32 p → parts (p ++ (32 ∷ rest)) ≡ p ∷ parts rest
-unfolding parts onto
-parts-space [] rest w = refl
-parts-space (c ∷ p) rest w = rw (ne-eqb c 32 (w .0)) (ap (onto c) (parts-space p rest (w .1)))
-
-parts-last : (p : List ℕ) → Without 32 p → parts p ≡ p ∷ []
-unfolding parts onto
-parts-last [] w = refl
-parts-last (c ∷ p) w = rw (ne-eqb c 32 (w .0)) (ap (onto c) (parts-last p (w .1)))
+use Rattle.journal_replay.proofs.Replaying.{replayFrom, replay-is, journal-reads}
 
 -- the two numbers of a row
 module _ (a b : ℕ) where
@@ -87,10 +56,16 @@ module _ (a b : ℕ) where
 tag-without : (tag : ℕ) (rest : List ℕ) → (tag ≡ 10 → ⊥) → Without 10 rest → Without 10 (tag ∷ 32 ∷ rest)
 tag-without tag rest n w = (n, ((λ q. omega arith), w))
 
+-- a sign is neither a line feed nor a space
+sign-above : (k : Kind) → 32 < tagOf k
+unfolding tagOf
+sign-above Adding = omega arith
+sign-above Striking = omega arith
+
 entry-without : (e : Entry) → Without 10 (entryText e)
 unfolding entryText
-entry-without (Add a b) = tag-without 43 (pairText (a .0) (b .0)) (λ q. omega arith) (pair-without (a .0) (b .0))
-entry-without (Strike a b) = tag-without 45 (pairText (a .0) (b .0)) (λ q. omega arith) (pair-without (a .0) (b .0))
+entry-without e =
+    tag-without (tagOf (e .kind)) (pairText (e .a .0) (e .b .0)) (λ q. omega (arith, sign-above (e .kind))) (pair-without (e .a .0) (e .b .0))
 
 rows-entries : (es : List Entry) → rows (entriesText es) ≡ map entryText es
 unfolding entriesText rows
@@ -118,8 +93,7 @@ first-fails n h = first-parts n ∙ rw (reads-not n h)
 
 -- the edit of an entry's row
 changeOf : Entry → Change
-changeOf (Add a b) = Changes.Add a b
-changeOf (Strike a b) = Changes.Strike a b
+changeOf e = One (e .kind) (e .a) (e .b)
 
 three-none : (head : List ℕ) (x : Number) → threeParts head x Nothing ≡ Unreadable
 unfolding threeParts
@@ -156,38 +130,36 @@ one-far : (a b : ℕ) → (10000 ≤ a) ⊎ (10000 ≤ b) → (a < 10000) × (b 
 one-far a b (inl h) k = omega (arith, k .0)
 one-far a b (inr h) k = omega (arith, k .1)
 
+-- a sign and two numbers that read are an edit
+sign-reads : (k : Kind) (a b : ℕ) → threeParts (tagOf k ∷ []) (Value a) (Value b) ≡ Edit (One k (bank a) (bank b))
+unfolding threeParts isByte tagOf
+sign-reads Adding a b = refl
+sign-reads Striking a b = refl
+
 row-of : (e : Entry) → RowOf e
-unfolding entryText changeOf threeParts isByte entryNumber
-row-of (Add a b) =
-    elim (few? (a .0) (b .0)) [
-      | inl h ↦ reads (row-reads 43 (a .0) (b .0) (λ q. omega arith) h)
-      | inr h ↦ fails (row-fails 43 (a .0) (b .0) (λ q. omega arith) h) (λ G l. far-number adding G (a .0) (b .0) l h) (one-far (a .0) (b .0) h)
-    ]
-row-of (Strike a b) =
-    elim (few? (a .0) (b .0)) [
-      | inl h ↦ reads (row-reads 45 (a .0) (b .0) (λ q. omega arith) h)
-      | inr h ↦ fails (row-fails 45 (a .0) (b .0) (λ q. omega arith) h) (λ G l. far-number striking G (a .0) (b .0) l h) (one-far (a .0) (b .0) h)
-    ]
+unfolding entryText changeOf entryNumber
+row-of e = by (few? (e .a .0) (e .b .0))
+  where
+    other : tagOf (e .kind) ≡ 32 → ⊥
+    other q = omega (arith, sign-above (e .kind))
+
+    by : ((e .a .0 < 10000) × (e .b .0 < 10000)) ⊎ ((10000 ≤ e .a .0) ⊎ (10000 ≤ e .b .0)) → RowOf e
+    by (inl h) = reads (row-reads (tagOf (e .kind)) (e .a .0) (e .b .0) other h ∙ sign-reads (e .kind) (e .a .0) (e .b .0))
+    by (inr h) =
+        fails (row-fails (tagOf (e .kind)) (e .a .0) (e .b .0) other h) (λ G l. far-number (e .kind) G (e .a .0) (e .b .0) l h) (one-far (e .a .0) (e .b .0) h)
 
 -- an entry whose row reads does what the row does
 row-number : (e : Entry) (G : Graph) → changeNumber (changeOf e) G ≡ entryNumber e G
 unfolding changeNumber changeOf entryNumber
-row-number (Add a b) G = refl
-row-number (Strike a b) G = refl
+row-number e G = refl
 
 row-step : (e : Entry) (s : State) → change (changeOf e) s ≡ enter e s
 unfolding change changeOf enter
-row-step (Add a b) s = refl
-row-step (Strike a b) s = refl
-
-make-banks : (k : Kind) (a b : ℕ) (s : State) → make k a b s .graph .banks ≡ s .graph .banks
-unfolding make
-make-banks k a b s = edited-banks k (s .graph) a b
+row-step e s = refl
 
 enter-banks : (e : Entry) (s : State) → enter e s .graph .banks ≡ s .graph .banks
-unfolding enter
-enter-banks (Add a b) s = make-banks adding (a .0) (b .0) s
-enter-banks (Strike a b) s = make-banks striking (a .0) (b .0) s
+unfolding enter make
+enter-banks e s = edited-banks (e .kind) (s .graph) (e .a .0) (e .b .0)
 
 -- a list and a replay leave the same memory, and if `alike` the same number and place
 pub record Beside (r : ListResult) (q : ReplayResult) (alike : Type 0) : Type 0 where
@@ -199,15 +171,18 @@ unfolding passBy enterBy
 by-beside zero i s r q alike more f h = record { memory = h .memory; answer = λ a. h .answer (f a) }
 by-beside (suc c) i s r q alike more f h = record { memory = refl; answer = λ a. refl }
 
-pass-beside : (i : ℕ) (es : List Entry) (s : State) → s .graph .banks ≤ 10000 → Beside (pass i (map entryText es) s) (enterAll i es false 0 s) (AllBelow 10000 es)
+pass-beside : (i : ℕ) (es : List Entry) (s : State) → s .graph .banks ≤ 10000 → Beside (pass i (map rowOf (map entryText es)) s) (enterAll i es false 0 s) (AllBelow 10000 es)
 unfolding pass enterAll ended
 pass-beside i [] s l = record { memory = refl; answer = λ a. refl }
 pass-beside i (e ∷ es) s l = by (row-of e) (pass-beside (suc i) es (enter e s) (omega (arith, enter-banks e s)))
   where
-    by : RowOf e → Beside (pass (suc i) (map entryText es) (enter e s)) (enterAll (suc i) es false 0 (enter e s)) (AllBelow 10000 es)
-        → Beside (passBy (rowNumber (rowOf (entryText e)) (s .graph)) i s (pass (suc i) (map entryText es) (step (rowOf (entryText e)) s)))
+    by : RowOf e → Beside (pass (suc i) (map rowOf (map entryText es)) (enter e s)) (enterAll (suc i) es false 0 (enter e s)) (AllBelow 10000 es)
+        → Beside (passBy (rowNumber (rowOf (entryText e)) (s .graph)) i s (pass (suc i) (map rowOf (map entryText es)) (step (rowOf (entryText e)) s)))
         (enterBy (entryNumber e (s .graph)) i s (enterAll (suc i) es false 0 (enter e s))) (AllBelow 10000 (e ∷ es))
-    by (reads q) h = rw q (unfold rowNumber step in rw (row-number e (s .graph), row-step e s) (by-beside (entryNumber e (s .graph)) i s _ _ (AllBelow 10000 es) (AllBelow 10000 (e ∷ es)) (λ a. a .1) h))
+    by (reads q) h = rw q (unfold rowNumber step in rw (
+      row-number e (s .graph),
+      row-step e s,
+    ) (by-beside (entryNumber e (s .graph)) i s _ _ (AllBelow 10000 es) (AllBelow 10000 (e ∷ es)) (λ a. a .1) h))
     by (fails q f n) h = rw (q, f (s .graph) l) (unfold rowNumber passBy enterBy in record { memory = refl; answer = λ a. absurd (n (a .0)) })
 
 -- questions 3 and 4
@@ -225,7 +200,7 @@ begin-small n m = by (leb n 1024) (allLong n m)
     by false q = omega arith
 
 begin-beside : (c n : ℕ) (es : List Entry) (m : Memory) → beginNumber n m ≡ c
-    → Beside (beginBy c n (map entryText es) m) (replayFrom c n (whole es) m) ((n < 10000) × AllBelow 10000 es)
+    → Beside (beginBy c n (map rowOf (map entryText es)) m) (replayFrom c n (whole es) m) ((n < 10000) × AllBelow 10000 es)
 unfolding beginBy replayFrom begin
 begin-beside zero n es m e =
     let h = pass-beside 2 es (begin n m) (omega (arith, begin-passed n m e .0)) in
@@ -236,13 +211,25 @@ begin-beside (suc c) n es m e =
 -- the list and the journal of the same edits
 module _ (n : ℕ) (es : List Entry) (m : Memory) where
   first-beside : (n < 10000) ⊎ (10000 ≤ n)
-      → Beside (fromRows (rows (listText n es)) m) (replayFrom (beginNumber n m) n (whole es) m) ((n < 10000) × AllBelow 10000 es)
+      → Beside (fromRows (rowsOf (listText n es)) m) (replayFrom (beginNumber n m) n (whole es) m) ((n < 10000) × AllBelow 10000 es)
   first-beside (inl h) = rw (rows-list n es) (unfold fromRows fromFirst in rw (first-reads n h) (begin-beside (beginNumber n m) n es m refl))
   first-beside (inr h) =
       rw (rows-list n es, begin-many n m (omega arith))
       (unfold fromRows fromFirst replayFrom in rw (first-fails n h) (record { memory = refl; answer = λ a. absurd (omega (arith, a .0)) }))
 
-  pub same-edits : length (journalBytes n es) ≤ 60000 → length (listText n es) ≤ 60000
-      → Beside (readList (listText n es) m) (replayed (journalBytes n es) m) ((n < 10000) × AllBelow 10000 es)
-  unfolding readList
-  same-edits h k = rw (le-leb (length (listText n es)) 60000 k, replay-is (journal-reads n es h) m) (first-beside (lt-or-ge n 10000))
+  -- and any list whose rows say what those of that list say
+  pub same-edits : length (journalBytes n es) ≤ 60000 → (list : List ℕ) → length list ≤ 60000 → rowsOf list ≡ rowsOf (listText n es)
+      → Beside (readList list m) (replayed (journalBytes n es) m) ((n < 10000) × AllBelow 10000 es)
+  same-edits h list k alike = rw (within list m k, alike, replay-is (journal-reads n es h) m) (first-beside (lt-or-ge n 10000))
+
+-- what these rows say, where their numbers can stand in a row
+entry-rows : (es : List Entry) → AllBelow 10000 es → map rowOf (map entryText es) ≡ map entryRow es
+entry-rows [] h = refl
+entry-rows (e ∷ es) h = ap₂ _∷_ (by (row-of e)) (entry-rows es (h .1))
+  where
+    by : RowOf e → rowOf (entryText e) ≡ entryRow e
+    by (reads q) = q ∙ unfold changeOf in refl
+    by (fails q f n) = absurd (n (h .0))
+
+pub list-rows : (n : ℕ) (es : List Entry) → n < 10000 → AllBelow 10000 es → rowsOf (listText n es) ≡ Banks n ∷ map entryRow es
+list-rows n es h k = ap (map rowOf) (rows-list n es) ∙ ap₂ _∷_ (first-reads n h) (entry-rows es k)

@@ -1,45 +1,58 @@
 -- Theorems on replays, each restated: what to cite. Their proofs are in the files beside this one.
-use mathlib.Core.List.{List}
+use mathlib.Core.List.{List, _∷_, map}
 use mathlib.Core.Path.{_≡_, sym, ap}
 use Prim.Native.Nat.{ℕ, _+_, _*_, _/_, _%_, _≤_, _<_}
 use lib.ListN.{length, take}
-use Rattle.planner.specs.Calls.{Memory}
+use Rattle.memory.specs.Memory.{Memory}
+use Rattle.list_rows.specs.declared.row.Row.the-variants.{Banks}
+use Rattle.list_rows.specs.Rows.{rowsOf}
 use Rattle.list_reader.specs.declared.pass.Reading.{Reading}
 use Rattle.list_reader.specs.Pass.{readList}
 use Rattle.journal_fields.specs.declared.field.Entry.{Entry}
-use Rattle.journal_fields.specs.Fields.{journalBytes}
-use Rattle.journal_replay.specs.SameList.{listText}
-use Rattle.journal_replay.specs.Replay.{replayResult, replayAnswer, replayed}
-use Rattle.journal_fields.proofs.Bytes.{AllBelow}
+use Rattle.journal_fields.specs.Fields.{firstSize, entrySize, journalBytes}
+use Rattle.journal_fields.specs.Bounds.{AllBelow}
+use Rattle.journal_replay.specs.SameList.{listText, entryRow}
+use Rattle.journal_replay.specs.Ends.{endOf, Leaves, RefusedLater, SameButLeftOver}
+use Rattle.journal_replay.specs.Replay.{replayed}
 use Rattle.journal_replay.proofs.Replaying as Replaying
-use Rattle.journal_replay.proofs.Replaying.{SameButLeft}
 use Rattle.journal_replay.proofs.SameEdits as SameEdits
+use Rattle.journal_replay.proofs.Holds as Holds
 use Rattle.journal_replay.proofs.Refusals as Refusals
 
--- 1. a journal cut at byte i after its first field replays as the journal of its whole fields does: the same number, field and memory; not refused, it reports the bytes left over
-pub cut-replays : (n : ℕ) (es : List Entry) (i : ℕ) → i ≤ 7 * length es → 5 + i ≤ 60000 → (m : Memory)
-    → SameButLeft (replayed (take (5 + i) (journalBytes n es)) m) (replayed (journalBytes n (take (i / 7) es)) m) (i % 7)
+-- 1. a journal cut at byte i after its first field replays as the journal of its whole fields does: the same number, field and memory; not
+-- refused, it reports the bytes left over
+pub cut-replays : (n : ℕ) (es : List Entry) (i : ℕ) → i ≤ entrySize * length es → firstSize + i ≤ 60000 → (m : Memory)
+    → SameButLeftOver (replayed (take (firstSize + i) (journalBytes n es)) m) (replayed (journalBytes n (take (i / entrySize) es)) m) (i % entrySize)
 cut-replays = Replaying.cut-replays
 
--- 2. a journal and the list of the same edits, each within 60,000 bytes, leave the same memory: plan, tally, trail and moved; and with
--- numbers below 10,000, which a row can hold, the same number at the same place
-module _ (n : ℕ) (es : List Entry) (m : Memory) (journal : length (journalBytes n es) ≤ 60000) (list : length (listText n es) ≤ 60000) where
-  pub same-memory : replayed (journalBytes n es) m .memory ≡ readList (listText n es) m .memory
-  same-memory = sym (SameEdits.same-edits n es m journal list .memory)
+-- 2. a journal and any list of the same edits, each within 60,000 bytes, leave the same memory: plan, tally, trail and moved; and with numbers below
+-- 10,000, which a row can hold, the same number at the same place. The list's rows say what those of `listText` say: padded, with or without the
+-- last line feed
+module _ (n : ℕ) (es : List Entry) (m : Memory) (journal : length (journalBytes n es) ≤ 60000)
+    (list : List ℕ) (short : length list ≤ 60000) (alike : rowsOf list ≡ rowsOf (listText n es)) where
+  pub same-memory : replayed (journalBytes n es) m .memory ≡ readList list m .memory
+  same-memory = sym (SameEdits.same-edits n es m journal list short alike .memory)
 
-  pub same-number : n < 10000 → AllBelow 10000 es → replayed (journalBytes n es) m .answer .number ≡ readList (listText n es) m .answer .number
-  same-number h k = ap (λ (r : Reading). r .number) (sym (SameEdits.same-edits n es m journal list .answer (h, k)))
+  pub same-number : n < 10000 → AllBelow 10000 es → replayed (journalBytes n es) m .answer .number ≡ readList list m .answer .number
+  same-number h k = ap (λ (r : Reading). r .number) (sym (SameEdits.same-edits n es m journal list short alike .answer (h, k)))
 
-  pub same-place : n < 10000 → AllBelow 10000 es → replayed (journalBytes n es) m .answer .field ≡ readList (listText n es) m .answer .row
-  same-place h k = ap (λ (r : Reading). r .row) (sym (SameEdits.same-edits n es m journal list .answer (h, k)))
+  pub same-place : n < 10000 → AllBelow 10000 es → replayed (journalBytes n es) m .answer .field ≡ readList list m .answer .row
+  same-place h k = ap (λ (r : Reading). r .row) (sym (SameEdits.same-edits n es m journal list short alike .answer (h, k)))
 
--- 3. a replay refused at field 0 or 1 leaves memory as it was; refused at field 2 + i, it leaves what the i entries before leave: plan, tally,
--- trail and moved
-module _ (bytes : List ℕ) (m : Memory) (refused : replayed bytes m .answer .number ≡ 0 → ⊥) where
-  pub refused-first : replayed bytes m .answer .field ≤ 1 → replayed bytes m .memory ≡ m
-  refused-first = Refusals.refused-first bytes m refused
+-- and those say `N n` and the entries' edits in turn
+pub list-rows : (n : ℕ) (es : List Entry) → n < 10000 → AllBelow 10000 es → rowsOf (listText n es) ≡ Banks n ∷ map entryRow es
+list-rows = SameEdits.list-rows
 
-  pub refused-later : 2 ≤ replayed bytes m .answer .field
-      → (i : ℕ) × (replayed bytes m .answer .field ≡ 2 + i)
-      × (replayed (take (5 + 7 * i) bytes) m ≡ replayResult (replayAnswer 0 0 0) (replayed bytes m .memory))
-  refused-later = Refusals.refused-later bytes m refused
+-- 3. a replay that is not refused leaves the plan of all its entries
+module _ (bytes : List ℕ) (m : Memory) where
+  pub replay-holds : replayed bytes m .answer .number ≡ 0 → Leaves (endOf bytes) (replayed bytes m)
+  replay-holds = Holds.replay-holds bytes m
+
+  -- refused at field 0 or 1, it leaves memory as it was; refused at field 2 + i, it leaves what the i entries before leave, plan, tally, trail
+  -- and moved, and the plan is that of the clashes after them
+  module _ (refused : replayed bytes m .answer .number ≡ 0 → ⊥) where
+    pub refused-first : replayed bytes m .answer .field ≤ 1 → replayed bytes m .memory ≡ m
+    refused-first = Refusals.refused-first bytes m refused
+
+    pub refused-later : 2 ≤ replayed bytes m .answer .field → RefusedLater bytes m
+    refused-later = Refusals.refused-later bytes m refused

@@ -1,5 +1,5 @@
--- What a reader must believe of a replay: Replay; SameList for the theorem on lists. Examples are computed. Steps serves the functions.
+-- What a reader must believe of a replay: Replay; of the theorems: Ends, and SameList for the one on lists. inner serves the functions.
 pub mod Replay
+pub mod Ends
 pub mod SameList
-pub mod Examples
-pub mod Steps
+pub mod inner

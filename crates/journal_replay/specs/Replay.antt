@@ -5,13 +5,12 @@ use Prim.Native.Nat.{ℕ, zero, suc}
 use lib.Dec.{leb, eqb}
 use lib.ListN.{length, drop}
 use Rattle.rule.specs.Graph.{Graph}
-use Rattle.rule.specs.Reach.{adding, striking}
+use Rattle.memory.specs.Memory.{Memory}
 use Rattle.planner.specs.Questions.{_else_, firstNo}
-use Rattle.planner.specs.Calls.{Memory, allLong, editNumber}
-use Rattle.list_reader.specs.Pass.{State, make, begin}
+use Rattle.planner.specs.Calls.{allLong, editNumber}
+use Rattle.planner.specs.States.{State, make, begin}
 use Rattle.journal_fields.specs.declared.field.Entry.{Entry}
-use Rattle.journal_fields.specs.declared.field.Entry.the-variants.{Add, Strike}
-use Rattle.journal_fields.specs.Fields.{hasFirst, banksIn, fields}
+use Rattle.journal_fields.specs.Fields.{firstSize, hasFirst, banksIn, fields}
 use Rattle.journal_replay.specs.declared.rerun.Replayed.{Replayed}
 
 -- what a replay leaves: the number, the field that got it, the bytes left over, and the memory
@@ -23,22 +22,20 @@ abbrev pub replayResult : Replayed → Memory → ReplayResult
 replayResult answer memory = record { answer = answer; memory = memory }
 
 abbrev pub replayAnswer : ℕ → ℕ → ℕ → Replayed
-replayAnswer number field left = record { number = number; field = field; left = left }
+replayAnswer number field leftOver = record { number = number; field = field; «left_over» = leftOver }
 
 -- questions 7 to 11 of an entry
 unfoldable pub entryNumber : Entry → Graph → ℕ
-entryNumber (Add a b) G = editNumber adding G (a .0) (b .0)
-entryNumber (Strike a b) G = editNumber striking G (a .0) (b .0)
+entryNumber e G = editNumber (e .kind) G (e .a .0) (e .b .0)
 
 -- an entry's edit, to which no refusal is due
 unfoldable pub enter : Entry → State → State
-enter (Add a b) s = make adding (a .0) (b .0) s
-enter (Strike a b) s = make striking (a .0) (b .0) s
+enter e s = make (e .kind) (e .a .0) (e .b .0) s
 
 -- after the last entry: a wrong field i gets 14, else the bytes left over are reported
 unfoldable pub ended : Bool → ℕ → ℕ → Memory → ReplayResult
-ended true i left m = replayResult (replayAnswer 14 i 0) m
-ended false i left m = replayResult (replayAnswer 0 0 left) m
+ended true i leftOver m = replayResult (replayAnswer 14 i 0) m
+ended false i leftOver m = replayResult (replayAnswer 0 0 leftOver) m
 
 -- by the number of field i: on to the rest, or the refusal
 unfoldable pub enterBy : ℕ → ℕ → State → ReplayResult → ReplayResult
@@ -47,8 +44,8 @@ enterBy (suc c) i s rest = replayResult (replayAnswer (suc c) i 0) (s .memory)
 
 -- the entries from field i on, in turn, and what ends them
 unfoldable pub enterAll : ℕ → List Entry → Bool → ℕ → State → ReplayResult
-enterAll i [] wrong left s = ended wrong i left (s .memory)
-enterAll i (e ∷ es) wrong left s = enterBy (entryNumber e (s .graph)) i s (enterAll (suc i) es wrong left (enter e s))
+enterAll i [] wrong leftOver s = ended wrong i leftOver (s .memory)
+enterAll i (e ∷ es) wrong leftOver s = enterBy (entryNumber e (s .graph)) i s (enterAll (suc i) es wrong leftOver (enter e s))
 
 -- the questions before the entries
 unfoldable pub replayNumber : List ℕ → Memory → ℕ
@@ -63,8 +60,8 @@ replayNumber bytes m =
 -- by their number: open the plan and make the edits in turn, or the number with field 1, and field 0 for 9
 unfoldable pub replayBy : ℕ → List ℕ → Memory → ReplayResult
 replayBy zero bytes m =
-    let f = fields (drop 5 bytes) in
-    enterAll 2 (f .entries) (f .wrong) (f .left) (begin (banksIn bytes) m)
+    let f = fields (drop firstSize bytes) in
+    enterAll 2 (f .entries) (f .wrong) (f .leftOver) (begin (banksIn bytes) m)
 replayBy (suc c) bytes m = replayResult (replayAnswer (suc c) (cond (eqb (suc c) 9) 0 1) 0) m
 
 -- the call that replays a journal

@@ -1,18 +1,20 @@
 -- The list of the same edits as a journal's: `N n`, then a row for each entry, numbers without zeros in front.
 use mathlib.Core.List.{List, [], _∷_, _++_}
 use Prim.Native.Nat.{ℕ}
-use Rattle.sheet_writer.specs.Sheet.{decimal}
+use Rattle.text.specs.Numbers.{decimal}
+use Rattle.list_rows.specs.declared.row.Change.the-variants.{One}
+use Rattle.list_rows.specs.declared.row.Row.{Row}
+use Rattle.list_rows.specs.declared.row.Row.the-variants.{Edit}
 use Rattle.journal_fields.specs.declared.field.Entry.{Entry}
-use Rattle.journal_fields.specs.declared.field.Entry.the-variants.{Add, Strike}
+use Rattle.journal_fields.specs.Fields.{tagOf}
 
 -- the two numbers of a row
 unfoldable pub pairText : ℕ → ℕ → List ℕ
 pairText a b = decimal a ++ (32 ∷ decimal b)
 
--- `+ a b` or `- a b`
+-- `+ a b` or `- a b`: the tag is the sign, bytes 43 and 45
 unfoldable pub entryText : Entry → List ℕ
-entryText (Add a b) = 43 ∷ 32 ∷ pairText (a .0) (b .0)
-entryText (Strike a b) = 45 ∷ 32 ∷ pairText (a .0) (b .0)
+entryText e = tagOf (e .kind) ∷ 32 ∷ pairText (e .a .0) (e .b .0)
 
 -- the rows of entries, each with a line feed
 unfoldable pub entriesText : List Entry → List ℕ
@@ -22,3 +24,7 @@ entriesText (e ∷ es) = entryText e ++ (10 ∷ entriesText es)
 -- the list
 unfoldable pub listText : ℕ → List Entry → List ℕ
 listText n es = (78 ∷ 32 ∷ decimal n) ++ (10 ∷ entriesText es)
+
+-- what the row of an entry says
+abbrev pub entryRow : Entry → Row
+entryRow e = Edit (One (e .kind) (e .a) (e .b))

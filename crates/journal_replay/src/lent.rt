@@ -3,7 +3,7 @@ use crate::rerun::Replayed;
 use crate::rerun::replay_core;
 use memory::Tally;
 ghost use mathlib.Core.Path.{_≡_};
-ghost use Rattle.planner.specs.Calls.{memoryOf};
+ghost use Rattle.memory.specs.Lent.{before, after};
 ghost use Rattle.journal_replay.specs.Replay.{replayResult, replayed};
 
 // Replays a journal: opens the plan of its first field, then makes the edits of the others. Answers 0 and the bytes left over, or the number
@@ -18,7 +18,8 @@ pub fn replay(
     moved: &mut [u16],
     tally: &mut Tally,
 ) -> Replayed
-    ensures { λ r. ⌜ replayResult r (memoryOf (now (neighbours .exit)) (now (degrees .exit)) (now (waves .exit)) (now (counts .exit)) (now (trail .exit)) (now (moved .exit)) (now (tally .exit))) ≡ replayed (now (journal .entry)) (memoryOf (now (neighbours .entry)) (now (degrees .entry)) (now (waves .entry)) (now (counts .entry)) (now (trail .entry)) (now (moved .entry)) (now (tally .entry))) ⌝ }
+    ensures { λ r. ⌜ replayResult r (after neighbours degrees waves counts trail moved (now (tally .exit)))
+        ≡ replayed (now (journal .entry)) (before neighbours degrees waves counts trail moved (now (tally .entry))) ⌝ }
 {
     let t = *tally;
     let r = replay_core(journal, neighbours, degrees, waves, counts, trail, moved, t);

@@ -1,23 +1,19 @@
 // The call that replays a journal.
 use journal_fields::ENTRY_BYTES;
-use journal_fields::Entry;
 use journal_fields::FIRST_BYTES;
 use journal_fields::Field;
 use journal_fields::head_number;
 use journal_fields::number_at;
 use journal_fields::read_field;
-use list_reader::open_all;
 use memory::Tally;
-use planner::Edited;
-use planner::add_held;
-use planner::strike_held;
+use planner::edit_held;
+use planner::open_all;
 ghost use mathlib.Core.Path.{_≡_};
 ghost use Prim.Native.Nat.{_<_};
 ghost use lib.ListN.{length};
-ghost use Rattle.planner.specs.Calls.{memoryOf};
-ghost use Rattle.planner.specs.Held.{Held};
+ghost use Rattle.memory.specs.Lent.{given, before, after};
 ghost use Rattle.journal_replay.specs.Replay.{replayResult, replayed};
-ghost use Rattle.journal_replay.specs.Steps.{Enters, AsksField, EntersField, AsksFields, EntersFields, ending, refusedFirst};
+ghost use Rattle.journal_replay.specs.inner.Steps.{AsksField, EntersField, AsksFields, EntersFields, ending, refusedFirst};
 
 // The place of the banks' number in the first field.
 const BANKS_PLACE: usize = 3;
@@ -26,7 +22,7 @@ const BANKS_PLACE: usize = 3;
 pub struct Replayed {
     pub number: u16,
     pub field: u16,
-    pub left: u16,
+    pub left_over: u16,
 }
 
 // What a replay leaves beside its slices.
@@ -36,51 +32,11 @@ pub struct ReplayedPlan {
 }
 
 // What a field leaves beside the slices: its number, which field it is, and where the next one starts.
-pub struct Step {
+pub struct Entered {
     pub number: u16,
     pub field: u16,
     pub next: usize,
     pub tally: Tally,
-}
-
-// Makes the edit of an entry.
-fn enter(
-    neighbours: &mut [u16],
-    degrees: &mut [u16],
-    waves: &mut [u16],
-    counts: &mut [u16],
-    trail: &mut [u16],
-    moved: &mut [u16],
-    tally: Tally,
-    entry: Entry,
-) -> Edited
-    requires { ⌜ Held (memoryOf (now neighbours) (now degrees) (now waves) (now counts) (now trail) (now moved) tally) ⌝ }
-    ensures { λ r. ⌜ Enters entry (memoryOf (now (neighbours .entry)) (now (degrees .entry)) (now (waves .entry)) (now (counts .entry)) (now (trail .entry)) (now (moved .entry)) tally) r (memoryOf (now (neighbours .exit)) (now (degrees .exit)) (now (waves .exit)) (now (counts .exit)) (now (trail .exit)) (now (moved .exit)) (r .tally)) ⌝ }
-{
-    match entry {
-        Entry::Add(a, b) => add_held(
-            neighbours,
-            degrees,
-            waves,
-            counts,
-            trail,
-            moved,
-            tally,
-            a,
-            b,
-        ),
-        Entry::Strike(a, b) => strike_held(
-            neighbours,
-            degrees,
-            waves,
-            counts,
-            trail,
-            moved,
-            tally,
-            a,
-            b,
-        ),
-    }
 }
 
 // Reads the field that starts at `start`, which is field `field`, and makes its edit.
@@ -95,20 +51,24 @@ fn enter_field(
     trail: &mut [u16],
     moved: &mut [u16],
     tally: Tally,
-) -> Step
-    requires { ⌜ AsksField (now journal) start (memoryOf (now neighbours) (now degrees) (now waves) (now counts) (now trail) (now moved) tally) ⌝ }
-    ensures { λ r. ⌜ EntersField (now (journal .entry)) start field (memoryOf (now (neighbours .entry)) (now (degrees .entry)) (now (waves .entry)) (now (counts .entry)) (now (trail .entry)) (now (moved .entry)) tally) r (memoryOf (now (neighbours .exit)) (now (degrees .exit)) (now (waves .exit)) (now (counts .exit)) (now (trail .exit)) (now (moved .exit)) (r .tally)) ⌝ }
+) -> Entered
+    requires { ⌜ AsksField (now journal) start (given neighbours degrees waves counts trail moved tally) ⌝ }
+    ensures { λ r. ⌜ EntersField (now (journal .entry)) start field
+        (before neighbours degrees waves counts trail moved tally) r
+        (after neighbours degrees waves counts trail moved (r .tally)) ⌝ }
 {
     let next = start + ENTRY_BYTES;
     let Field::Edit(entry) = read_field(&journal[start..]) else {
-        return Step {
+        return Entered {
             number: 14,
             field: field,
             next: next,
             tally: tally,
         };
     };
-    let done = enter(
+    let kind = entry.kind;
+    let done = edit_held(
+        kind,
         neighbours,
         degrees,
         waves,
@@ -116,11 +76,12 @@ fn enter_field(
         trail,
         moved,
         tally,
-        entry,
+        entry.a,
+        entry.b,
     );
     let answer = done.answer;
     let after = done.tally;
-    Step {
+    Entered {
         number: answer.number,
         field: field,
         next: next,
@@ -137,26 +98,21 @@ fn ended(rest: &[u8], number: u16, field: u16) -> Replayed
         return Replayed {
             number: number,
             field: field,
-            left: 0,
+            left_over: 0,
         };
     }
-    let found = read_field(rest);
-    match found {
-        Field::Wrong => Replayed {
-            number: 14,
-            field: field + 1,
-            left: 0,
-        },
-        Field::Edit(_) => Replayed {
+    let bytes = rest.len() as u16;
+    let Field::Wrong = read_field(rest) else {
+        return Replayed {
             number: 0,
             field: 0,
-            left: rest.len() as u16,
-        },
-        Field::Short => Replayed {
-            number: 0,
-            field: 0,
-            left: rest.len() as u16,
-        },
+            left_over: bytes,
+        };
+    };
+    Replayed {
+        number: 14,
+        field: field + 1,
+        left_over: 0,
     }
 }
 
@@ -172,10 +128,12 @@ fn enter_fields(
     moved: &mut [u16],
     tally: Tally,
 ) -> ReplayedPlan
-    requires { ⌜ AsksFields (now journal) first (memoryOf (now neighbours) (now degrees) (now waves) (now counts) (now trail) (now moved) tally) ⌝ }
-    ensures { λ r. ⌜ EntersFields (now (journal .entry)) first (memoryOf (now (neighbours .entry)) (now (degrees .entry)) (now (waves .entry)) (now (counts .entry)) (now (trail .entry)) (now (moved .entry)) tally) r (memoryOf (now (neighbours .exit)) (now (degrees .exit)) (now (waves .exit)) (now (counts .exit)) (now (trail .exit)) (now (moved .exit)) (r .tally)) ⌝ }
+    requires { ⌜ AsksFields (now journal) first (given neighbours degrees waves counts trail moved tally) ⌝ }
+    ensures { λ r. ⌜ EntersFields (now (journal .entry)) first
+        (before neighbours degrees waves counts trail moved tally) r
+        (after neighbours degrees waves counts trail moved (r .tally)) ⌝ }
 {
-    let mut last = Step {
+    let mut last = Entered {
         number: 0,
         field: 1,
         next: first,
@@ -213,7 +171,7 @@ fn refuse(number: u16, tally: Tally) -> ReplayedPlan
             answer: Replayed {
                 number: number,
                 field: 0,
-                left: 0,
+                left_over: 0,
             },
             tally: tally,
         };
@@ -222,7 +180,7 @@ fn refuse(number: u16, tally: Tally) -> ReplayedPlan
         answer: Replayed {
             number: number,
             field: 1,
-            left: 0,
+            left_over: 0,
         },
         tally: tally,
     }
@@ -240,7 +198,8 @@ pub fn replay_core(
     moved: &mut [u16],
     tally: Tally,
 ) -> ReplayedPlan
-    ensures { λ r. ⌜ replayResult (r .answer) (memoryOf (now (neighbours .exit)) (now (degrees .exit)) (now (waves .exit)) (now (counts .exit)) (now (trail .exit)) (now (moved .exit)) (r .tally)) ≡ replayed (now (journal .entry)) (memoryOf (now (neighbours .entry)) (now (degrees .entry)) (now (waves .entry)) (now (counts .entry)) (now (trail .entry)) (now (moved .entry)) tally) ⌝ }
+    ensures { λ r. ⌜ replayResult (r .answer) (after neighbours degrees waves counts trail moved (r .tally))
+        ≡ replayed (now (journal .entry)) (before neighbours degrees waves counts trail moved tally) ⌝ }
 {
     let number = head_number(journal, journal.len());
     if number != 0 {

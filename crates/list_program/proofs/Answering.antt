@@ -6,12 +6,12 @@ use native.Mathlib.Omega.{arith}
 use lib.ListN.{length, length-append}
 use Rattle.rule.specs.Graph.{Graph}
 use Rattle.memory.specs.Cells.{over}
+use Rattle.text.specs.Numbers.{decimal}
+use Rattle.text.specs.Places.{Puts}
+use Rattle.text.proofs.Putting.{puts-three, put-front}
 use Rattle.list_reader.specs.Pass.{ListResult, readList}
-use Rattle.sheet_writer.specs.Sheet.{decimal}
-use Rattle.sheet_writer.specs.Put.{Puts}
-use Rattle.sheet_writer.specs.Calls.{TextResult, writeText}
-use Rattle.sheet_writer.proofs.Putting.{puts-three, put-over}
-use Rattle.sheet_writer.proofs.Writing.{written-within}
+use Rattle.wave_lines.specs.Calls.{TextResult, writeText}
+use Rattle.wave_lines.proofs.Writing.{written-within}
 use Rattle.list_program.specs.Answers.{blank, refusalText, answerResult, ofText, answerBy, answerOf}
 
 pub length-refusal : (c r : ℕ) → length (refusalText c r) ≡ 8 + (length (decimal c) + (5 + (length (decimal r) + 1)))
@@ -32,7 +32,8 @@ puts-refusal c r out room r₁ r₂ r₃ r₄ r₅ out₁ out₂ out₃ out₄ o
     let n₁ : r₁ ≡ 0 + 8 = p₁ .next in
     let n₂ : r₂ ≡ r₁ + length (decimal c) = p₂ .next in
     let row : List ℕ = (32 ∷ 82 ∷ 79 ∷ 87 ∷ 32 ∷ []) ++ (decimal r ++ (10 ∷ [])) in
-    puts-three (82 ∷ 69 ∷ 70 ∷ 85 ∷ 83 ∷ 69 ∷ 68 ∷ 32 ∷ []) (decimal c) row 0 out (omega (arith, length-append (decimal r) (10 ∷ []))) r₁ r₂ r₅ out₁ out₂ out₅ e₁ p₁ p₂
+    puts-three (82 ∷ 69 ∷ 70 ∷ 85 ∷ 83 ∷ 69 ∷ 68 ∷ 32 ∷ []) (decimal c) row 0 out (omega (arith, length-append (decimal r) (10 ∷ []))) r₁ r₂ r₅ out₁ out₂ out₅ e₁ p₁
+    p₂
     (puts-three (32 ∷ 82 ∷ 79 ∷ 87 ∷ 32 ∷ []) (decimal r) (10 ∷ []) r₂ out₂ (omega arith) r₃ r₄ r₅ out₃ out₄ out₅ e₃ p₃ p₄ p₅)
 
 module _ (text : Graph → List ℕ) where
@@ -50,10 +51,11 @@ module _ (text : Graph → List ℕ) where
     -- a refused list
     pub answer-refused : (l .answer .number ≡ 0 → ⊥) → (r : ℕ) (out′ : List ℕ) → Puts (refusalText (l .answer .number) (l .answer .row)) 0 out r out′
         → answerResult r out′ ≡ answerOf text list out
+    unfolding over
     answer-refused z r out′ p =
         let line : List ℕ = refusalText (l .answer .number) (l .answer .row) in
         let e : r ≡ length line = omega (arith, p .next) in
-        ap₂ (λ (n : ℕ) (o : List ℕ). answerResult n o) e (p .left ∙ put-over line out) ∙ refused (l .answer .number) l out z ∙ by-reading
+        ap₂ (λ (n : ℕ) (o : List ℕ). answerResult n o) e (p .left ∙ put-front line out) ∙ refused (l .answer .number) l out z ∙ by-reading
 
     -- an accepted one
     pub answer-text : l .answer .number ≡ 0 → (w : TextResult) → w ≡ writeText text (l .memory .slices) (l .memory .tally) out → ofText w ≡ answerOf text list out

@@ -4,18 +4,34 @@ use Prim.Native.Nat.{ℕ, zero, suc}
 use lib.ListN.{length, replicate}
 use Rattle.rule.specs.Graph.{Graph}
 use Rattle.memory.specs.Cells.{over}
-use Rattle.planner.specs.Calls.{Memory, memoryOf}
+use Rattle.memory.specs.Plan.{slicesOf}
+use Rattle.memory.specs.Memory.{Memory, memoryOf}
+use Rattle.text.specs.Numbers.{decimal}
 use Rattle.list_reader.specs.Pass.{ListResult, readList}
-use Rattle.sheet_writer.specs.Sheet.{decimal}
-use Rattle.sheet_writer.specs.Calls.{TextResult, writeText}
+use Rattle.wave_lines.specs.Calls.{TextResult, writeText}
+use Rattle.sheet_writer.specs.Sheet.{sheet}
+use Rattle.poster_writer.specs.Poster.{poster}
+use Rattle.list_program.specs.declared.texts.Text.{Text}
+use Rattle.list_program.specs.declared.texts.Text.the-variants.{Sheet, Poster}
 
 -- the memory that a program lends: cells for 1,024 banks, all 0
 abbrev pub blank : Memory
-blank = memoryOf (replicate 23552 0) (replicate 1024 0) (replicate 1024 0) (replicate 24576 0) (replicate 1024 0) (replicate 1024 0) (record { banks = 0; clashes = 0; waves = 0 })
+blank =
+    memoryOf
+    (slicesOf (replicate 23552 0) (replicate 1024 0) (replicate 1024 0) (replicate 24576 0))
+    (replicate 1024 0)
+    (replicate 1024 0)
+    (record { banks = 0; clashes = 0; waves = 0 })
+
+-- the text that a program prints of a plan
+unfoldable pub textOf : Text → Graph → List ℕ
+textOf Sheet = sheet
+textOf Poster = poster
 
 -- `REFUSED c ROW r`
 unfoldable pub refusalText : ℕ → ℕ → List ℕ
-refusalText c r = (82 ∷ 69 ∷ 70 ∷ 85 ∷ 83 ∷ 69 ∷ 68 ∷ 32 ∷ []) ++ (decimal c ++ ((32 ∷ 82 ∷ 79 ∷ 87 ∷ 32 ∷ []) ++ (decimal r ++ (10 ∷ []))))
+refusalText c r =
+    (82 ∷ 69 ∷ 70 ∷ 85 ∷ 83 ∷ 69 ∷ 68 ∷ 32 ∷ []) ++ (decimal c ++ ((32 ∷ 82 ∷ 79 ∷ 87 ∷ 32 ∷ []) ++ (decimal r ++ (10 ∷ []))))
 
 -- what is written, and its length
 pub record AnswerResult : Type 0 where
@@ -31,7 +47,8 @@ ofText w = answerResult (w .answer .length) (w .out)
 -- by the list's number: the text of the plan that it left, or the refusal
 unfoldable pub answerBy : (Graph → List ℕ) → ℕ → ListResult → List ℕ → AnswerResult
 answerBy text zero l out = ofText (writeText text (l .memory .slices) (l .memory .tally) out)
-answerBy text (suc c) l out = answerResult (length (refusalText (suc c) (l .answer .row))) (over (refusalText (suc c) (l .answer .row)) out)
+answerBy text (suc c) l out =
+    let line = refusalText (suc c) (l .answer .row) in answerResult (length line) (over line out)
 
 -- the answer to a list
 unfoldable pub answerOf : (Graph → List ℕ) → List ℕ → List ℕ → AnswerResult

@@ -1,9 +1,10 @@
 // Reading standard input.
+use text::MOST_BYTES;
 ghost use Prim.Native.Nat.{_+_, _≤_};
 ghost use lib.ListN.{length};
 
 // One byte more than a list may have, so that question 1 sees a longer one.
-pub const LIST_BYTES: usize = 60001;
+pub const LIST_BYTES: usize = MOST_BYTES + 1;
 
 // What was read: how many bytes, or that the system refused a read.
 pub struct Input {

@@ -1,27 +1,24 @@
 -- A pass keeps memory a plan: an edit to which no refusal is due leaves a set of clashes, and its plan.
-use mathlib.Core.Bool.{Bool, true, false, cond, _&&_}
+use mathlib.Core.Bool.{Bool, true, false, cond}
 use mathlib.Core.List.{List, [], _∷_}
 use mathlib.Core.Path.{_≡_, refl, ap, _∙_}
 use Prim.Native.Nat.{ℕ, zero, suc, _+_, _<_}
 use native.Mathlib.Omega.{arith}
-use lib.Dec.{leb, ltb}
-use lib.ListN.{length, take}
-use borrow.Author.Tests.{leb-true, ltb-true}
+use lib.Dec.{ltb}
+use lib.ListN.{take}
+use borrow.Author.Tests.{ltb-true}
 use Rattle.rule.specs.Graph.{Graph, neighbours}
-use Rattle.rule.specs.Reach.{Kind, adding, striking, edited}
-use Rattle.memory.specs.Plan.{longEnough, PlanOf}
-use Rattle.memory.proofs.Theorems.{open-plan}
+use Rattle.rule.specs.Reach.{edited}
+use Rattle.rule.specs.declared.Kind.the-variants.{Striking}
+use Rattle.memory.specs.Plan.{PlanOf}
 use Rattle.planner.specs.Questions.{firstNo}
-use Rattle.rule.proofs.Booleans.{both-true}
-use Rattle.planner.proofs.Outcomes.{acceptable, edited-banks}
-use Rattle.planner.proofs.After.{clashes-edited, plan-in}
-use Rattle.planner.specs.Calls.{Memory, allLong, editNumber, accepted}
+use Rattle.planner.proofs.Made.{Holding, make-kept}
 use Rattle.list_rows.specs.declared.row.Change.{Change}
-use Rattle.list_rows.specs.declared.row.Change.the-variants.{Add, Strike, StrikeAll}
+use Rattle.list_rows.specs.declared.row.Change.the-variants.{One, StrikeAll}
 use Rattle.list_rows.specs.declared.row.Row.{Row}
 use Rattle.list_rows.specs.declared.row.Row.the-variants.{Banks, Edit, Unreadable}
-use Rattle.list_rows.specs.Rows.{rowOf}
-use Rattle.list_reader.specs.Pass.{State, ListResult, listResult, reading, make, strikeEach, change, changeNumber, rowNumber, step, passBy, pass, begin, beginNumber}
+use Rattle.list_reader.specs.Pass.{ListResult, listResult, reading, strikeEach, change, changeNumber, rowNumber, step, passBy, pass}
+use Rattle.planner.specs.States.{State, make}
 use Rattle.list_reader.specs.Ends.{after}
 use Rattle.list_reader.proofs.Struck.{strike-number, strike-rest}
 
@@ -30,26 +27,15 @@ yes : (q : Bool) (rest c : ℕ) → cond q rest (suc c) ≡ 0 → (q ≡ true) �
 yes true rest c z = (refl, z)
 yes false rest c z = absurd (omega arith)
 
--- memory holds the plan of the state's clashes
-abbrev pub Holding : State → Type 0
-Holding s = PlanOf (s .graph) (s .memory .slices) (s .memory .tally)
-
-make-kept : (k : Kind) (a b : ℕ) (s : State) → Holding s → editNumber k (s .graph) a b ≡ 0 → Holding (make k a b s)
-unfolding make accepted
-make-kept k a b s h z =
-    plan-in (edited k (s .graph) a b) (s .memory .slices) (clashes-edited (s .graph) a b (h .clashes) k (acceptable (s .graph) a b k z))
-    (ap (λ (n : ℕ). longEnough n (s .memory .slices)) (edited-banks k (s .graph) a b) ∙ h .long)
-
 each-kept : (b : ℕ) (vs : List ℕ) (s : State) → Holding s → b < s .graph .banks → neighbours (s .graph) b ≡ vs → Holding (strikeEach b vs s)
 unfolding strikeEach make edited
 each-kept b [] s h l e = h
 each-kept b (v ∷ vs) s h l e =
-    each-kept b vs (make striking b v s) (make-kept striking b v s h (strike-number (s .graph) (h .clashes) b l v vs e)) l (strike-rest (s .graph) (h .clashes) b l v vs e)
+    each-kept b vs (make Striking b v s) (make-kept Striking b v s h (strike-number (s .graph) (h .clashes) b l v vs e)) l (strike-rest (s .graph) (h .clashes) b l v vs e)
 
 change-kept : (c : Change) (s : State) → Holding s → changeNumber c (s .graph) ≡ 0 → Holding (change c s)
 unfolding change changeNumber firstNo
-change-kept (Add a b) s h z = make-kept adding (a .0) (b .0) s h z
-change-kept (Strike a b) s h z = make-kept striking (a .0) (b .0) s h z
+change-kept (One k a b) s h z = make-kept k (a .0) (b .0) s h z
 change-kept (StrikeAll b) s h z =
     let l = ltb-true (b .0) (s .graph .banks) (yes (ltb (b .0) (s .graph .banks)) 0 3 z .0) in
     each-kept (b .0) (neighbours (s .graph) (b .0)) s h l refl
@@ -70,47 +56,39 @@ by-holds zero i s rest h f = f refl
 by-holds (suc c) i s rest h f = (s .graph, h)
 
 -- a pass leaves a plan, refused or not
-pub pass-holds : (i : ℕ) (rs : List (List ℕ)) (s : State) → Holding s → Plan (pass i rs s)
+pub pass-holds : (i : ℕ) (rs : List Row) (s : State) → Holding s → Plan (pass i rs s)
 unfolding pass
 pass-holds i [] s h = (s .graph, h)
 pass-holds i (r ∷ rs) s h =
-    by-holds (rowNumber (rowOf r) (s .graph)) i s (pass (suc i) rs (step (rowOf r) s)) h (λ z. pass-holds (suc i) rs (step (rowOf r) s) (step-kept (rowOf r) s h z))
+    by-holds (rowNumber r (s .graph)) i s (pass (suc i) rs (step r s)) h (λ z. pass-holds (suc i) rs (step r s) (step-kept r s h z))
 
-by-accepted : (n i : ℕ) (s : State) (rest : ListResult) → passBy n i s rest .answer .number ≡ 0 → (n ≡ 0) × (rest .answer .number ≡ 0) × (passBy n i s rest ≡ rest)
+pub by-accepted : (n i : ℕ) (s : State) (rest : ListResult) → passBy n i s rest .answer .number ≡ 0 → (n ≡ 0) × (rest .answer .number ≡ 0) × (passBy n i s rest ≡ rest)
 unfolding passBy
 by-accepted zero i s rest z = (refl, z, refl)
 by-accepted (suc c) i s rest z = absurd (omega arith)
 
 -- accepted, it leaves the plan after its rows
-pub pass-accepted : (i : ℕ) (rs : List (List ℕ)) (s : State) → Holding s → pass i rs s .answer .number ≡ 0 → (pass i rs s .memory ≡ after rs s .memory) × Holding (after rs s)
+pub pass-accepted : (i : ℕ) (rs : List Row) (s : State) → Holding s → pass i rs s .answer .number ≡ 0 → (pass i rs s .memory ≡ after rs s .memory) × Holding (after rs s)
 unfolding pass after
 pass-accepted i [] s h z = (refl, h)
 pass-accepted i (r ∷ rs) s h z =
-    let p = by-accepted (rowNumber (rowOf r) (s .graph)) i s (pass (suc i) rs (step (rowOf r) s)) z in
-    let q = pass-accepted (suc i) rs (step (rowOf r) s) (step-kept (rowOf r) s h (p .0)) (p .1) in
+    let p = by-accepted (rowNumber r (s .graph)) i s (pass (suc i) rs (step r s)) z in
+    let q = pass-accepted (suc i) rs (step r s) (step-kept r s h (p .0)) (p .1) in
     (ap (λ (e : ListResult). e .memory) (p .2) ∙ q .0, q .1)
 
 -- refused at its row i + k, it leaves what the k rows before leave
-abbrev pub Before : ℕ → List (List ℕ) → State → ListResult → Type 0
+abbrev pub Before : ℕ → List Row → State → ListResult → Type 0
 Before i rs s e = (k : ℕ) × (e .answer .row ≡ i + k) × (pass i (take k rs) s ≡ listResult (reading 0 0) (e .memory))
 
-by-before : (n i : ℕ) (r : List ℕ) (rs : List (List ℕ)) (s : State) → rowNumber (rowOf r) (s .graph) ≡ n
-    → ((pass (suc i) rs (step (rowOf r) s) .answer .number ≡ 0 → ⊥) → Before (suc i) rs (step (rowOf r) s) (pass (suc i) rs (step (rowOf r) s)))
-    → (passBy n i s (pass (suc i) rs (step (rowOf r) s)) .answer .number ≡ 0 → ⊥)
-    → Before i (r ∷ rs) s (passBy n i s (pass (suc i) rs (step (rowOf r) s)))
+by-before : (n i : ℕ) (r : Row) (rs : List Row) (s : State) → rowNumber r (s .graph) ≡ n
+    → ((pass (suc i) rs (step r s) .answer .number ≡ 0 → ⊥) → Before (suc i) rs (step r s) (pass (suc i) rs (step r s)))
+    → (passBy n i s (pass (suc i) rs (step r s)) .answer .number ≡ 0 → ⊥)
+    → Before i (r ∷ rs) s (passBy n i s (pass (suc i) rs (step r s)))
 unfolding passBy pass
 by-before zero i r rs s e f z = let b = f z in (suc (b .0), omega (arith, b .1), rw e (b .2))
 by-before (suc c) i r rs s e f z = (0, omega arith, refl)
 
-pub pass-before : (i : ℕ) (rs : List (List ℕ)) (s : State) → (pass i rs s .answer .number ≡ 0 → ⊥) → Before i rs s (pass i rs s)
+pub pass-before : (i : ℕ) (rs : List Row) (s : State) → (pass i rs s .answer .number ≡ 0 → ⊥) → Before i rs s (pass i rs s)
 unfolding pass
 pass-before i [] s z = absurd (z refl)
-pass-before i (r ∷ rs) s z = by-before (rowNumber (rowOf r) (s .graph)) i r rs s refl (pass-before (suc i) rs (step (rowOf r) s)) z
-
--- opening, accepted
-pub begin-holds : (n : ℕ) (m : Memory) → beginNumber n m ≡ 0 → Holding (begin n m)
-unfolding begin beginNumber allLong firstNo
-begin-holds n m z =
-    let p = yes (leb n 1024) (cond (allLong n m) 0 2) 0 z in
-    let q = yes (allLong n m) 0 1 (p .1) in
-    open-plan n (m .slices) (leb-true n 1024 (p .0)) (both-true (longEnough n (m .slices)) (leb n (length (m .trail)) && leb n (length (m .moved))) (q .0) .0)
+pass-before i (r ∷ rs) s z = by-before (rowNumber r (s .graph)) i r rs s refl (pass-before (suc i) rs (step r s)) z

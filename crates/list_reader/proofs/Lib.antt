@@ -1,8 +1,7 @@
 -- Theorems: what to cite. The others: its proofs, and laws for the functions' proofs.
-pub mod Lengths
-pub mod Made
 pub mod Struck
 pub mod Passing
 pub mod Beginning
 pub mod Kept
+pub mod Lists
 pub mod Theorems

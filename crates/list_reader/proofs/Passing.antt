@@ -1,5 +1,5 @@
 -- A row's edit, and the pass over the rows, as the functions make them.
-use mathlib.Core.List.{List, [], _∷_}
+use mathlib.Core.List.{List, [], _∷_, map}
 use mathlib.Core.Logic.{⊎-elim}
 use mathlib.Core.Path.{_≡_, refl, sym, ap, _∙_}
 use Prim.Native.Nat.{ℕ, zero, suc, _+_, _-_, _≤_, _<_}
@@ -10,33 +10,32 @@ use lib.ListN.{length, take, drop, drop-of-length-le}
 use borrow.Author.Tests.{lt-ltb, le-ltb}
 use Rattle.rule.specs.declared.Bank.{Bank}
 use Rattle.rule.specs.Graph.{Graph, neighbours}
-use Rattle.rule.specs.Reach.{adding, striking}
+use Rattle.rule.specs.declared.Kind.{Kind}
 use Rattle.planner.specs.declared.Edited.{Edited}
 use Rattle.planner.specs.Questions.{firstNo}
-use Rattle.planner.specs.Calls.{Memory}
-use Rattle.planner.specs.Held.{Ready, Edits}
+use Rattle.memory.specs.Memory.{Memory}
+use Rattle.planner.specs.inner.Held.{EditMade}
+use Rattle.memory.specs.Memory.{Ready}
+use Rattle.text.specs.Text.{rows}
+use Rattle.text.specs.Places.{before, Finds}
+use Rattle.text.proofs.Theorems.{rows-at}
 use Rattle.list_rows.specs.declared.row.Change.{Change}
-use Rattle.list_rows.specs.declared.row.Change.the-variants.{Add, Strike, StrikeAll}
+use Rattle.list_rows.specs.declared.row.Change.the-variants.{One, StrikeAll}
 use Rattle.list_rows.specs.declared.row.Row.{Row}
 use Rattle.list_rows.specs.declared.row.Row.the-variants.{Banks, Edit, Unreadable}
-use Rattle.list_rows.specs.Text.{rows}
-use Rattle.list_rows.specs.Rows.{rowOf}
-use Rattle.list_rows.specs.Inner.{before, Finds}
-use Rattle.list_rows.proofs.Theorems.{rows-at}
+use Rattle.list_rows.specs.Rows.{rowOf, rowsOf}
 use Rattle.list_rows.proofs.row.Row.{the-type}
 use Rattle.list_reader.specs.declared.pass.Step.{Step}
-use Rattle.list_reader.specs.Pass.{State, ListResult, listResult, reading, strikeEach, change, changeNumber, rowNumber, step, passBy, pass}
-use Rattle.list_reader.specs.Steps.{at, tried, Stands, Changes, Applies, RowDone, rowEnd, rowAt, EditsRow, ending}
-use Rattle.list_reader.proofs.Made.{ready-banks, edit-made}
+use Rattle.list_reader.specs.Pass.{ListResult, listResult, reading, strikeEach, change, changeNumber, rowNumber, step, passBy, pass}
+use Rattle.planner.specs.States.{State}
+use Rattle.list_reader.specs.inner.Steps.{Changes, Applies, RowDone, rowEnd, rowAt, EditsRow, ending}
+use Rattle.planner.specs.inner.Held.{at, tried, Stands}
+use Rattle.planner.proofs.Made.{ready-banks, edit-made}
 
 module _ (G : Graph) (m : Memory) (h : Ready G m) where
-  pub change-add : (a b : Bank) (r : Edited) (m′ : Memory) → Edits adding G (a .0) (b .0) m r m′ → Changes (Add a b) G m (r .answer .number) m′
+  pub change-one : (k : Kind) (a b : Bank) (r : Edited) (m′ : Memory) → EditMade k G (a .0) (b .0) m r m′ → Changes (One k a b) G m (r .answer .number) m′
   unfolding changeNumber change
-  change-add a b r m′ e = let d = edit-made adding G (a .0) (b .0) m r m′ e in record { is = d .0; stands = d .1 }
-
-  pub change-strike : (a b : Bank) (r : Edited) (m′ : Memory) → Edits striking G (a .0) (b .0) m r m′ → Changes (Strike a b) G m (r .answer .number) m′
-  unfolding changeNumber change
-  change-strike a b r m′ e = let d = edit-made striking G (a .0) (b .0) m r m′ e in record { is = d .0; stands = d .1 }
+  change-one k a b r m′ e = let d = edit-made k G (a .0) (b .0) m r m′ e in record { is = d .0; stands = d .1 }
 
   -- all clashes of a bank that is not there, and of one that is
   pub change-none : (b : Bank) → m .tally .banks ≤ b .0 → Changes (StrikeAll b) G m 4 m
@@ -106,28 +105,28 @@ module _ (list : List ℕ) (start end : ℕ) (f : Finds list start 10 end) where
     }
 
 -- what is ahead after row i, whose number is n
-unfoldable pub going : ℕ → ℕ → List (List ℕ) → State → ListResult
+unfoldable pub going : ℕ → ℕ → List Row → State → ListResult
 going zero i rs s = pass (suc i) rs s
 going (suc c) i rs s = listResult (reading (suc c) i) (s .memory)
 
 -- row i has number n
-by-row : (n i : ℕ) (rs : List (List ℕ)) (s t : State) → passBy n i s (pass (suc i) rs t) ≡ going n i rs (tried n t s)
+by-row : (n i : ℕ) (rs : List Row) (s t : State) → passBy n i s (pass (suc i) rs t) ≡ going n i rs (tried n t s)
 unfolding passBy going tried
 by-row zero i rs s t = refl
 by-row (suc c) i rs s t = refl
 
-row-step : (i : ℕ) (r : List ℕ) (rs : List (List ℕ)) (s : State)
-    → pass i (r ∷ rs) s ≡ going (rowNumber (rowOf r) (s .graph)) i rs (tried (rowNumber (rowOf r) (s .graph)) (step (rowOf r) s) s)
+row-step : (i : ℕ) (r : Row) (rs : List Row) (s : State)
+    → pass i (r ∷ rs) s ≡ going (rowNumber r (s .graph)) i rs (tried (rowNumber r (s .graph)) (step r s) s)
 unfolding pass
-row-step i r rs s = by-row (rowNumber (rowOf r) (s .graph)) i rs s (step (rowOf r) s)
+row-step i r rs s = by-row (rowNumber r (s .graph)) i rs s (step r s)
 
-going-on : (n i : ℕ) (rs : List (List ℕ)) (s : State) → n ≡ 0 → going n i rs s ≡ pass (suc i) rs s
+going-on : (n i : ℕ) (rs : List Row) (s : State) → n ≡ 0 → going n i rs s ≡ pass (suc i) rs s
 unfolding going
 going-on n i rs s z = rw z
 
 -- there is no further row, or row i is refused
 going-end : (n i : ℕ) (list : List ℕ) (next : ℕ) (s : State) → (n ≡ 0 → length list ≤ next)
-    → going n i (rows (drop next list)) s ≡ listResult (ending n i) (s .memory)
+    → going n i (rowsOf (drop next list)) s ≡ listResult (ending n i) (s .memory)
 unfolding going ending rows pass
 going-end zero i list next s e =
     let l : length list ≤ next = e refl in
@@ -136,17 +135,17 @@ going-end (suc c) i list next s e = refl
 
 -- the row that starts at `start`, and the rows after it
 cut : (list : List ℕ) (start next : ℕ) → start < length list → next ≡ rowEnd list start + 1 → next ≤ length list + 1
-    → rows (drop start list) ≡ rowAt list start ∷ rows (drop next list)
+    → rowsOf (drop start list) ≡ rowOf (rowAt list start) ∷ rowsOf (drop next list)
 unfolding rowAt rowEnd
 cut list start next l e u =
     let end : ℕ = start + before 10 (drop start list) in
-    rw e (rows-at list start end l (record { is = refl; low = omega arith; high = omega arith }))
+    rw e (ap (map rowOf) (rows-at list start end l (record { is = refl; low = omega arith; high = omega arith })))
 
 -- where a pass stands after a row
 pub record Ahead (list : List ℕ) (first : ℕ) (G : Graph) (m : Memory) (r : Step) (m′ : Memory) : Type 0 where
   pub graph : Graph
   pub ready : Ready graph m′
-  pub ahead : pass 2 (rows (drop first list)) (at G m) ≡ going (r .number) (r .row) (rows (drop (r .next) list)) (at graph m′)
+  pub ahead : pass 2 (rowsOf (drop first list)) (at G m) ≡ going (r .number) (r .row) (rowsOf (drop (r .next) list)) (at graph m′)
 
 module _ (list : List ℕ) (first : ℕ) (G : Graph) (m : Memory) where
   pub ahead-start : Ready G m → (r : Step) → r .number ≡ 0 → r .row ≡ 1 → r .next ≡ first → Ahead list first G m r m
@@ -158,18 +157,18 @@ module _ (list : List ℕ) (first : ℕ) (G : Graph) (m : Memory) where
   ahead-turn r m′ w z l r′ m″ d =
       let H : Graph = w .graph in
       let s : State = at H m′ in
-      let b : List ℕ = rowAt list (r .next) in
-      let t : State = tried (rowNumber (rowOf b) H) (step (rowOf b) s) s in
+      let b : Row = rowOf (rowAt list (r .next)) in
+      let t : State = tried (rowNumber b H) (step b s) s in
       let done = d .of H (w .ready) in
-      let rest : List (List ℕ) = rows (drop (r′ .next) list) in
+      let rest : List Row = rowsOf (drop (r′ .next) list) in
       let up : r′ .row ≡ suc (r .row) = omega (arith, d .row) in
       record {
         graph = t .graph;
         ready = done .stands .ready;
         ahead =
             w .ahead
-            ∙ going-on (r .number) (r .row) (rows (drop (r .next) list)) s z
-            ∙ ap (λ (x : List (List ℕ)). pass (suc (r .row)) x s) (cut list (r .next) (r′ .next) l (d .next) (d .within))
+            ∙ going-on (r .number) (r .row) (rowsOf (drop (r .next) list)) s z
+            ∙ ap (λ (x : List Row). pass (suc (r .row)) x s) (cut list (r .next) (r′ .next) l (d .next) (d .within))
             ∙ row-step (suc (r .row)) b rest s
             ∙ ap (λ (x : ℕ). going x (suc (r .row)) rest t) (sym (done .is))
             ∙ ap (λ (x : ℕ). going (r′ .number) x rest t) (sym up)
@@ -177,5 +176,5 @@ module _ (list : List ℕ) (first : ℕ) (G : Graph) (m : Memory) where
       }
 
   pub ahead-end : (r : Step) (m′ : Memory) → Ahead list first G m r m′ → (r .number ≡ 0 → length list ≤ r .next)
-      → listResult (ending (r .number) (r .row)) m′ ≡ pass 2 (rows (drop first list)) (at G m)
+      → listResult (ending (r .number) (r .row)) m′ ≡ pass 2 (rowsOf (drop first list)) (at G m)
   ahead-end r m′ w e = sym (w .ahead ∙ going-end (r .number) (r .row) list (r .next) (at (w .graph) m′) e)

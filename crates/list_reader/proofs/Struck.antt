@@ -1,4 +1,4 @@
--- Striking all clashes of a bank, the lowest neighbour first.
+-- striking all clashes of a bank, the lowest neighbour first.
 use mathlib.Core.Bool.{Bool, true, false}
 use mathlib.Core.List.{List, [], _∷_}
 use mathlib.Core.Path.{_≡_, refl, sym, ap, _∙_}
@@ -8,16 +8,20 @@ use lib.Dec.{T}
 use lib.ListN.{length, getD}
 use borrow.Author.Tests.{lt-ltb, ne-eqb}
 use Rattle.rule.specs.Graph.{Graph, neighbours}
-use Rattle.rule.specs.Reach.{striking, edited}
+use Rattle.rule.specs.Reach.{edited}
+use Rattle.rule.specs.declared.Kind.the-variants.{Striking}
 use Rattle.rule.proofs.Strike.{first-below, first-clash, first-other, struck-first}
 use Rattle.memory.specs.Plan.{Clashes}
 use Rattle.planner.specs.declared.Edited.{Edited}
 use Rattle.planner.specs.Questions.{firstNo}
-use Rattle.planner.specs.Calls.{Memory, clashQuestions, editNumber}
-use Rattle.planner.specs.Held.{Ready, Edits}
-use Rattle.list_reader.specs.Pass.{make, strikeEach}
-use Rattle.list_reader.specs.Steps.{at, Stands}
-use Rattle.list_reader.proofs.Made.{ready-banks, edit-accepted}
+use Rattle.planner.specs.Calls.{clashQuestions, editNumber}
+use Rattle.memory.specs.Memory.{Memory}
+use Rattle.planner.specs.inner.Held.{EditMade}
+use Rattle.memory.specs.Memory.{Ready}
+use Rattle.list_reader.specs.Pass.{strikeEach}
+use Rattle.planner.specs.States.{make}
+use Rattle.planner.specs.inner.Held.{at, Stands}
+use Rattle.planner.proofs.Made.{ready-banks, edit-accepted}
 
 never : (b : Bool) → (T b → ⊥) → b ≡ false
 never true n = absurd (n tt)
@@ -28,7 +32,7 @@ module _ (G : Graph) (good : Clashes G) (b : ℕ) (below : b < G .banks) (v : �
   alone : G .clash b b ≡ false
   alone = never (G .clash b b) (good .apart b below)
 
-  pub strike-number : editNumber striking G b v ≡ 0
+  pub strike-number : editNumber Striking G b v ≡ 0
   unfolding editNumber clashQuestions firstNo
   strike-number =
       rw (
@@ -38,11 +42,11 @@ module _ (G : Graph) (good : Clashes G) (b : ℕ) (below : b < G .banks) (v : �
         first-clash G b v vs e alone,
       )
 
-  pub strike-rest : neighbours (edited striking G b v) b ≡ vs
+  pub strike-rest : neighbours (edited Striking G b v) b ≡ vs
   unfolding edited
   strike-rest = struck-first G b v vs e alone
 
-same-banks : (G : Graph) (a b : ℕ) → edited striking G a b .banks ≡ G .banks
+same-banks : (G : Graph) (a b : ℕ) → edited Striking G a b .banks ≡ G .banks
 unfolding edited
 same-banks G a b = refl
 
@@ -70,7 +74,7 @@ module _ (G : Graph) (b : ℕ) (m : Memory) where
 
   -- its first bank is struck
   pub left-turn : (left : ℕ) (r : Edited) (m′ : Memory) (w : Left G b m left r m′) → 0 < left → (row : List ℕ) → row ≡ neighbours (w .graph) b
-      → (r′ : Edited) (m″ : Memory) → Edits striking (w .graph) b (getD row 0 0) m′ r′ m″ → Left G b m (left - 1) r′ m″
+      → (r′ : Edited) (m″ : Memory) → EditMade Striking (w .graph) b (getD row 0 0) m′ r′ m″ → Left G b m (left - 1) r′ m″
   unfolding make strikeEach
   left-turn left r m′ w pos row q r′ m″ d =
       let H : Graph = w .graph in
@@ -79,19 +83,19 @@ module _ (G : Graph) (b : ℕ) (m : Memory) where
       let first : neighbours H b ≡ v ∷ part .0 = sym q ∙ part .1 in
       let below : b < H .banks = omega (arith, ready-banks H m′ (w .ready)) in
       let good : Clashes H = w .ready .plan .clashes in
-      let rest : neighbours (edited striking H b v) b ≡ part .0 = strike-rest H good b below v (part .0) first in
-      let made = edit-accepted striking H b v m′ r′ m″ (strike-number H good b below v (part .0) first) d in
+      let rest : neighbours (edited Striking H b v) b ≡ part .0 = strike-rest H good b below v (part .0) first in
+      let made = edit-accepted Striking H b v m′ r′ m″ (strike-number H good b below v (part .0) first) d in
       record {
         number = made .0;
-        graph = edited striking H b v;
+        graph = edited Striking H b v;
         ready = made .1 .ready;
-        below = omega (arith, ready-banks (edited striking H b v) m″ (made .1 .ready), same-banks H b v);
+        below = omega (arith, ready-banks (edited Striking H b v) m″ (made .1 .ready), same-banks H b v);
         count = omega (arith, ap length rest, ap length first, w .count);
         ahead =
             w .ahead
             ∙ ap (λ (l : List ℕ). strikeEach b l (at H m′)) first
-            ∙ ap (λ (x : Memory). strikeEach b (part .0) (at (edited striking H b v) x)) (sym (made .1 .memory))
-            ∙ ap (λ (l : List ℕ). strikeEach b l (at (edited striking H b v) m″)) (sym rest);
+            ∙ ap (λ (x : Memory). strikeEach b (part .0) (at (edited Striking H b v) x)) (sym (made .1 .memory))
+            ∙ ap (λ (l : List ℕ). strikeEach b l (at (edited Striking H b v) m″)) (sym rest);
       }
 
   pub left-end : (left : ℕ) (r : Edited) (m′ : Memory) → Left G b m left r m′ → left ≤ 0 → Stands (strikeEach b (neighbours G b) (at G m)) m′

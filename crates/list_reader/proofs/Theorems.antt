@@ -1,72 +1,37 @@
--- Theorems on lists: what to cite.
-use mathlib.Core.Bool.{Bool, true, false}
-use mathlib.Core.List.{List, [], _∷_, _++_}
-use mathlib.Core.Path.{_≡_, refl, sym, ap, _∙_}
-use Prim.Native.Nat.{ℕ, zero, suc, _+_, _≤_, _<_}
+-- Theorems on lists: what to cite. Their proofs are in the files beside this one.
+use mathlib.Core.List.{List, [], _∷_, _++_, map}
+use mathlib.Core.Path.{_≡_, sym, ap, _∙_}
+use Prim.Native.Nat.{ℕ, _≤_, _<_}
 use native.Mathlib.Omega.{arith}
-use lib.Dec.{leb}
-use lib.ListN.{length, take, length-append}
-use borrow.Author.Tests.{le-leb, leb-true}
+use lib.Dec.{T}
+use lib.ListN.{length, length-append}
 use Rattle.rule.specs.Graph.{Graph}
-use Rattle.memory.specs.declared.Tally.{Tally}
-use Rattle.memory.specs.Plan.{Slices, PlanOf}
-use Rattle.memory.proofs.Agree.{planCells}
-use Rattle.memory.proofs.Theorems.{same-cells, tally-agree}
-use Rattle.planner.specs.Calls.{Memory}
+use Rattle.memory.specs.Plan.{PlanOf}
+use Rattle.memory.specs.PlanCells.{planCells}
+use Rattle.memory.specs.Memory.{Memory}
+use Rattle.planner.specs.States.{begin}
+use Rattle.text.specs.Text.{rows}
+use Rattle.text.proofs.Theorems.{final-feed}
 use Rattle.list_rows.specs.declared.row.Row.{Row}
-use Rattle.list_rows.specs.declared.row.Row.the-variants.{Banks, Edit, Unreadable}
-use Rattle.list_rows.specs.Text.{rows}
-use Rattle.list_rows.specs.Rows.{rowOf}
-use Rattle.list_rows.proofs.Theorems.{final-feed}
-use Rattle.list_reader.specs.Pass.{ListResult, listResult, reading, pass, begin, beginNumber, beginBy, fromFirst, fromRows, readList}
-use Rattle.list_reader.specs.Ends.{after, afterFirst, afterRows, endOf, FirstOpens}
-use Rattle.list_reader.proofs.Kept.{pass-holds, pass-accepted, pass-before, begin-holds}
+use Rattle.list_rows.specs.Rows.{rowOf, rowsOf}
+use Rattle.list_reader.specs.Pass.{ListResult, readList}
+use Rattle.list_reader.specs.Ends.{endOf, FirstOpens, RefusedAfter, readUnpadded, plainRows}
+use Rattle.planner.proofs.Made.{begin-holds}
+use Rattle.list_reader.proofs.Kept.{pass-holds, pass-accepted, pass-before}
+use Rattle.list_reader.proofs.Lists as Lists
+use Rattle.list_reader.proofs.Lists.{Start, opens, refuses, start, opens-pass, end-after}
 
-within : (bytes : List ℕ) (m : Memory) → length bytes ≤ 60000 → readList bytes m ≡ fromRows (rows bytes) m
-unfolding readList
-within bytes m h = rw (le-leb (length bytes) 60000 h)
+-- 1. what the rows say decides: lists of at most 60,000 bytes whose rows say the same leave the same, padded or not
+pub rows-decide : (bytes bytes′ : List ℕ) (m : Memory) → length bytes ≤ 60000 → length bytes′ ≤ 60000 → rowsOf bytes ≡ rowsOf bytes′
+    → readList bytes m ≡ readList bytes′ m
+rows-decide = Lists.rows-decide
 
--- 1. a list that ends in c, no line feed, and the same list with a line feed after it leave the same
+-- so a list that ends in c, no line feed, and the same list with a line feed after it leave the same
 pub final-feed-list : (bytes : List ℕ) (c : ℕ) (m : Memory) → (c ≡ 10 → ⊥) → length ((bytes ++ (c ∷ [])) ++ (10 ∷ [])) ≤ 60000
     → readList ((bytes ++ (c ∷ [])) ++ (10 ∷ [])) m ≡ readList (bytes ++ (c ∷ [])) m
 final-feed-list bytes c m n h =
-    let k : length (bytes ++ (c ∷ [])) ≤ 60000 = omega (arith, length-append (bytes ++ (c ∷ [])) (10 ∷ [])) in
-    within _ m h ∙ ap (λ (r : List (List ℕ)). fromRows r m) (final-feed bytes c n) ∙ sym (within _ m k)
-
--- where the first row opens a plan, the rest is the pass over the later rows
-opens-pass : (bytes : List ℕ) (m : Memory) (n : ℕ) (rs : List (List ℕ)) → FirstOpens bytes m n rs → readList bytes m ≡ pass 2 rs (begin n m)
-unfolding fromRows fromFirst beginBy
-opens-pass bytes m n rs o = within bytes m (o .within) ∙ rw (o .rows, o .banks, o .number)
-
--- every other list is refused at row 0 or 1, with memory as it was
-pub data Start (bytes : List ℕ) (m : Memory) : Type 0 where
-  opens : (n : ℕ) (rs : List (List ℕ)) → FirstOpens bytes m n rs → Start bytes m
-  refuses : (c i : ℕ) → i ≤ 1 → readList bytes m ≡ listResult (reading (suc c) i) m → Start bytes m
-
-start-by : (bytes : List ℕ) (m : Memory) → length bytes ≤ 60000 → (r : List ℕ) (rs : List (List ℕ)) → rows bytes ≡ r ∷ rs → (n : ℕ) → rowOf r ≡ Banks n
-    → (k : ℕ) → beginNumber n m ≡ k → Start bytes m
-unfolding fromRows fromFirst beginBy
-start-by bytes m h r rs e n b zero z = opens n rs (record { within = h; first = r; rows = e; banks = b; number = z })
-start-by bytes m h r rs e n b (suc c) z = refuses c 1 (omega arith) (within bytes m h ∙ rw (e, b, z))
-
-start-first : (bytes : List ℕ) (m : Memory) → length bytes ≤ 60000 → (r : List ℕ) (rs : List (List ℕ)) → rows bytes ≡ r ∷ rs → (x : Row) → rowOf r ≡ x → Start bytes m
-unfolding fromRows fromFirst
-start-first bytes m h r rs e (Banks n) b = start-by bytes m h r rs e n b (beginNumber n m) refl
-start-first bytes m h r rs e (Edit c) b = refuses 9 1 (omega arith) (within bytes m h ∙ rw (e, b))
-start-first bytes m h r rs e Unreadable b = refuses 9 1 (omega arith) (within bytes m h ∙ rw (e, b))
-
-start-rows : (bytes : List ℕ) (m : Memory) → length bytes ≤ 60000 → (l : List (List ℕ)) → rows bytes ≡ l → Start bytes m
-unfolding fromRows
-start-rows bytes m h [] e = refuses 9 1 (omega arith) (within bytes m h ∙ rw e)
-start-rows bytes m h (r ∷ rs) e = start-first bytes m h r rs e (rowOf r) refl
-
-start-long : (bytes : List ℕ) (m : Memory) (b : Bool) → leb (length bytes) 60000 ≡ b → Start bytes m
-unfolding readList
-start-long bytes m true e = start-rows bytes m (leb-true (length bytes) 60000 e) (rows bytes) refl
-start-long bytes m false e = refuses 8 0 (omega arith) (rw e)
-
-pub start : (bytes : List ℕ) (m : Memory) → Start bytes m
-start bytes m = start-long bytes m (leb (length bytes) 60000) refl
+    rows-decide ((bytes ++ (c ∷ [])) ++ (10 ∷ [])) (bytes ++ (c ∷ [])) m h (omega (arith, length-append (bytes ++ (c ∷ [])) (10 ∷ [])))
+    (ap (map rowOf) (final-feed bytes c n))
 
 -- 2. a list refused at row 0 or 1 leaves memory as it was
 pub refused-first : (bytes : List ℕ) (m : Memory) → (readList bytes m .answer .number ≡ 0 → ⊥) → readList bytes m .answer .row ≤ 1 → readList bytes m .memory ≡ m
@@ -79,20 +44,17 @@ refused-first bytes m z l = by (start bytes m)
         absurd (omega (arith, ap (λ (x : ListResult). x .answer .row) e, k .1))
     by (refuses c i h e) = ap (λ (x : ListResult). x .memory) e
 
--- 3. a list whose first row opens a plan, refused at a later row, leaves what the rows before that row leave
-pub refused-later : (bytes : List ℕ) (m : Memory) (n : ℕ) (rs : List (List ℕ)) → FirstOpens bytes m n rs → (readList bytes m .answer .number ≡ 0 → ⊥)
-    → (k : ℕ) × (readList bytes m .answer .row ≡ 2 + k) × (pass 2 (take k rs) (begin n m) ≡ listResult (reading 0 0) (readList bytes m .memory))
-refused-later bytes m n rs o z = rw (opens-pass bytes m n rs o) (pass-before 2 rs (begin n m) (λ q. z (ap (λ (x : ListResult). x .answer .number) (opens-pass bytes m n rs o) ∙ q)))
+-- 3. a list whose first row opens a plan, refused at a later row, leaves what the rows before that row leave: memory holds the plan of their clashes
+pub refused-later : (bytes : List ℕ) (m : Memory) (n : ℕ) (rs : List Row) → FirstOpens bytes m n rs → (readList bytes m .answer .number ≡ 0 → ⊥)
+    → RefusedAfter n rs m (readList bytes m)
+refused-later bytes m n rs o z =
+    let e = opens-pass bytes m n rs o in
+    rw e (Lists.pass-refused n rs m (begin-holds n m (o .number)) (λ q. z (ap (λ (x : ListResult). x .answer .number) e ∙ q)))
 
 -- 4. after a list whose first row opens a plan, memory holds a plan
-pub list-holds : (bytes : List ℕ) (m : Memory) (n : ℕ) (rs : List (List ℕ)) → FirstOpens bytes m n rs
+pub list-holds : (bytes : List ℕ) (m : Memory) (n : ℕ) (rs : List Row) → FirstOpens bytes m n rs
     → (G : Graph) × PlanOf G (readList bytes m .memory .slices) (readList bytes m .memory .tally)
 list-holds bytes m n rs o = rw (opens-pass bytes m n rs o) (pass-holds 2 rs (begin n m) (begin-holds n m (o .number)))
-
--- where an accepted list ends
-end-after : (bytes : List ℕ) (m : Memory) (n : ℕ) (rs : List (List ℕ)) → FirstOpens bytes m n rs → endOf bytes m ≡ after rs (begin n m)
-unfolding endOf afterRows afterFirst
-end-after bytes m n rs o = rw (o .rows, o .banks)
 
 -- 5. after an accepted list, memory holds the plan of the clashes in which the list ends
 pub accepted-holds : (bytes : List ℕ) (m : Memory) → readList bytes m .answer .number ≡ 0
@@ -106,16 +68,6 @@ accepted-holds bytes m z = by (start bytes m)
         rw (e, end-after bytes m n rs o, p .0) (p .1)
     by (refuses c i h e) = absurd (omega (arith, z, ap (λ (x : ListResult). x .answer .number) e))
 
--- two plans of as many banks and the same clashes
-module _ (G H : Graph) (s s′ : Slices) (t t′ : Tally) (p : PlanOf G s t) (p′ : PlanOf H s′ t′) (banks : G .banks ≡ H .banks)
-    (clash : (x y : ℕ) → x < H .banks → y < H .banks → G .clash x y ≡ H .clash x y) where
-  plans-same-cells : planCells (H .banks) s ≡ planCells (H .banks) s′
-  plans-same-cells =
-      ap (planCells (H .banks)) (sym (p .cells)) ∙ same-cells G H banks clash s s′ ∙ ap (planCells (H .banks)) (p′ .cells)
-
-  plans-same-tally : t ≡ t′
-  plans-same-tally = p .tally ∙ tally-agree G H banks clash ∙ sym (p′ .tally)
-
 -- 6. accepted lists that end in equal bank counts and equal clashes leave equal plan cells and an equal tally, whatever their rows
 -- are and whatever memory held before
 module _ (bytes bytes′ : List ℕ) (m m′ : Memory) (yes : readList bytes m .answer .number ≡ 0) (yes′ : readList bytes′ m′ .answer .number ≡ 0)
@@ -123,7 +75,15 @@ module _ (bytes bytes′ : List ℕ) (m m′ : Memory) (yes : readList bytes m .
     (clash : (x y : ℕ) → x < endOf bytes′ m′ .graph .banks → y < endOf bytes′ m′ .graph .banks
     → endOf bytes m .graph .clash x y ≡ endOf bytes′ m′ .graph .clash x y) where
   pub lists-same-cells : planCells (endOf bytes′ m′ .graph .banks) (readList bytes m .memory .slices) ≡ planCells (endOf bytes′ m′ .graph .banks) (readList bytes′ m′ .memory .slices)
-  lists-same-cells = plans-same-cells _ _ _ _ _ _ (accepted-holds bytes m yes) (accepted-holds bytes′ m′ yes′) banks clash
+  lists-same-cells = Lists.plans-same-cells _ _ _ _ _ _ (accepted-holds bytes m yes) (accepted-holds bytes′ m′ yes′) banks clash
 
   pub lists-same-tally : readList bytes m .memory .tally ≡ readList bytes′ m′ .memory .tally
-  lists-same-tally = plans-same-tally _ _ _ _ _ _ (accepted-holds bytes m yes) (accepted-holds bytes′ m′ yes′) banks clash
+  lists-same-tally = Lists.plans-same-tally _ _ _ _ _ _ (accepted-holds bytes m yes) (accepted-holds bytes′ m′ yes′) banks clash
+
+-- 7. a list of rows without padding leaves what it left before numbers could be padded
+pub list-kept : (bytes : List ℕ) (m : Memory) → T (plainRows (rows bytes)) → readList bytes m ≡ readUnpadded bytes m
+list-kept = Lists.list-kept
+
+-- and so does every list that was accepted then
+pub accepted-kept : (bytes : List ℕ) (m : Memory) → readUnpadded bytes m .answer .number ≡ 0 → readList bytes m ≡ readUnpadded bytes m
+accepted-kept bytes m = Lists.accepted-kept m bytes

@@ -1,39 +1,58 @@
--- What the theorems on lists speak of: a list whose first row opens a plan, and the clashes in which an accepted list ends.
+-- What the theorems on lists speak of: a list whose first row opens a plan, the clashes in which an accepted list ends and those of the rows before
+-- a refused one, and how a list read before numbers could be padded.
+use mathlib.Core.Bool.{Bool, true, _&&_}
 use mathlib.Core.List.{List, [], _∷_}
 use mathlib.Core.Path.{_≡_}
-use Prim.Native.Nat.{ℕ, _≤_}
-use lib.ListN.{length}
-use Rattle.planner.specs.Calls.{Memory}
+use Prim.Native.Nat.{ℕ, _+_, _≤_}
+use lib.ListN.{length, take}
+use Rattle.memory.specs.Plan.{PlanOf}
+use Rattle.memory.specs.Memory.{Memory}
+use Rattle.planner.specs.States.{State, begin, beginNumber}
 use Rattle.list_rows.specs.declared.row.Row.{Row}
 use Rattle.list_rows.specs.declared.row.Row.the-variants.{Banks, Edit, Unreadable}
-use Rattle.list_rows.specs.Text
-use Rattle.list_rows.specs.Rows.{rowOf}
-use Rattle.list_reader.specs.Pass.{State, step, begin, beginNumber}
+use Rattle.list_rows.specs.Rows.{rowsOf}
+use Rattle.list_rows.specs.Unpadded.{unpaddedRow, plainRow}
+use Rattle.list_reader.specs.Pass.{ListResult, listResult, reading, step, pass, readBy}
 
--- later rows, each accepted
-unfoldable pub after : List (List ℕ) → State → State
+-- later rows, each accepted: the clashes that they leave, and the memory
+unfoldable pub after : List Row → State → State
 after [] s = s
-after (r ∷ rs) s = after rs (step (rowOf r) s)
+after (r ∷ rs) s = after rs (step r s)
 
 -- after a first row that says this
-unfoldable pub afterFirst : Row → List (List ℕ) → Memory → State
+unfoldable pub afterFirst : Row → List Row → Memory → State
 afterFirst (Banks n) rs m = after rs (begin n m)
 afterFirst (Edit c) rs m = begin 0 m
 afterFirst Unreadable rs m = begin 0 m
 
 -- after all rows
-unfoldable pub afterRows : List (List ℕ) → Memory → State
+unfoldable pub afterRows : List Row → Memory → State
 afterRows [] m = begin 0 m
-afterRows (r ∷ rs) m = afterFirst (rowOf r) rs m
+afterRows (r ∷ rs) m = afterFirst r rs m
 
 -- the clashes in which an accepted list ends, and the memory
 unfoldable pub endOf : List ℕ → Memory → State
-endOf bytes m = afterRows (Text.rows bytes) m
+endOf bytes m = afterRows (rowsOf bytes) m
 
 -- the first row opens a plan of n banks, and rs are the later rows
-pub record FirstOpens (bytes : List ℕ) (m : Memory) (n : ℕ) (rs : List (List ℕ)) : Type 0 where
+pub record FirstOpens (bytes : List ℕ) (m : Memory) (n : ℕ) (rs : List Row) : Type 0 where
   pub within : length bytes ≤ 60000
-  pub first : List ℕ
-  pub rows : Text.rows bytes ≡ first ∷ rs
-  pub banks : rowOf first ≡ Banks n
+  pub rows : rowsOf bytes ≡ Banks n ∷ rs
   pub number : beginNumber n m ≡ 0
+
+-- r is the refusal of a later row; the rows before it are accepted, all that is left is what they leave, and memory holds the plan of their clashes
+pub record RefusedAfter (n : ℕ) (rs : List Row) (m : Memory) (r : ListResult) : Type 0 where
+  pub count : ℕ
+  pub row : r .answer .row ≡ 2 + count
+  pub accepted : pass 2 (take count rs) (begin n m) ≡ listResult (reading 0 0) (r .memory)
+  pub memory : r .memory ≡ after (take count rs) (begin n m) .memory
+  pub plan : PlanOf (after (take count rs) (begin n m) .graph) (r .memory .slices) (r .memory .tally)
+
+-- the call as it was before numbers could be padded
+unfoldable pub readUnpadded : List ℕ → Memory → ListResult
+readUnpadded bytes m = readBy unpaddedRow bytes m
+
+-- are all numbers of all rows of the unpadded form?
+unfoldable pub plainRows : List (List ℕ) → Bool
+plainRows [] = true
+plainRows (r ∷ rs) = plainRow r && plainRows rs

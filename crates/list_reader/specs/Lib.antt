@@ -1,5 +1,4 @@
--- What a reader must believe of the call that reads a list: Pass; of the theorems: Ends. Steps serves the functions; Examples are computed.
+-- What a reader must believe of the call that reads a list: Pass; of the theorems: Ends. inner serves the functions.
 pub mod Pass
 pub mod Ends
-pub mod Steps
-pub mod Examples
+pub mod inner

@@ -3,13 +3,13 @@ use list_rows::Change;
 use memory::Tally;
 use planner::Answer;
 use planner::Edited;
-use planner::add_held;
 use planner::clashes_held;
-use planner::strike_held;
+use planner::edit_held;
 use rule::Bank;
-ghost use Rattle.planner.specs.Calls.{memoryOf};
+use rule::Kind;
+ghost use Rattle.memory.specs.Lent.{given, before, after};
 ghost use Rattle.list_rows.specs.declared.row.Change.the-variants.{StrikeAll};
-ghost use Rattle.list_reader.specs.Steps.{Asks, Applies};
+ghost use Rattle.list_reader.specs.inner.Steps.{Asks, Applies};
 
 // Makes the edit of one row. The answer is that of its last edit.
 pub fn apply(
@@ -22,22 +22,14 @@ pub fn apply(
     tally: Tally,
     change: Change,
 ) -> Edited
-    requires { ⌜ Asks (memoryOf (now neighbours) (now degrees) (now waves) (now counts) (now trail) (now moved) tally) ⌝ }
-    ensures { λ r. ⌜ Applies change (memoryOf (now (neighbours .entry)) (now (degrees .entry)) (now (waves .entry)) (now (counts .entry)) (now (trail .entry)) (now (moved .entry)) tally) r (memoryOf (now (neighbours .exit)) (now (degrees .exit)) (now (waves .exit)) (now (counts .exit)) (now (trail .exit)) (now (moved .exit)) (r .tally)) ⌝ }
+    requires { ⌜ Asks (given neighbours degrees waves counts trail moved tally) ⌝ }
+    ensures { λ r. ⌜ Applies change
+        (before neighbours degrees waves counts trail moved tally) r
+        (after neighbours degrees waves counts trail moved (r .tally)) ⌝ }
 {
     match change {
-        Change::Add(a, b) => add_held(
-            neighbours,
-            degrees,
-            waves,
-            counts,
-            trail,
-            moved,
-            tally,
-            a,
-            b,
-        ),
-        Change::Strike(a, b) => strike_held(
+        Change::One(kind, a, b) => edit_held(
+            kind,
             neighbours,
             degrees,
             waves,
@@ -72,8 +64,10 @@ fn strike_all(
     tally: Tally,
     b: Bank,
 ) -> Edited
-    requires { ⌜ Asks (memoryOf (now neighbours) (now degrees) (now waves) (now counts) (now trail) (now moved) tally) ⌝ }
-    ensures { λ r. ⌜ Applies (StrikeAll b) (memoryOf (now (neighbours .entry)) (now (degrees .entry)) (now (waves .entry)) (now (counts .entry)) (now (trail .entry)) (now (moved .entry)) tally) r (memoryOf (now (neighbours .exit)) (now (degrees .exit)) (now (waves .exit)) (now (counts .exit)) (now (trail .exit)) (now (moved .exit)) (r .tally)) ⌝ }
+    requires { ⌜ Asks (given neighbours degrees waves counts trail moved tally) ⌝ }
+    ensures { λ r. ⌜ Applies (StrikeAll b)
+        (before neighbours degrees waves counts trail moved tally) r
+        (after neighbours degrees waves counts trail moved (r .tally)) ⌝ }
 {
     if tally.banks <= b.0 {
         return Edited {
@@ -99,7 +93,8 @@ fn strike_all(
         let held = last.tally;
         let row = clashes_held(neighbours, degrees, waves, counts, held, b);
         let lowest = Bank(row[0]);
-        last = strike_held(
+        last = edit_held(
+            Kind::Striking,
             neighbours,
             degrees,
             waves,

@@ -3,7 +3,7 @@ use crate::pass::Reading;
 use crate::pass::read_list_core;
 use memory::Tally;
 ghost use mathlib.Core.Path.{_≡_};
-ghost use Rattle.planner.specs.Calls.{memoryOf};
+ghost use Rattle.memory.specs.Lent.{before, after};
 ghost use Rattle.list_reader.specs.Pass.{listResult, readList};
 
 // Reads a list: opens the plan, then makes the rows' edits. Answers 0, or the number of the first no and its row.
@@ -17,7 +17,8 @@ pub fn read_list(
     moved: &mut [u16],
     tally: &mut Tally,
 ) -> Reading
-    ensures { λ r. ⌜ listResult r (memoryOf (now (neighbours .exit)) (now (degrees .exit)) (now (waves .exit)) (now (counts .exit)) (now (trail .exit)) (now (moved .exit)) (now (tally .exit))) ≡ readList (now (list .entry)) (memoryOf (now (neighbours .entry)) (now (degrees .entry)) (now (waves .entry)) (now (counts .entry)) (now (trail .entry)) (now (moved .entry)) (now (tally .entry))) ⌝ }
+    ensures { λ r. ⌜ listResult r (after neighbours degrees waves counts trail moved (now (tally .exit)))
+        ≡ readList (now (list .entry)) (before neighbours degrees waves counts trail moved (now (tally .entry))) ⌝ }
 {
     let t = *tally;
     let r = read_list_core(list, neighbours, degrees, waves, counts, trail, moved, t);

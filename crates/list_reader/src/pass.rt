@@ -1,17 +1,15 @@
 // The pass over a list.
 use crate::change::apply;
-use crate::opening::open_all;
 use list_rows::Row;
-use list_rows::find;
 use list_rows::read_row;
 use memory::Tally;
+use planner::open_all;
+use text::MOST_BYTES;
+use text::find;
 ghost use mathlib.Core.Path.{_≡_};
-ghost use Rattle.planner.specs.Calls.{memoryOf};
+ghost use Rattle.memory.specs.Lent.{given, before, after};
 ghost use Rattle.list_reader.specs.Pass.{listResult, readList};
-ghost use Rattle.list_reader.specs.Steps.{AsksBegin, AsksRow, AsksRows, Begins, ReadsEdits, EditsRow, ending};
-
-// The most bytes of a list.
-const MOST_BYTES: usize = 60000;
+ghost use Rattle.list_reader.specs.inner.Steps.{AsksBegin, AsksRow, AsksRows, Begins, ReadsEdits, EditsRow, ending};
 
 // The number of the first row.
 const FIRST_ROW: u16 = 1;
@@ -48,7 +46,8 @@ pub fn read_list_core(
     moved: &mut [u16],
     tally: Tally,
 ) -> Listed
-    ensures { λ r. ⌜ listResult (r .answer) (memoryOf (now (neighbours .exit)) (now (degrees .exit)) (now (waves .exit)) (now (counts .exit)) (now (trail .exit)) (now (moved .exit)) (r .tally)) ≡ readList (now (list .entry)) (memoryOf (now (neighbours .entry)) (now (degrees .entry)) (now (waves .entry)) (now (counts .entry)) (now (trail .entry)) (now (moved .entry)) tally) ⌝ }
+    ensures { λ r. ⌜ listResult (r .answer) (after neighbours degrees waves counts trail moved (r .tally))
+        ≡ readList (now (list .entry)) (before neighbours degrees waves counts trail moved tally) ⌝ }
 {
     if MOST_BYTES < list.len() {
         return Listed {
@@ -95,7 +94,9 @@ fn begin(
     tally: Tally,
 ) -> Listed
     requires { ⌜ AsksBegin (now list) next ⌝ }
-    ensures { λ r. ⌜ Begins (now (list .entry)) next banks (memoryOf (now (neighbours .entry)) (now (degrees .entry)) (now (waves .entry)) (now (counts .entry)) (now (trail .entry)) (now (moved .entry)) tally) r (memoryOf (now (neighbours .exit)) (now (degrees .exit)) (now (waves .exit)) (now (counts .exit)) (now (trail .exit)) (now (moved .exit)) (r .tally)) ⌝ }
+    ensures { λ r. ⌜ Begins (now (list .entry)) next banks
+        (before neighbours degrees waves counts trail moved tally) r
+        (after neighbours degrees waves counts trail moved (r .tally)) ⌝ }
 {
     let opened = open_all(
         neighbours,
@@ -142,8 +143,10 @@ fn read_edits(
     moved: &mut [u16],
     tally: Tally,
 ) -> Listed
-    requires { ⌜ AsksRows (now list) first (memoryOf (now neighbours) (now degrees) (now waves) (now counts) (now trail) (now moved) tally) ⌝ }
-    ensures { λ r. ⌜ ReadsEdits (now (list .entry)) first (memoryOf (now (neighbours .entry)) (now (degrees .entry)) (now (waves .entry)) (now (counts .entry)) (now (trail .entry)) (now (moved .entry)) tally) r (memoryOf (now (neighbours .exit)) (now (degrees .exit)) (now (waves .exit)) (now (counts .exit)) (now (trail .exit)) (now (moved .exit)) (r .tally)) ⌝ }
+    requires { ⌜ AsksRows (now list) first (given neighbours degrees waves counts trail moved tally) ⌝ }
+    ensures { λ r. ⌜ ReadsEdits (now (list .entry)) first
+        (before neighbours degrees waves counts trail moved tally) r
+        (after neighbours degrees waves counts trail moved (r .tally)) ⌝ }
 {
     let mut last = Step {
         number: 0,
@@ -186,8 +189,10 @@ fn edit_row(
     moved: &mut [u16],
     tally: Tally,
 ) -> Step
-    requires { ⌜ AsksRow (now list) start (memoryOf (now neighbours) (now degrees) (now waves) (now counts) (now trail) (now moved) tally) ⌝ }
-    ensures { λ r. ⌜ EditsRow (now (list .entry)) start row (memoryOf (now (neighbours .entry)) (now (degrees .entry)) (now (waves .entry)) (now (counts .entry)) (now (trail .entry)) (now (moved .entry)) tally) r (memoryOf (now (neighbours .exit)) (now (degrees .exit)) (now (waves .exit)) (now (counts .exit)) (now (trail .exit)) (now (moved .exit)) (r .tally)) ⌝ }
+    requires { ⌜ AsksRow (now list) start (given neighbours degrees waves counts trail moved tally) ⌝ }
+    ensures { λ r. ⌜ EditsRow (now (list .entry)) start row
+        (before neighbours degrees waves counts trail moved tally) r
+        (after neighbours degrees waves counts trail moved (r .tally)) ⌝ }
 {
     let end = find(list, start, b'\n');
     let next = end + 1;

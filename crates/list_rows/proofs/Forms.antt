@@ -6,14 +6,17 @@ use Prim.Native.Nat.{ℕ, _+_, _-_, _≤_, _<_}
 use lib.Dec.{eqb}
 use lib.ListN.{length, getD, take, drop}
 use borrow.Author.Tests.{ne-eqb}
-use Rattle.list_rows.specs.declared.number.Number.{Number}
-use Rattle.list_rows.specs.declared.number.Number.the-variants.{Value, Nothing}
-use Rattle.list_rows.specs.declared.row.Change.the-variants.{Add, Strike, StrikeAll}
+use Rattle.rule.specs.Numbers.{bank}
+use Rattle.rule.specs.declared.Kind.the-variants.{Adding, Striking}
+use Rattle.text.specs.declared.number.Number.{Number}
+use Rattle.text.specs.declared.number.Number.the-variants.{Value, Nothing}
+use Rattle.text.specs.Text.{onto, parts}
+use Rattle.text.specs.Numbers.{number}
+use Rattle.text.specs.Places.{Finds}
+use Rattle.text.proofs.Pieces.{parts-at, parts-end}
+use Rattle.list_rows.specs.declared.row.Change.the-variants.{One, StrikeAll}
 use Rattle.list_rows.specs.declared.row.Row.the-variants.{Banks, Edit, Unreadable}
-use Rattle.list_rows.specs.Text.{onto, parts, number}
-use Rattle.list_rows.specs.Rows.{isByte, bank, twoParts, threeParts, fromParts, rowOf}
-use Rattle.list_rows.specs.Inner.{Finds}
-use Rattle.list_rows.proofs.Pieces.{parts-at, parts-end}
+use Rattle.list_rows.specs.Rows.{isByte, twoParts, threeParts, fromParts, rowOf}
 
 module _ (head : List ℕ) (n : Number) where
   pub two-none : n ≡ Nothing → Unreadable ≡ twoParts head n
@@ -52,11 +55,11 @@ module _ (head : List ℕ) (n : Number) where
         unfolding threeParts isByte
         three-wide l = rw (e, f, ne-eqb (length head) 1 l)
 
-        pub three-add : length head ≡ 1 → getD head 0 0 ≡ 43 → Edit (Add (bank a) (bank b)) ≡ threeParts head n m
+        pub three-add : length head ≡ 1 → getD head 0 0 ≡ 43 → Edit (One Adding (bank a) (bank b)) ≡ threeParts head n m
         unfolding threeParts isByte
         three-add l z = rw (e, f, l, z)
 
-        pub three-strike : length head ≡ 1 → getD head 0 0 ≡ 45 → Edit (Strike (bank a) (bank b)) ≡ threeParts head n m
+        pub three-strike : length head ≡ 1 → getD head 0 0 ≡ 45 → Edit (One Striking (bank a) (bank b)) ≡ threeParts head n m
         unfolding threeParts isByte
         three-strike l z = rw (e, f, l, z)
 

@@ -1,7 +1,4 @@
--- Theorems: what to cite. The others: its proofs, and laws for the functions' proofs.
-pub mod Places
-pub mod Pieces
-pub mod Digits
-pub mod Numbers
+-- Theorems: what to cite. Kept: its proofs. Forms: what the proofs of the functions cite.
 pub mod Forms
+pub mod Kept
 pub mod Theorems

@@ -1,6 +1,3 @@
--- What a reader must believe of a list's rows: Text, Rows. Inner serves the functions, Unpadded one theorem; Examples are computed.
-pub mod Text
+-- What a reader must believe of a list's rows: Rows. Unpadded serves the theorem on rows without padding.
 pub mod Rows
-pub mod Inner
-pub mod Examples
 pub mod Unpadded

@@ -1,17 +1,21 @@
--- The form that numbers had before padding: for the theorem that lists of that form read as they did.
-use mathlib.Core.Bool.{Bool, cond, _&&_, _||_, not}
-use mathlib.Core.List.{List}
+-- What a row said before numbers could be padded: for the theorem that rows without padding read as they did.
+use mathlib.Core.Bool.{Bool, true, _&&_}
+use mathlib.Core.List.{List, [], _∷_}
 use Prim.Native.Nat.{ℕ}
-use lib.Dec.{leb, eqb}
-use lib.ListN.{length, getD}
-use Rattle.list_rows.specs.declared.number.Number.{Number}
-use Rattle.list_rows.specs.declared.number.Number.the-variants.{Value, Nothing}
-use Rattle.list_rows.specs.Text.{digits, valueFrom}
+use Rattle.text.specs.Text.{parts}
+use Rattle.text.specs.Unpadded.{unpaddedNumber, isPlain}
+use Rattle.list_rows.specs.declared.row.Row.{Row}
+use Rattle.list_rows.specs.Rows.{fromParts}
 
--- 1 to 4 digits, without leading zeros except 0 itself
-unfoldable pub isUnpadded : List ℕ → Bool
-isUnpadded p = leb 1 (length p) && (leb (length p) 4 && ((leb (length p) 1 || not (eqb (getD p 0 0) 48)) && digits p))
+-- `rowOf` with the unpadded form in the place of `number`
+unfoldable pub unpaddedRow : List ℕ → Row
+unpaddedRow r = fromParts unpaddedNumber (parts r)
 
--- what a part of that form reads as
-unfoldable pub unpaddedNumber : List ℕ → Number
-unpaddedNumber p = cond (isUnpadded p) (Value (valueFrom 0 p)) Nothing
+-- has none of these parts a zero in front of a number?
+unfoldable pub allPlain : List (List ℕ) → Bool
+allPlain [] = true
+allPlain (p ∷ ps) = isPlain p && allPlain ps
+
+-- all numbers of the row have the unpadded form
+unfoldable pub plainRow : List ℕ → Bool
+plainRow r = allPlain (parts r)

@@ -1,18 +1,16 @@
 // The reader of a row.
-use crate::number::Number;
-use crate::number::read_number;
 use rule::Bank;
+use rule::Kind;
+use text::Number;
+use text::find;
+use text::read_number;
 ghost use mathlib.Core.Path.{_≡_};
-ghost use Prim.Native.Nat.{_≤_};
-ghost use lib.ListN.{length};
-ghost use Rattle.list_rows.specs.Text.{number};
+ghost use Rattle.text.specs.Numbers.{number};
 ghost use Rattle.list_rows.specs.Rows.{twoParts, threeParts, rowOf};
-ghost use Rattle.list_rows.specs.Inner.{Finds};
 
 // The edit that a row asks for.
 pub enum Change {
-    Add(Bank, Bank),
-    Strike(Bank, Bank),
+    One(Kind, Bank, Bank),
     StrikeAll(Bank),
 }
 
@@ -21,21 +19,6 @@ pub enum Row {
     Banks(u16),
     Edit(Change),
     Unreadable,
-}
-
-// The place of the first byte c from `from` on, or the length.
-pub fn find(s: &[u8], from: usize, c: u8) -> usize
-    requires { ⌜ from ≤ length (now s) ⌝ }
-    ensures { λ r. ⌜ Finds (now (s .entry)) from c r ⌝ }
-{
-    let mut i = from;
-    while i < s.len() {
-        if s[i] == c {
-            return i;
-        }
-        i += 1;
-    }
-    i
 }
 
 // Reads a row, without its line feed: two parts or three, with one space between them.
@@ -69,11 +52,11 @@ fn read_two_parts(head: &[u8], x: &[u8]) -> Row
     if head.len() != 1 {
         return Row::Unreadable;
     }
-    let kind = head[0];
-    if kind == b'N' {
+    let first = head[0];
+    if first == b'N' {
         return Row::Banks(value);
     }
-    if kind == b'D' {
+    if first == b'D' {
         return Row::Edit(Change::StrikeAll(Bank(value)));
     }
     Row::Unreadable
@@ -92,12 +75,12 @@ fn read_three_parts(head: &[u8], x: &[u8], y: &[u8]) -> Row
     if head.len() != 1 {
         return Row::Unreadable;
     }
-    let kind = head[0];
-    if kind == b'+' {
-        return Row::Edit(Change::Add(Bank(a), Bank(b)));
+    let first = head[0];
+    if first == b'+' {
+        return Row::Edit(Change::One(Kind::Adding, Bank(a), Bank(b)));
     }
-    if kind == b'-' {
-        return Row::Edit(Change::Strike(Bank(a), Bank(b)));
+    if first == b'-' {
+        return Row::Edit(Change::One(Kind::Striking, Bank(a), Bank(b)));
     }
     Row::Unreadable
 }

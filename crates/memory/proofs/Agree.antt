@@ -15,8 +15,9 @@ use Rattle.rule.proofs.Waves.{earlierNeighbours-in}
 use Rattle.rule.proofs.Agree.{neighbours-agree, degree-agree, earlierNeighbours-agree, wave-agree}
 use Rattle.memory.specs.declared.Tally.{Tally}
 use Rattle.memory.specs.Cells.{cells, over}
-use Rattle.memory.specs.Counts.{standing}
+use Rattle.memory.specs.inner.Counts.{standing}
 use Rattle.memory.specs.Plan.{Slices, neighbourCells, degreeCells, countCells, clashCount, tallyOf, planIn, PlanOf}
+use Rattle.memory.specs.PlanCells.{PlanCells, planCells}
 use Rattle.memory.proofs.Cells.{cells-cong}
 use Rattle.memory.proofs.Plans.{length-neighbourCells, length-degreeCells, length-waves, length-countCells}
 use Rattle.memory.proofs.Standing.{standing-cong}
@@ -31,22 +32,7 @@ pub tally-eq : {banks clashes waves banks′ clashes′ waves′ : ℕ} → bank
     → _≡_ {A = Tally} (record { banks = banks; clashes = clashes; waves = waves }) (record { banks = banks′; clashes = clashes′; waves = waves′ })
 tally-eq p q r = λ i. record { banks = p i; clashes = q i; waves = r i }
 
--- the plan cells of n banks in the slices
-pub record PlanCells : Type 0 where
-  pub neighbours : List ℕ
-  pub degrees : List ℕ
-  pub waves : List ℕ
-  pub counts : List ℕ
-
-abbrev pub planCells : ℕ → Slices → PlanCells
-planCells n s = record {
-  neighbours = take (23 * n) (s .neighbours);
-  degrees = take n (s .degrees);
-  waves = take n (s .waves);
-  counts = take (24 * n) (s .counts);
-}
-
--- those of G
+-- the plan cells of G
 abbrev cellsOf : Graph → PlanCells
 cellsOf G = record { neighbours = neighbourCells G; degrees = degreeCells G; waves = waves G; counts = countCells G }
 

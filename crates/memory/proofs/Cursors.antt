@@ -18,9 +18,9 @@ use Rattle.rule.specs.Graph.{neighbours}
 use Rattle.rule.proofs.Booleans.{or-l, or-r, or-cases, passes?, test-ext, T-along, eq→eqb, is-true, is-false, lt-or-ge}
 use Rattle.rule.proofs.Lists.{in-upto, upto-below, in-filter, filter-in, filter-cong, filter-kept, filter-left}
 use Rattle.rule.proofs.Neighbours.{degree-length}
-use Rattle.memory.specs.Counts.{byCells, Countable}
-use Rattle.memory.specs.Test.{Says, row, part, Rows, WavesSmall, Symmetric, PartRight, CellsRight, countsOf, CountsRight}
-use Rattle.memory.specs.Walk.{pairCell, grown, Pairable, naming, CountedTo, Seen, Walk, OrNot}
+use Rattle.memory.specs.inner.Counts.{byCells, Countable}
+use Rattle.memory.specs.inner.Test.{Says, row, part, Rows, WavesSmall, Symmetric, PartRight, CellsRight, countsOf, CountsRight}
+use Rattle.memory.specs.inner.Walk.{pairCell, grown, Pairable, naming, PartTo, Seen, Walk, OrNot}
 use Rattle.memory.proofs.Fronts.{take-next, getD-any, in-cell, cell-of, memb-snoc}
 use Rattle.memory.proofs.Rows.{group-at, inRows, long-row, larger, filled-members, degree-is, cells-are, rows-countable}
 use Rattle.memory.proofs.Tallies.{count-none, count-few, skipped, counted, cells-flip, part-of-zeros, part-grown, part-same}
@@ -301,11 +301,11 @@ module _ {ns ds ws cs cl : List ℕ} {n b i : ℕ} (w : Walk ns ds ws n b i cs c
         met-more j g (inr l) = w .here j g l
 
         -- the counts
-        untouched : (t : Bool) (x k : ℕ) → x < n → x ≢ b → x ≢ v → CountedTo ns ds ws cl x k → CountedTo ns ds ws (cl′ t) x k
+        untouched : (t : Bool) (x k : ℕ) → x < n → x ≢ b → x ≢ v → PartTo ns ds ws cl x k → PartTo ns ds ws (cl′ t) x k
         untouched true x k h p q tl = rw (part-same cl x v (getD ws b 0) (w .ground .long-cells) (omega (arith, rows .most)) wave-b q) tl
         untouched false x k h p q tl = rw (part-same cl x b (getD ws v 0) (w .ground .long-cells) (omega (arith, rows .most)) wave-v p) tl
 
-        half : (t : Bool) → byCells ds b v ≡ t → CountedTo ns ds ws (cl′ t) b (i + 1)
+        half : (t : Bool) → byCells ds b v ≡ t → PartTo ns ds ws (cl′ t) b (i + 1)
         half true e =
             rw (part-same cl b v (getD ws b 0) (w .ground .long-cells) (omega (arith, w .bank, rows .most)) wave-b (λ q. apart (sym q)))
             (skipped count-b hi (w .half) (cells-flip ds v b apart ∙ ap not e))
@@ -313,7 +313,7 @@ module _ {ns ds ws cs cl : List ℕ} {n b i : ℕ} (w : Walk ns ds ws n b i cs c
             rw (part-grown cl b (getD ws v 0) (w .ground .long-cells) (omega (arith, w .bank, rows .most)) wave-v)
             (counted count-b hi (w .half) (cells-flip ds v b apart ∙ ap not e) refl)
 
-        whole : (t : Bool) → byCells ds b v ≡ t → CountedTo ns ds ws (cl′ t) v (getD cs v 0 + 1)
+        whole : (t : Bool) → byCells ds b v ≡ t → PartTo ns ds ws (cl′ t) v (getD cs v 0 + 1)
         whole true e =
             rw (part-grown cl v (getD ws b 0) (w .ground .long-cells) v-cursor wave-b)
             (counted count-v less (w .begun v lt v-bank) (ap (λ (k : ℕ). byCells ds k v) there ∙ e) (ap (λ (k : ℕ). getD ws k 0) (sym there)))
@@ -321,7 +321,7 @@ module _ {ns ds ws cs cl : List ℕ} {n b i : ℕ} (w : Walk ns ds ws n b i cs c
             rw (part-same cl v b (getD ws v 0) (w .ground .long-cells) v-cursor wave-v apart)
             (skipped count-v less (w .begun v lt v-bank) (ap (λ (k : ℕ). byCells ds k v) there ∙ e))
 
-        begun : (t : Bool) → byCells ds b v ≡ t → (x : ℕ) → b < x → x < n → Dec (x ≡ v) → CountedTo ns ds ws (cl′ t) x (getD cs′ x 0)
+        begun : (t : Bool) → byCells ds b v ≡ t → (x : ℕ) → b < x → x < n → Dec (x ≡ v) → PartTo ns ds ws (cl′ t) x (getD cs′ x 0)
         begun t e x l h (yes q) = rw (q, cursor-more) (whole t e)
         begun t e x l h (no q) = rw (cursor-same x q) (untouched t x (getD cs x 0) h (λ p. omega arith) q (w .begun x l h))
 
@@ -388,7 +388,7 @@ walk-end {ns} {ds} {ws} {cs} {cl} {n} {b} w = record {
     go x y hy m (inl e) = rw e (here y hy (subst (λ (k : ℕ). T (memb y (row ns k))) e m))
     go x y hy m (inr l) = w .met x y l hy m
 
-    all : (x : ℕ) → (x ≡ b) ⊎ (x < b) → CountedTo ns ds ws cl x (getD ds x 0)
+    all : (x : ℕ) → (x ≡ b) ⊎ (x < b) → PartTo ns ds ws cl x (getD ds x 0)
     all x (inl e) = rw e (w .half)
     all x (inr l) = w .done x l
 

@@ -13,6 +13,7 @@ use Rattle.rule.proofs.Booleans.{is-true, is-false, both-true}
 use Rattle.rule.proofs.Lists.{length-upto, filter-none}
 use Rattle.memory.specs.Cells.{over}
 use Rattle.memory.specs.Plan.{Slices, longEnough, neighbourCells, degreeCells, countCells, tallyOf, planIn, PlanOf}
+use Rattle.memory.specs.inner.View.{Long}
 use Rattle.memory.proofs.Fronts.{over-long}
 use Rattle.memory.proofs.Cells.{length-cells, over-over}
 
@@ -35,12 +36,6 @@ module _ (G : Graph) where
   length-countCells = length-cells _ _
 
 -- `longEnough`, slice by slice
-pub record Long (n : ℕ) (s : Slices) : Type 0 where
-  pub neighbours : 23 * n ≤ length (s .neighbours)
-  pub degrees : n ≤ length (s .degrees)
-  pub waves : n ≤ length (s .waves)
-  pub counts : 24 * n ≤ length (s .counts)
-
 module _ (n : ℕ) (s : Slices) where
   pub long : longEnough n s ≡ true → Long n s
   unfolding longEnough

@@ -12,7 +12,7 @@ use Rattle.rule.proofs.Lists.{in-upto, upto-below, some-in, in-some}
 use Rattle.memory.specs.declared.Tally.{Tally}
 use Rattle.memory.specs.Cells.{starts}
 use Rattle.memory.specs.Plan.{Slices, longEnough, neighbourCells, degreeCells, countCells, clashCount, tallyOf, graphIn, proper, holds, PlanOf}
-use Rattle.memory.specs.Test.{Tested}
+use Rattle.memory.specs.inner.Test.{Tested}
 use Rattle.memory.proofs.Cells.{starts-over, over-starts}
 use Rattle.memory.proofs.Plans.{long, long-enough}
 use Rattle.memory.proofs.Agree.{tally-eq, plan-agree}

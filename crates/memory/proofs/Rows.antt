@@ -14,9 +14,9 @@ use Rattle.rule.proofs.Booleans.{test-ext, lt-or-ge}
 use Rattle.rule.proofs.Order.{ltb-strict}
 use Rattle.rule.proofs.Sorting.{sorted-unique}
 use Rattle.rule.proofs.Neighbours.{degree-length, neighbours-in, in-neighbours, neighbours-sorted}
-use Rattle.memory.specs.Counts.{Countable}
-use Rattle.memory.specs.View.{Rowed}
-use Rattle.memory.specs.Test.{row, RowRight, Rows, WavesSmall}
+use Rattle.memory.specs.inner.Counts.{Countable}
+use Rattle.memory.specs.inner.View.{Rowed}
+use Rattle.memory.specs.inner.Test.{row, RowRight, Rows, WavesSmall}
 use Rattle.memory.proofs.Fronts.{getD-any, in-cell, cell-of, in-take, in-front}
 use Rattle.memory.proofs.Ascending.{sorted-by, sorted-at, climbs, sorted-fits}
 

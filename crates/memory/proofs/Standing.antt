@@ -2,7 +2,7 @@
 use mathlib.Core.Bool.{Bool, true, false, cond}
 use mathlib.Core.List.{List, [], _∷_, _++_, map}
 use mathlib.Core.Logic.{inl, inr}
-use mathlib.Core.Path.{_≡_, sym, ap}
+use mathlib.Core.Path.{_≡_, refl, sym, ap}
 use Prim.Native.Nat.{ℕ, _+_, _<_, _≤_}
 use native.Mathlib.Decide.{ℕ-discrete}
 use native.Mathlib.Omega.{arith}
@@ -11,11 +11,16 @@ use lib.Dec.{T, eqb}
 use lib.ListN.{length}
 use Rattle.rule.specs.Lists.{memb, filter}
 use Rattle.rule.proofs.Lists.{in-head, in-tail, in-cons, in-none, filter-cong, filter-short}
-use Rattle.memory.specs.Counts.{standing}
+use Rattle.memory.specs.inner.Counts.{standing}
 
 pub bit : Bool → ℕ
 bit true = 1
 bit false = 0
+
+pub bit-none : (t : Bool) → (T t → ⊥) → bit t ≡ 0
+unfolding bit
+bit-none true n = absurd (n tt)
+bit-none false n = refl
 
 pub bit-yes : (m n : ℕ) → m ≡ n → bit (eqb m n) ≡ 1
 unfolding bit
@@ -25,7 +30,7 @@ pub bit-no : (m n : ℕ) → (m ≡ n → ⊥) → bit (eqb m n) ≡ 0
 unfolding bit
 bit-no m n e = rw (ne-eqb m n e)
 
-kept : (t : Bool) (y : ℕ) (ys : List ℕ) → length (cond t (y ∷ ys) ys) ≡ bit t + length ys
+pub kept : (t : Bool) (y : ℕ) (ys : List ℕ) → length (cond t (y ∷ ys) ys) ≡ bit t + length ys
 unfolding bit
 kept true y ys = omega arith
 kept false y ys = omega arith

@@ -10,8 +10,8 @@ use Rattle.rule.specs.Graph.{Graph, degree}
 use Rattle.rule.specs.Wave.{wave, waveCount}
 use Rattle.rule.proofs.Lists.{upto-below}
 use Rattle.memory.specs.Plan.{clashCount}
-use Rattle.memory.specs.Counts.{mostOf}
-use Rattle.memory.specs.Test.{Small, sum}
+use Rattle.memory.specs.inner.Counts.{mostOf}
+use Rattle.memory.specs.inner.Test.{Small, sum}
 use Rattle.memory.proofs.Agree.{fold-cong}
 
 fold-snoc : (op : ℕ → ℕ → ℕ) (z : ℕ) (xs : List ℕ) (x : ℕ) → foldr op z (xs ++ (x ∷ [])) ≡ foldr op (op x z) xs
@@ -21,6 +21,10 @@ fold-snoc op z (y ∷ ys) x = ap (op y) (fold-snoc op z ys x)
 sum-from : (g : ℕ → ℕ) (a : ℕ) (xs : List ℕ) → foldr (λ (b m : ℕ). g b + m) a xs ≡ foldr (λ (b m : ℕ). g b + m) 0 xs + a
 sum-from g a [] = omega arith
 sum-from g a (x ∷ xs) = omega (arith, sum-from g a xs)
+
+pub sum-upto : (g : ℕ → ℕ) (n : ℕ) → foldr (λ (b m : ℕ). g b + m) 0 (upto (suc n)) ≡ foldr (λ (b m : ℕ). g b + m) 0 (upto n) + g n
+unfolding upto
+sum-upto g n = fold-snoc (λ b m. g b + m) 0 (upto n) n ∙ sum-from g (g n + 0) (upto n) ∙ omega arith
 
 most-from : (g : ℕ → ℕ) (a : ℕ) (xs : List ℕ) → foldr (λ (b k : ℕ). max (suc (g b)) k) a xs ≡ max a (foldr (λ (b k : ℕ). max (suc (g b)) k) 0 xs)
 most-from g a [] = omega arith
@@ -32,9 +36,8 @@ module _ (cells : List ℕ) where
   sum-none = refl
 
   sum-suc : (n : ℕ) → sum cells (suc n) ≡ sum cells n + getD cells n 0
-  unfolding sum upto
-  sum-suc n =
-      fold-snoc (λ b m. getD cells b 0 + m) 0 (upto n) n ∙ sum-from (λ b. getD cells b 0) (getD cells n 0 + 0) (upto n) ∙ omega arith
+  unfolding sum
+  sum-suc = sum-upto (λ b. getD cells b 0)
 
   pub sum-next : (n : ℕ) → sum cells (n + 1) ≡ sum cells n + getD cells n 0
   sum-next n = ap (sum cells) (add-one n) ∙ sum-suc n

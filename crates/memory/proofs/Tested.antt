@@ -17,13 +17,12 @@ use Rattle.rule.proofs.Lists.{map-cong}
 use Rattle.rule.proofs.Theorems.{wave-equation, wave-unique, lowestFree-free, lowestFree-smaller, lowestFree-only}
 use Rattle.rule.proofs.Waves.{earlierNeighbours-in}
 use Rattle.memory.specs.declared.Tally.{Tally}
-use Rattle.memory.specs.Counts.{standing}
+use Rattle.memory.specs.inner.Counts.{standing}
 use Rattle.memory.specs.Plan.{Slices, tallyOf, PlanOf}
-use Rattle.memory.specs.View.{Rowed, Held}
-use Rattle.memory.specs.Test.{Says, row, part, RowsRight, Rows, PartRight, countsOf, Tested}
+use Rattle.memory.specs.inner.View.{Long, Rowed, Held}
+use Rattle.memory.specs.inner.Test.{Says, row, part, RowsRight, Rows, PartRight, countsOf, Tested}
 use Rattle.memory.proofs.Fronts.{pos}
 use Rattle.memory.proofs.Standing.{standing-cong, standing-pos, pos-standing}
-use Rattle.memory.proofs.Plans.{Long}
 use Rattle.memory.proofs.Agree.{tally-eq}
 use Rattle.memory.proofs.Views.{held-of, plan-of, held-small}
 use Rattle.memory.proofs.Rows.{group-at, inRows, rowed, row-right}
@@ -114,7 +113,7 @@ module _ (s : Slices) (t : Tally) where
     waves-are : (b : ℕ) → b < n → w b ≡ wave K b
     waves-are = wave-unique K w lowest
 
-    held : Held K (s .neighbours) (s .degrees) (s .waves) (s .counts) n
+    held : Held K s n
     held = record {
       banks = refl;
       rowed = rows-shown;
@@ -122,7 +121,8 @@ module _ (s : Slices) (t : Tally) where
       waves = waves-are;
       counted = record {
         wide-counts = omega (arith, l .counts);
-        cell = λ b c h k. sym (group-at 24 (s .counts) b c k) ∙ ts .counts b h .same c k ∙ count-is b c h ∙ standing-cong w (wave K) c (E b) (λ v m. waves-are v (earlierNeighbours-in K b v m .0));
+        cell = λ b c h k. sym (group-at 24 (s .counts) b c k) ∙ ts .counts b h .same c k ∙ count-is b c h ∙ standing-cong w (wave K) c (E b)
+            (λ v m. waves-are v (earlierNeighbours-in K b v m .0));
       };
     }
 
@@ -133,7 +133,7 @@ module _ (s : Slices) (t : Tally) where
 
   -- and from the plan to the tests
   module _ (p : PlanOf K s t) where
-    view : Held K (s .neighbours) (s .degrees) (s .waves) (s .counts) n
+    view : Held K s n
     view = held-of K s t p
 
     counted : (b c : ℕ) → b < n → standing w c (E b) ≡ standing (wave K) c (E b)

@@ -9,15 +9,18 @@ use lib.ListN.{length, getD, take, drop}
 use Rattle.rule.specs.Graph.{Graph, earlier, earlierNeighbours, empty}
 use Rattle.rule.specs.Wave.{wave, waves, waveCount}
 use Rattle.memory.specs.declared.Tally.{Tally}
-use Rattle.memory.specs.Plan.{Slices, longEnough, neighbourCells, degreeCells, countCells, tallyOf, planIn, graphIn, holds, PlanOf}
-use Rattle.memory.specs.Counts.{byCells, standing, countIn, Countable, mostOf}
-use Rattle.memory.specs.View.{Shown, Rowed, Held}
+use Rattle.memory.specs.Plan.{Slices, longEnough, neighbourCells, degreeCells, countCells, tallyOf, planIn, graphIn, clashCount, holds, Clashes, PlanOf}
+use Rattle.memory.specs.inner.Counts.{byCells, standing, countIn, Countable, mostOf}
+use Rattle.memory.specs.PlanCells.{planCells}
+use Rattle.memory.specs.Pairs.{pairs}
+use Rattle.memory.specs.inner.View.{Long, Shown, Rowed, Held}
 use Rattle.memory.proofs.Plans
 use Rattle.memory.proofs.Agree
 use Rattle.memory.proofs.Views
 use Rattle.memory.proofs.Tallies
 use Rattle.memory.proofs.Sums
 use Rattle.memory.proofs.Question
+use Rattle.memory.proofs.ClashPairs
 
 -- 1. question 5: memory passes exactly if it holds the plan of some set of clashes; then it holds that of the clashes that its rows name,
 -- which are the plan's
@@ -37,7 +40,7 @@ rows-give-clashes = Question.rows-give-clashes
 -- 2. as many banks and the same clashes between them: the same plan cells, whatever lies beyond, and the same tally
 module _ (G H : Graph) (banks : G .banks ≡ H .banks)
     (clash : (x y : ℕ) → x < H .banks → y < H .banks → G .clash x y ≡ H .clash x y) where
-  pub same-cells : (s s′ : Slices) → Agree.planCells (H .banks) (planIn G s) ≡ Agree.planCells (H .banks) (planIn H s′)
+  pub same-cells : (s s′ : Slices) → planCells (H .banks) (planIn G s) ≡ planCells (H .banks) (planIn H s′)
   same-cells = Agree.same-cells G H banks clash
 
   pub planIn-agree : (s : Slices) → planIn G s ≡ planIn H s
@@ -69,27 +72,27 @@ length-waves = Plans.length-waves
 pub length-countCells : (G : Graph) → length (countCells G) ≡ 24 * G .banks
 length-countCells = Plans.length-countCells
 
-pub long : (n : ℕ) (s : Slices) → longEnough n s ≡ true → Plans.Long n s
+pub long : (n : ℕ) (s : Slices) → longEnough n s ≡ true → Long n s
 long = Plans.long
 
-pub long-enough : (n : ℕ) (s : Slices) → Plans.Long n s → longEnough n s ≡ true
+pub long-enough : (n : ℕ) (s : Slices) → Long n s → longEnough n s ≡ true
 long-enough = Plans.long-enough
 
 pub long-again : (G : Graph) (s : Slices) → longEnough (G .banks) s ≡ true → longEnough (G .banks) (planIn G s) ≡ true
 long-again = Plans.long-again
 
 -- 5. memory that holds a plan, as facts on its cells, and the other way
-pub held-of : (G : Graph) (s : Slices) (t : Tally) → PlanOf G s t → Held G (s .neighbours) (s .degrees) (s .waves) (s .counts) (t .banks)
+pub held-of : (G : Graph) (s : Slices) (t : Tally) → PlanOf G s t → Held G s (t .banks)
 held-of = Views.held-of
 
-pub plan-of : (G : Graph) (s : Slices) (t : Tally) (n : ℕ) → Held G (s .neighbours) (s .degrees) (s .waves) (s .counts) n → t ≡ tallyOf G
+pub plan-of : (G : Graph) (s : Slices) (t : Tally) (n : ℕ) → Held G s n → t ≡ tallyOf G
     → PlanOf G s t
 plan-of = Views.plan-of
 
 pub open-plan : (n : ℕ) (s : Slices) → n ≤ 1024 → longEnough n s ≡ true → PlanOf (empty n) (planIn (empty n) s) (tallyOf (empty n))
 open-plan = Plans.open-plan
 
-pub held-small : {G : Graph} {ns ds ws cs : List ℕ} {n : ℕ} → Held G ns ds ws cs n → (x : ℕ) → x < n → getD ws x 0 < 24
+pub held-small : {G : Graph} {s : Slices} {n : ℕ} → Held G s n → (x : ℕ) → x < n → getD (s .waves) x 0 < 24
 held-small = Views.held-small
 
 -- 6. what the code finds in cells that show a plan: its order, its Counts, its number of waves
@@ -109,3 +112,7 @@ module _ {G : Graph} {ns ds : List ℕ} (sh : Shown G ns ds) where
 
 pub wave-count-is : (G : Graph) (ws : List ℕ) → ((x : ℕ) → x < G .banks → getD ws x 0 ≡ wave G x) → mostOf ws (G .banks) ≡ waveCount G
 wave-count-is = Sums.wave-count-is
+
+-- 7. the tally's clashes are the number of pairs a < b that clash
+pub clash-count-pairs : (G : Graph) → Clashes G → clashCount G ≡ length (pairs G)
+clash-count-pairs = ClashPairs.clash-count-pairs

@@ -10,11 +10,11 @@ use Rattle.rule.proofs.Neighbours.{fewer-earlier}
 use Rattle.rule.proofs.Waves.{wave-le}
 use Rattle.memory.specs.declared.Tally.{Tally}
 use Rattle.memory.specs.Cells.{cells, over}
-use Rattle.memory.specs.Counts.{standing}
+use Rattle.memory.specs.inner.Counts.{standing}
 use Rattle.memory.specs.Plan.{Slices, neighbourCells, degreeCells, countCells, tallyOf, planIn, PlanOf}
-use Rattle.memory.specs.View.{Held}
+use Rattle.memory.specs.inner.View.{Long, Held}
 use Rattle.memory.proofs.Cells.{cells-long, cells-at, cells-by, table-at, table-by}
-use Rattle.memory.proofs.Plans.{Long, long, long-enough}
+use Rattle.memory.proofs.Plans.{long, long-enough}
 
 pub tally-banks : (t : Tally) (G : Graph) → t ≡ tallyOf G → t .banks ≡ G .banks
 unfolding tallyOf
@@ -51,7 +51,7 @@ module _ {G : Graph} {s : Slices} where
   }
 
 module _ (G : Graph) (s : Slices) (t : Tally) where
-  pub held-of : PlanOf G s t → Held G (s .neighbours) (s .degrees) (s .waves) (s .counts) (t .banks)
+  pub held-of : PlanOf G s t → Held G s (t .banks)
   unfolding neighbourCells degreeCells waves cells countCells standing
   held-of p =
       let l = long (G .banks) s (p .long) in
@@ -77,7 +77,7 @@ module _ (G : Graph) (s : Slices) (t : Tally) where
         };
       }
 
-  pub plan-of : (n : ℕ) → Held G (s .neighbours) (s .degrees) (s .waves) (s .counts) n → t ≡ tallyOf G → PlanOf G s t
+  pub plan-of : (n : ℕ) → Held G s n → t ≡ tallyOf G → PlanOf G s t
   unfolding neighbourCells degreeCells waves cells countCells standing
   plan-of n h e = record {
     clashes = record { most = h .rowed .few; symmetric = h .rowed .symmetric; apart = h .rowed .apart; few = h .rowed .small };
@@ -97,7 +97,7 @@ module _ (G : Graph) (s : Slices) (t : Tally) where
   }
 
 -- the waves of memory that holds a plan
-pub held-small : {G : Graph} {ns ds ws cs : List ℕ} {n : ℕ} → Held G ns ds ws cs n → (x : ℕ) → x < n → getD ws x 0 < 24
+pub held-small : {G : Graph} {s : Slices} {n : ℕ} → Held G s n → (x : ℕ) → x < n → getD (s .waves) x 0 < 24
 held-small {G} h x l =
     let k : x < G .banks = omega (arith, h .banks) in
     omega (arith, h .waves x k, wave-le G x k, fewer-earlier G x, h .rowed .small x k)

@@ -1,8 +1,8 @@
--- What a reader must believe of plan memory: Cells, Plan. Examples tests them. Counts, View, Test and Walk serve the proofs.
+-- What a reader must believe of plan memory: Cells, Plan, Memory, Lent; of the theorems: PlanCells, Pairs. inner serves the functions and the proofs.
 pub mod Cells
 pub mod Plan
-pub mod Examples
-pub mod Counts
-pub mod View
-pub mod Test
-pub mod Walk
+pub mod Memory
+pub mod Lent
+pub mod PlanCells
+pub mod Pairs
+pub mod inner

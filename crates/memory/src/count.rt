@@ -5,9 +5,9 @@ use rule::COUNT_CELLS;
 use rule::ROW_CELLS;
 use rule::wide;
 ghost use mathlib.Core.Path.{_≡_};
-ghost use Prim.Native.Nat.{ℕ, _+_, _*_, _≤_, _<_};
-ghost use lib.ListN.{length, getD, take, drop};
-ghost use Rattle.memory.specs.Counts.{countIn, Countable, Tallied, mostOf};
+ghost use Prim.Native.Nat.{ℕ, _+_, _≤_, _<_};
+ghost use lib.ListN.{length, getD};
+ghost use Rattle.memory.specs.inner.Counts.{CountedTo, Countable, Tallied, mostOf};
 
 // Sets the 24 cells to 0.
 fn clear(row: &mut [u16])
@@ -34,8 +34,9 @@ fn count_one(
 )
     requires { ⌜ Countable (now neighbours) (now degrees) (now waves) banks (b .0) ⌝ }
     requires { ⌜ i < getD (now degrees) (b .0) 0 ⌝ }
-    requires { ⌜ Tallied (now row) (countIn (now degrees) (now waves) (b .0) (take i (drop (b .0 * 23) (now neighbours)))) ⌝ }
-    ensures { λ _. ⌜ Tallied (now (row .exit)) (countIn (now (degrees .entry)) (now (waves .entry)) (b .0) (take (i + 1) (drop (b .0 * 23) (now (neighbours .entry))))) ⌝ }
+    requires { ⌜ CountedTo (now neighbours) (now degrees) (now waves) (now row) (b .0) i ⌝ }
+    ensures { λ _. ⌜ CountedTo (now (neighbours .entry)) (now (degrees .entry)) (now (waves .entry))
+        (now (row .exit)) (b .0) (i + 1) ⌝ }
 {
     let at = b.0 as usize;
     let v = neighbours[at * ROW_CELLS + i];
@@ -58,7 +59,8 @@ pub fn count_earlier(
 )
     requires { ⌜ Countable (now neighbours) (now degrees) (now waves) banks (b .0) ⌝ }
     requires { ⌜ length (now row) ≡ 24 ⌝ }
-    ensures { λ _. ⌜ Tallied (now (row .exit)) (countIn (now (degrees .entry)) (now (waves .entry)) (b .0) (take (getD (now (degrees .entry)) (b .0) 0) (drop (b .0 * 23) (now (neighbours .entry))))) ⌝ }
+    ensures { λ _. ⌜ CountedTo (now (neighbours .entry)) (now (degrees .entry)) (now (waves .entry))
+        (now (row .exit)) (b .0) (getD (now (degrees .entry)) (b .0) 0) ⌝ }
 {
     clear(row);
     let at = b.0 as usize;

@@ -4,7 +4,7 @@ use rule::earlier;
 ghost use mathlib.Core.Path.{_≡_};
 ghost use Prim.Native.Nat.{_<_};
 ghost use lib.ListN.{length};
-ghost use Rattle.memory.specs.Counts.{byCells};
+ghost use Rattle.memory.specs.inner.Counts.{byCells};
 
 // Whether bank p is earlier than bank q.
 pub fn is_earlier(degrees: &[u16], p: Bank, q: Bank) -> bool

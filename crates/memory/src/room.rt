@@ -3,7 +3,8 @@ use rule::COUNT_CELLS;
 use rule::ROW_CELLS;
 use rule::wide;
 ghost use mathlib.Core.Path.{_≡_};
-ghost use Rattle.memory.specs.Plan.{slicesOf, longEnough};
+ghost use Rattle.memory.specs.Plan.{longEnough};
+ghost use Rattle.memory.specs.Lent.{slicesBefore};
 
 // Whether the slices have room for so many banks.
 pub fn long_enough(
@@ -13,7 +14,7 @@ pub fn long_enough(
     counts: &[u16],
     banks: u16,
 ) -> bool
-    ensures { λ r. ⌜ r ≡ longEnough banks (slicesOf (now (neighbours .entry)) (now (degrees .entry)) (now (waves .entry)) (now (counts .entry))) ⌝ }
+    ensures { λ r. ⌜ r ≡ longEnough banks (slicesBefore neighbours degrees waves counts) ⌝ }
 {
     let n = wide(banks);
     if neighbours.len() < n * ROW_CELLS {

@@ -15,8 +15,10 @@ ghost use mathlib.Core.Bool.{true};
 ghost use mathlib.Core.Path.{_≡_};
 ghost use Prim.Native.Nat.{ℕ, _+_, _*_, _≤_, _<_};
 ghost use lib.ListN.{length, getD};
-ghost use Rattle.memory.specs.Plan.{slicesOf, longEnough, holds};
-ghost use Rattle.memory.specs.Test.{Says, row, part, Named, RowRight, RowsRight, Rows, Symmetric, Lowest, PartRight, CellsRight, CountsRight, Small, WavesSmall, sum};
+ghost use Rattle.memory.specs.Plan.{longEnough, holds};
+ghost use Rattle.memory.specs.Lent.{slicesGiven, slicesBefore};
+ghost use Rattle.memory.specs.inner.Test.{Says, row, part, Named, RowRight, RowsRight, Rows, Symmetric, Lowest};
+ghost use Rattle.memory.specs.inner.Test.{PartRight, CellsRight, CountsRight, ClashesRight, Small, WavesSmall, sum};
 
 // Whether cell i of b's row is a bank other than b, larger than that before it.
 fn named_right(row: &[u16], i: usize, banks: u16, b: Bank) -> bool
@@ -239,8 +241,7 @@ fn clashes_right(
     requires { ⌜ Rows (now neighbours) (now degrees) banks ⌝ }
     requires { ⌜ WavesSmall (now waves) banks ⌝ }
     requires { ⌜ 24 * banks ≤ length (now counts) ⌝ }
-    ensures { λ r. ⌜ Says (Symmetric (now (neighbours .entry)) banks
-        × CountsRight (now (neighbours .entry)) (now (degrees .entry)) (now (waves .entry)) (now (counts .entry)) banks) r ⌝ }
+    ensures { λ r. ⌜ Says (ClashesRight (slicesBefore neighbours degrees waves counts) banks) r ⌝ }
 {
     let mut cursors = [0u16; MOST_BANKS];
     let mut cells = [0u16; ALL_COUNTS];
@@ -288,8 +289,8 @@ pub fn holds_plan(
     tally: Tally,
 ) -> bool
     requires { ⌜ tally .banks ≤ 1024 ⌝ }
-    requires { ⌜ longEnough (tally .banks) (slicesOf (now neighbours) (now degrees) (now waves) (now counts)) ≡ true ⌝ }
-    ensures { λ r. ⌜ r ≡ holds (slicesOf (now (neighbours .entry)) (now (degrees .entry)) (now (waves .entry)) (now (counts .entry))) tally ⌝ }
+    requires { ⌜ longEnough (tally .banks) (slicesGiven neighbours degrees waves counts) ≡ true ⌝ }
+    ensures { λ r. ⌜ r ≡ holds (slicesBefore neighbours degrees waves counts) tally ⌝ }
 {
     let banks = tally.banks;
     if !rows_right(neighbours, degrees, banks) {

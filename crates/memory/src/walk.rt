@@ -8,7 +8,7 @@ use rule::wide;
 ghost use mathlib.Core.Path.{_≡_};
 ghost use Prim.Native.Nat.{_+_, _<_};
 ghost use lib.ListN.{getD};
-ghost use Rattle.memory.specs.Walk.{pairCell, Pairable, Seen, Walk, OrNot};
+ghost use Rattle.memory.specs.inner.Walk.{pairCell, Pairable, Seen, Walk, OrNot};
 
 // Counts for every bank.
 pub const ALL_COUNTS: usize = COUNT_CELLS * MOST_BANKS;
@@ -42,7 +42,10 @@ fn match_one(
 ) -> bool
     requires { ⌜ Walk (now neighbours) (now degrees) (now waves) banks (b .0) i (now cursors) (now cells) ⌝ }
     requires { ⌜ i < getD (now degrees) (b .0) 0 ⌝ }
-    ensures { λ r. ⌜ OrNot (Walk (now (neighbours .entry)) (now (degrees .entry)) (now (waves .entry)) banks (b .0) (i + 1) (now (cursors .exit)) (now (cells .exit))) (now (neighbours .entry)) banks r ⌝ }
+    ensures { λ r. ⌜ OrNot
+        (Walk (now (neighbours .entry)) (now (degrees .entry)) (now (waves .entry)) banks (b .0) (i + 1)
+        (now (cursors .exit)) (now (cells .exit)))
+        (now (neighbours .entry)) banks r ⌝ }
 {
     let at = b.0 as usize;
     let v = neighbours[at * ROW_CELLS + i];
@@ -75,7 +78,10 @@ pub fn row_matched(
 ) -> bool
     requires { ⌜ Seen (now neighbours) (now degrees) (now waves) banks (b .0) (now cursors) (now cells) ⌝ }
     requires { ⌜ b .0 < banks ⌝ }
-    ensures { λ r. ⌜ OrNot (Seen (now (neighbours .entry)) (now (degrees .entry)) (now (waves .entry)) banks (b .0 + 1) (now (cursors .exit)) (now (cells .exit))) (now (neighbours .entry)) banks r ⌝ }
+    ensures { λ r. ⌜ OrNot
+        (Seen (now (neighbours .entry)) (now (degrees .entry)) (now (waves .entry)) banks (b .0 + 1)
+        (now (cursors .exit)) (now (cells .exit)))
+        (now (neighbours .entry)) banks r ⌝ }
 {
     let at = b.0 as usize;
     let degree = wide(degrees[at]);

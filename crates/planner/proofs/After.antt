@@ -10,7 +10,9 @@ use lib.Dec.{T, eqb, T-not}
 use lib.ListN.{length, getD}
 use Rattle.rule.specs.Graph.{Graph, neighbours, degree, earlier, earlierNeighbours, pair, added, struck}
 use Rattle.rule.specs.Wave.{wave}
-use Rattle.rule.specs.Reach.{Kind, adding, striking, edited, isNamed, isReached, onTrail}
+use Rattle.rule.specs.Reach.{edited, inverse, isNamed, isReached, onTrail}
+use Rattle.rule.specs.declared.Kind.{Kind}
+use Rattle.rule.specs.declared.Kind.the-variants.{Adding, Striking}
 use Rattle.rule.specs.WorkList.{OneEdit, isTaken}
 use Rattle.rule.proofs.Booleans.{and-l, and-r, both, or-l, or-r, or-cases, T-along, eq→eqb, is-true, is-false}
 use Rattle.rule.proofs.Spread.{same-neighbours, taken-spread, taken-seed, unchanged}
@@ -19,17 +21,19 @@ use Rattle.rule.proofs.OneClash.{degrees-more, degrees-less, degree-added, degr
 use Rattle.rule.proofs.Pairs.{pair-is, pair-here}
 use Rattle.rule.proofs.Turned.{edited-one, onTrail-taken}
 use Rattle.rule.proofs.Theorems.{off-trail}
-use Rattle.memory.specs.Counts.{standing}
+use Rattle.memory.specs.inner.Counts.{standing}
 use Rattle.memory.specs.Plan.{Slices, longEnough, tallyOf, planIn, graphIn, Clashes, PlanOf}
-use Rattle.memory.specs.View.{Held}
+use Rattle.memory.specs.PlanCells.{SameCells}
+use Rattle.memory.specs.inner.View.{Held}
 use Rattle.memory.proofs.Plans.{plan-over, long-again}
 use Rattle.memory.proofs.Agree.{planIn-agree, tally-agree}
 use Rattle.memory.proofs.Standing.{standing-cong}
 use Rattle.memory.proofs.Views.{held-of}
 use Rattle.edits.specs.Edits.{Acceptable}
-use Rattle.planner.specs.Calls.{Memory, editResult, noEdit, refused, accepted, editNumber, editBy, editOf, memoryNumber, checkedBy, edit}
-use Rattle.planner.specs.Held.{Ready}
-use Rattle.planner.proofs.Numbers.{strike-fine, add-fine}
+use Rattle.memory.specs.Memory.{Memory}
+use Rattle.planner.specs.Calls.{editResult, noEdit, refused, accepted, editNumber, editBy, editOf, memoryNumber, checkedBy, edit}
+use Rattle.memory.specs.Memory.{Ready}
+use Rattle.planner.proofs.Numbers.{strike-fine, add-fine, two-banks}
 use Rattle.planner.proofs.Outcomes.{acceptable, edited-banks}
 
 pair-apart : (a b x : ℕ) → a ≢ b → T (pair a b x x) → ⊥
@@ -52,20 +56,20 @@ module _ (G : Graph) (a b : ℕ) (c : Clashes G) where
 
   pub clashes-edited : (k : Kind) → Acceptable k G a b → Clashes (edited k G a b)
   unfolding edited
-  clashes-edited adding ok =
+  clashes-edited Adding ok =
       let r = degrees-more G a b (ok .bankA) (ok .bankB) (ok .differ) (ok .allowed) (λ t. ok .allowed (T-along (c .symmetric b a (ok .bankB) (ok .bankA)) t)) in
       record {
         most = c .most;
-        symmetric = edited-one G (c .symmetric) a b (ok .bankA) (ok .bankB) (ok .differ) adding .symmetric;
+        symmetric = edited-one G (c .symmetric) a b (ok .bankA) (ok .bankB) (ok .differ) Adding .symmetric;
         apart = λ x l t. elim (or-cases (G .clash x x) (pair a b x x) t) [ inl u ↦ c .apart x l u | inr u ↦ pair-apart a b x (ok .differ) u ];
         few = at-each (λ x. x < G .banks → degree (added G a b) x ≤ 23) (λ l. omega (arith, r .0, ok .room .0)) (λ l. omega (arith, r .1, ok .room .1))
             (λ x na nb l. omega (arith, degree-added G a b x na nb, c .few x l));
       }
-  clashes-edited striking ok =
+  clashes-edited Striking ok =
       let r = degrees-less G a b (ok .bankA) (ok .bankB) (ok .differ) (ok .allowed) (T-along (c .symmetric a b (ok .bankA) (ok .bankB)) (ok .allowed)) in
       record {
         most = c .most;
-        symmetric = edited-one G (c .symmetric) a b (ok .bankA) (ok .bankB) (ok .differ) striking .symmetric;
+        symmetric = edited-one G (c .symmetric) a b (ok .bankA) (ok .bankB) (ok .differ) Striking .symmetric;
         apart = λ x l t. c .apart x l (and-l (G .clash x x) (not (pair a b x x)) t);
         few = at-each (λ x. x < G .banks → degree (struck G a b) x ≤ 23) (λ l. omega (arith, r .0, c .few a l)) (λ l. omega (arith, r .1, c .few b l))
             (λ x na nb l. omega (arith, degree-struck G a b x na nb, c .few x l));
@@ -73,19 +77,12 @@ module _ (G : Graph) (a b : ℕ) (c : Clashes G) where
 
   neighbours-kept : (k : Kind) (x : ℕ) → x ≢ a → x ≢ b → neighbours (edited k G a b) x ≡ neighbours G x
   unfolding edited
-  neighbours-kept adding = neighbours-added G a b
-  neighbours-kept striking = neighbours-struck G a b
+  neighbours-kept Adding = neighbours-added G a b
+  neighbours-kept Striking = neighbours-struck G a b
 
 -- the plan of clashes, put into slices that are long enough, is held by them
 pub plan-in : (H : Graph) (s : Slices) → Clashes H → longEnough (H .banks) s ≡ true → PlanOf H (planIn H s) (tallyOf H)
 plan-in H s c l = record { clashes = c; long = long-again H s l; cells = plan-over H H s refl; tally = refl }
-
--- the plan cells of bank x: its row, its degree, its wave and its 24 cells of Counts
-pub record SameCells (was is : Slices) (x : ℕ) : Type 0 where
-  pub row : (i : ℕ) → i < 23 → getD (is .neighbours) (x * 23 + i) 0 ≡ getD (was .neighbours) (x * 23 + i) 0
-  pub degree : getD (is .degrees) x 0 ≡ getD (was .degrees) x 0
-  pub wave : getD (is .waves) x 0 ≡ getD (was .waves) x 0
-  pub counts : (c : ℕ) → c < 24 → getD (is .counts) (x * 24 + c) 0 ≡ getD (was .counts) (x * 24 + c) 0
 
 module _ (k : Kind) (G : Graph) (a b : ℕ) (m : Memory) (ready : Ready G m) (due : editNumber k G a b ≡ 0) where
   abbrev H : Graph
@@ -105,13 +102,13 @@ module _ (k : Kind) (G : Graph) (a b : ℕ) (m : Memory) (ready : Ready G m) (du
   unfolding accepted
   after-plan = plan-in H (m .slices) new-clashes (rw (edited-banks k G a b) (ready .plan .long))
 
-  abbrev was : Held G (m .slices .neighbours) (m .slices .degrees) (m .slices .waves) (m .slices .counts) (m .tally .banks)
+  abbrev was : Held G (m .slices) (m .tally .banks)
   was = held-of G (m .slices) (m .tally) (ready .plan)
 
   abbrev s′ : Slices
   s′ = accepted k G a b m .memory .slices
 
-  is : Held H (s′ .neighbours) (s′ .degrees) (s′ .waves) (s′ .counts) (accepted k G a b m .memory .tally .banks)
+  is : Held H s′ (accepted k G a b m .memory .tally .banks)
   is = held-of H s′ (accepted k G a b m .memory .tally) after-plan
 
   -- and its waves are the rule's
@@ -153,7 +150,8 @@ module _ (k : Kind) (G : Graph) (a b : ℕ) (m : Memory) (ready : Ready G m) (du
     kept-counts c =
         standing-cong (wave H) (wave G) c (earlierNeighbours H x) (λ v i.
         let r = earlierNeighbours-in H x v i in
-        sym (unchanged G H a b one v (λ w. not-taken (taken-spread G H a b one v x (r .0) (both (H .clash v x) (earlier H v x) (T-along (one .symmetric x v l′ (r .0)) (and-l (H .clash x v) (earlier H v x) (r .1))) (and-r (H .clash x v) (earlier H v x) (r .1))) w))))
+        sym (unchanged G H a b one v (λ w. not-taken (taken-spread G H a b one v x (r .0) (both (H .clash v x) (earlier H v x)
+        (T-along (one .symmetric x v l′ (r .0)) (and-l (H .clash x v) (earlier H v x) (r .1))) (and-r (H .clash x v) (earlier H v x) (r .1))) w))))
         ∙ ap (standing (wave G) c) (sym (same-neighbours G H a b one x l′ (λ t. not-taken (taken-seed G H a b one x t))))
 
     -- no plan cell of a bank off the trail differs
@@ -165,11 +163,7 @@ module _ (k : Kind) (G : Graph) (a b : ℕ) (m : Memory) (ready : Ready G m) (du
       counts = λ c h. is .counted .cell x c l′ h ∙ kept-counts c ∙ sym (was .counted .cell x c l h);
     }
 
--- the edit that takes an edit back
-abbrev pub inverse : Kind → Kind
-inverse adding = striking
-inverse striking = adding
-
+-- back by the inverse
 add-strike : (c p : Bool) → (T p → T c → ⊥) → ((c || p) && not p) ≡ c
 add-strike true true h = absurd (h tt tt)
 add-strike true false h = refl
@@ -186,20 +180,22 @@ module _ (G : Graph) (a b : ℕ) (c : Clashes G) where
   -- back to the clashes before
   pub edited-back : (k : Kind) → Acceptable k G a b → (x y : ℕ) → edited (inverse k) (edited k G a b) a b .clash x y ≡ G .clash x y
   unfolding edited
-  edited-back adding ok x y =
+  edited-back Adding ok x y =
       add-strike (G .clash x y) (pair a b x y) (λ t u. ok .allowed (T-along (pair-clash G a b c (ok .bankA) (ok .bankB) x y t) u))
-  edited-back striking ok x y =
+  edited-back Striking ok x y =
       strike-add (G .clash x y) (pair a b x y) (λ t. T-along (sym (pair-clash G a b c (ok .bankA) (ok .bankB) x y t)) (ok .allowed))
 
   -- no refusal is due to it
   pub back-due : (k : Kind) → Acceptable k G a b → editNumber (inverse k) (edited k G a b) a b ≡ 0
   unfolding edited
-  back-due adding ok =
-      strike-fine (added G a b) a b (ok .bankA) (ok .bankB) (ok .differ) (is-true _ (or-r (G .clash a b) (pair a b a b) (pair-here a b)))
-  back-due striking ok =
+  back-due Adding ok =
+      let there = is-true (G .clash a b || pair a b a b) (or-r (G .clash a b) (pair a b a b) (pair-here a b)) in
+      two-banks (added G a b) a b (ok .bankA) (ok .bankB) Striking (ok .differ) ∙ rw there (strike-fine (degree (added G a b) a) (degree (added G a b) b))
+  back-due Striking ok =
       let r = degrees-less G a b (ok .bankA) (ok .bankB) (ok .differ) (ok .allowed) (T-along (c .symmetric a b (ok .bankA) (ok .bankB)) (ok .allowed)) in
-      add-fine (struck G a b) a b (ok .bankA) (ok .bankB) (ok .differ) (is-false _ (λ t. T-not (pair a b a b) (and-r (G .clash a b) (not (pair a b a b)) t) (pair-here a b)))
-      (omega (arith, r .0, c .few a (ok .bankA))) (omega (arith, r .1, c .few b (ok .bankB)))
+      let gone = is-false (G .clash a b && not (pair a b a b)) (λ t. T-not (pair a b a b) (and-r (G .clash a b) (not (pair a b a b)) t) (pair-here a b)) in
+      two-banks (struck G a b) a b (ok .bankA) (ok .bankB) Adding (ok .differ)
+      ∙ rw gone (add-fine (degree (struck G a b) a) (degree (struck G a b) b) (omega (arith, r .0, c .few a (ok .bankA))) (omega (arith, r .1, c .few b (ok .bankB))))
 
 module _ (k : Kind) (G : Graph) (a b : ℕ) (m : Memory) (ready : Ready G m) (due : editNumber k G a b ≡ 0) where
   abbrev back : Memory

@@ -9,15 +9,17 @@ use lib.Dec.{leb, ltb}
 use lib.ListN.{length}
 use borrow.Author.Tests.{le-leb, lt-leb, leb-true, lt-ltb, le-ltb, eq-eqb, ne-eqb}
 use Rattle.rule.specs.Graph.{Graph, degree}
-use Rattle.rule.specs.Reach.{Kind, adding, striking}
+use Rattle.rule.specs.declared.Kind.{Kind}
+use Rattle.rule.specs.declared.Kind.the-variants.{Adding, Striking}
 use Rattle.rule.proofs.Booleans.{T-along, is-true, both-true, and-true, and-false}
 use Rattle.memory.specs.declared.Tally.{Tally}
 use Rattle.memory.specs.Plan.{Slices, longEnough, graphIn, holds, PlanOf}
 use Rattle.memory.proofs.Theorems.{holds-plan, plan-holds}
 use Rattle.memory.proofs.Views.{tally-banks}
 use Rattle.planner.specs.Questions.{Question, firstNo}
-use Rattle.planner.specs.Held.{Ready}
-use Rattle.planner.specs.Calls.{Memory, allLong, openNumber, planNumber, bankNumber, memoryNumber, clashQuestions, editNumber}
+use Rattle.memory.specs.Memory.{Ready}
+use Rattle.memory.specs.Memory.{Memory}
+use Rattle.planner.specs.Calls.{allLong, openNumber, planNumber, bankNumber, memoryNumber, clashQuestions, editNumber}
 
 -- a first question whose no would get a number above 0, where all are answered by yes
 pub none : (h : Bool) (k : ℕ) (qs : List Question) → firstNo (record { holds = h; number = suc k } ∷ qs) ≡ 0 → (h ≡ true) × (firstNo qs ≡ 0)
@@ -122,7 +124,8 @@ module _ (m : Memory) where
   pub memory-passed : memoryNumber m ≡ 0 → (n ≤ length (m .trail)) × (n ≤ length (m .moved)) × (planNumber (m .slices) (m .tally) ≡ 0)
   unfolding memoryNumber allLong
   memory-passed e =
-      let q = none (leb n 1024) 0 (record { holds = longEnough n (m .slices) && (leb n (length (m .trail)) && leb n (length (m .moved))); number = 2 } ∷ record { holds = holds (m .slices) (m .tally); number = 3 } ∷ []) e in
+      let q = none (leb n 1024) 0 (record { holds = longEnough n (m .slices) && (leb n (length (m .trail)) && leb n (length (m .moved))); number = 2 } ∷ record
+      { holds = holds (m .slices) (m .tally); number = 3 } ∷ []) e in
       let r = none (longEnough n (m .slices) && (leb n (length (m .trail)) && leb n (length (m .moved)))) 1 (record { holds = holds (m .slices) (m .tally); number = 3 } ∷ []) (q .1) in
       let u = none (holds (m .slices) (m .tally)) 2 [] (r .1) in
       let w = both-true (longEnough n (m .slices)) (leb n (length (m .trail)) && leb n (length (m .moved))) (r .0) in
@@ -147,31 +150,36 @@ module _ (G : Graph) (a b : ℕ) where
     unfolding editNumber firstNo
     one-bank k e = rw (lt-ltb a N ha, lt-ltb b N hb, eq-eqb a b e)
 
-    module _ (d : a ≢ b) where
-      pub add-there : G .clash a b ≡ true → editNumber adding G a b ≡ 6
-      unfolding editNumber clashQuestions firstNo
-      add-there e = rw (lt-ltb a N ha, lt-ltb b N hb, ne-eqb a b d, e)
+    -- two different banks: the questions about their clash and their degrees are left
+    pub two-banks : (k : Kind) → a ≢ b → editNumber k G a b ≡ firstNo (clashQuestions k (G .clash a b) (degree G a) (degree G b))
+    unfolding editNumber firstNo
+    two-banks k d = rw (lt-ltb a N ha, lt-ltb b N hb, ne-eqb a b d)
 
-      pub strike-not-there : G .clash a b ≡ false → editNumber striking G a b ≡ 7
-      unfolding editNumber clashQuestions firstNo
-      strike-not-there e = rw (lt-ltb a N ha, lt-ltb b N hb, ne-eqb a b d, e)
+-- those questions, answered
+module _ (da db : ℕ) where
+  pub add-there : firstNo (clashQuestions Adding true da db) ≡ 6
+  unfolding clashQuestions firstNo
+  add-there = refl
 
-      pub strike-fine : G .clash a b ≡ true → editNumber striking G a b ≡ 0
-      unfolding editNumber clashQuestions firstNo
-      strike-fine e = rw (lt-ltb a N ha, lt-ltb b N hb, ne-eqb a b d, e)
+  pub add-full-a : 23 ≤ da → firstNo (clashQuestions Adding false da db) ≡ 8
+  unfolding clashQuestions firstNo
+  add-full-a h = rw (le-ltb da 23 h)
 
-      module _ (e : G .clash a b ≡ false) where
-        pub add-full-a : 23 ≤ degree G a → editNumber adding G a b ≡ 8
-        unfolding editNumber clashQuestions firstNo
-        add-full-a h = rw (lt-ltb a N ha, lt-ltb b N hb, ne-eqb a b d, e, le-ltb (degree G a) 23 h)
+  pub add-full-b : da < 23 → 23 ≤ db → firstNo (clashQuestions Adding false da db) ≡ 8
+  unfolding clashQuestions firstNo
+  add-full-b h k = rw (lt-ltb da 23 h, le-ltb db 23 k)
 
-        pub add-full-b : degree G a < 23 → 23 ≤ degree G b → editNumber adding G a b ≡ 8
-        unfolding editNumber clashQuestions firstNo
-        add-full-b h k = rw (lt-ltb a N ha, lt-ltb b N hb, ne-eqb a b d, e, lt-ltb (degree G a) 23 h, le-ltb (degree G b) 23 k)
+  pub add-fine : da < 23 → db < 23 → firstNo (clashQuestions Adding false da db) ≡ 0
+  unfolding clashQuestions firstNo
+  add-fine h k = rw (lt-ltb da 23 h, lt-ltb db 23 k)
 
-        pub add-fine : degree G a < 23 → degree G b < 23 → editNumber adding G a b ≡ 0
-        unfolding editNumber clashQuestions firstNo
-        add-fine h k = rw (lt-ltb a N ha, lt-ltb b N hb, ne-eqb a b d, e, lt-ltb (degree G a) 23 h, lt-ltb (degree G b) 23 k)
+  pub strike-not-there : firstNo (clashQuestions Striking false da db) ≡ 7
+  unfolding clashQuestions firstNo
+  strike-not-there = refl
+
+  pub strike-fine : firstNo (clashQuestions Striking true da db) ≡ 0
+  unfolding clashQuestions firstNo
+  strike-fine = refl
 
 -- memory whose questions 3 to 5 are answered by yes holds the plan of the clashes that its rows name
 pub number-plan : (s : Slices) (t : Tally) → planNumber s t ≡ 0 → PlanOf (graphIn (t .banks) s) s t

@@ -11,23 +11,21 @@ use Rattle.rule.specs.Graph.{Graph, degree}
 use Rattle.rule.specs.WorkList.{Allowed}
 use borrow.Author.Tests.{ltb-true, eqb-false, not-true}
 use Rattle.planner.specs.Questions.{firstNo}
-use Rattle.rule.specs.Wave.{waves}
-use Rattle.rule.specs.Lists.{upto}
-use Rattle.rule.specs.Reach.{Kind, adding, striking, edited, changed, onTrail, trail, moved}
-use Rattle.rule.proofs.Lists.{length-upto, filter-short}
-use Rattle.rule.proofs.Reaches.{count-order}
+use Rattle.rule.specs.Reach.{edited, changed, onTrail, trail, moved}
+use Rattle.rule.specs.declared.Kind.{Kind}
+use Rattle.rule.specs.declared.Kind.the-variants.{Adding, Striking}
 use Rattle.memory.specs.declared.Tally.{Tally}
 use Rattle.memory.specs.Plan.{slicesOf, planIn, graphIn}
-use Rattle.memory.proofs.Fronts.{over-long}
-use Rattle.memory.proofs.Views.{tally-banks, held-of, plan-of}
 use Rattle.edits.specs.declared.edit.Accepted.{Accepted}
-use Rattle.edits.specs.Lent.{Lent, lentOf}
 use Rattle.edits.specs.Edits.{HasRoom, Acceptable, Editable, Result}
 use Rattle.planner.specs.declared.Answer.{Answer}
 use Rattle.planner.specs.declared.Edited.{Edited}
-use Rattle.planner.specs.Calls.{Memory, memoryOf, editResult, noEdit, refused, accepted, clashQuestions, editNumber, editBy, editOf, memoryNumber, checkedBy, edit}
-use Rattle.planner.specs.Held.{Ready, graphBy, graphAfter, Edits}
+use Rattle.memory.specs.Memory.{Memory, memoryOf}
+use Rattle.planner.specs.Calls.{editResult, noEdit, refused, accepted, clashQuestions, editNumber, editBy, editOf, memoryNumber, checkedBy, edit}
+use Rattle.memory.specs.Memory.{Ready}
+use Rattle.planner.specs.inner.Held.{graphBy, graphAfter, EditMade}
 use Rattle.rule.proofs.Booleans.{T-along, both-true}
+pub use Rattle.rule.proofs.Fixed.{edited-banks}
 use Rattle.planner.proofs.Numbers.{none, memory-passed, number-ready}
 
 -- the number 0 says that no refusal is due
@@ -38,14 +36,14 @@ module _ (G : Graph) (a b : ℕ) where
   pub acceptable : (k : Kind) → editNumber k G a b ≡ 0 → Acceptable k G a b
   unfolding editNumber
   acceptable k e =
-      let q = none (ltb a N && ltb b N) 3 (record { holds = not (eqb a b); number = 5 } ∷ clashQuestions k G a b) e in
-      let r = none (not (eqb a b)) 4 (clashQuestions k G a b) (q .1) in
+      let q = none (ltb a N && ltb b N) 3 (record { holds = not (eqb a b); number = 5 } ∷ clashQuestions k (G .clash a b) (degree G a) (degree G b)) e in
+      let r = none (not (eqb a b)) 4 (clashQuestions k (G .clash a b) (degree G a) (degree G b)) (q .1) in
       let u = both-true (ltb a N) (ltb b N) (q .0) in
       let w = clashes k (r .1) in
       record { bankA = ltb-true a N (u .0); bankB = ltb-true b N (u .1); differ = eqb-false a b (not-true (eqb a b) (r .0)); allowed = w .0; room = w .1 }
     where
-      clashes : (k : Kind) → firstNo (clashQuestions k G a b) ≡ 0 → Allowed k G a b × HasRoom k G a b
-      clashes adding e = unfold clashQuestions in free (unfold clashQuestions in e)
+      clashes : (k : Kind) → firstNo (clashQuestions k (G .clash a b) (degree G a) (degree G b)) ≡ 0 → Allowed k G a b × HasRoom k G a b
+      clashes Adding e = unfold clashQuestions in free (unfold clashQuestions in e)
         where
           free : firstNo (record { holds = not (G .clash a b); number = 6 } ∷ record { holds = ltb (degree G a) 23 && ltb (degree G b) 23; number = 8 } ∷ []) ≡ 0
               → (T (G .clash a b) → ⊥) × ((degree G a < 23) × (degree G b < 23))
@@ -54,7 +52,7 @@ module _ (G : Graph) (a b : ℕ) where
               let u = none (ltb (degree G a) 23 && ltb (degree G b) 23) 7 [] (r .1) in
               let w = both-true (ltb (degree G a) 23) (ltb (degree G b) 23) (u .0) in
               (T-along (not-true (G .clash a b) (r .0)), (ltb-true (degree G a) 23 (w .0), ltb-true (degree G b) 23 (w .1)))
-      clashes striking e = there (unfold clashQuestions in e)
+      clashes Striking e = there (unfold clashQuestions in e)
         where
           there : firstNo (record { holds = G .clash a b; number = 7 } ∷ []) ≡ 0 → T (G .clash a b) × Unit {0}
           there e = (T-along (sym (none (G .clash a b) 6 [] e .0)) tt, tt)
@@ -62,11 +60,6 @@ module _ (G : Graph) (a b : ℕ) where
 -- the same memory with this tally
 abbrev with : Memory → Tally → Memory
 with m t = record { slices = m .slices; tally = t; trail = m .trail; moved = m .moved }
-
-pub edited-banks : (k : Kind) (G : Graph) (a b : ℕ) → edited k G a b .banks ≡ G .banks
-unfolding edited
-edited-banks Kind.adding G a b = refl
-edited-banks Kind.striking G a b = refl
 
 -- refused: the number is not 0, the answer has it and memory is as it was
 module _ (k : Kind) (G : Graph) (a b : ℕ) (m : Memory) where
@@ -79,71 +72,36 @@ module _ (k : Kind) (G : Graph) (a b : ℕ) (m : Memory) where
   after-by c e = ap (λ (x : ℕ). graphBy x k G a b) e
 
   pub edit-refused : Ready G m → (c : ℕ) → c ≡ editNumber k G a b → c ≢ 0 → (r : Edited) → r .answer ≡ noEdit c → r .tally ≡ m .tally
-      → Edits k G a b m r (with m (r .tally))
+      → EditMade k G a b m r (with m (r .tally))
   edit-refused ready zero e n r p q = absurd (n refl)
   edit-refused ready (suc c) e n r p q = record {
     is = ap₂ (λ (x : Answer) (t : Tally). editResult x (with m t)) p q ∙ unfold editBy refused in edit-by (suc c) e;
     ready = rw (q, ← (after-by (suc c) e)) (unfold graphBy in ready);
   }
 
--- trail and moved name no more banks than there are
-trail-few : (k : Kind) (old new : Graph) (a b : ℕ) → length (trail k old new a b) ≤ new .banks
-unfolding trail
-trail-few k old new a b =
-    omega (arith, count-order new (onTrail k old new a b), filter-short (onTrail k old new a b) (upto (new .banks)), length-upto (new .banks))
-
-moved-few : (old new : Graph) → length (moved old new) ≤ new .banks
-unfolding moved
-moved-few old new = omega (arith, count-order new (changed old new), filter-short (changed old new) (upto (new .banks)), length-upto (new .banks))
-
-abbrev pub lent : Memory → Lent
-lent m = lentOf (m .slices .neighbours) (m .slices .degrees) (m .slices .waves) (m .slices .counts) (m .trail) (m .moved)
-
 -- accepted
 module _ (k : Kind) {G : Graph} (a b : ℕ) {m : Memory} (ready : Ready G m) (e : 0 ≡ editNumber k G a b) where
   abbrev H : Graph
   H = edited k G a b
 
-  pub editable : Editable k G (lent m) (m .tally) a b
-  editable =
-      let n = tally-banks (m .tally) G (ready .plan .tally) in
-      record {
-        acceptable = acceptable G a b k (sym e);
-        held = held-of G (m .slices) (m .tally) (ready .plan);
-        tally = ready .plan .tally;
-        wide-trail = omega (arith, ready .trailRoom);
-        wide-moved = omega (arith, ready .movedRoom);
-      }
+  pub editable : Editable k G m a b
+  editable = record { acceptable = acceptable G a b k (sym e); ready = ready }
 
-  module _ {ns ds ws cs tr mv : List ℕ} {r : Accepted} (done : Result k G a b (lent m) (lentOf ns ds ws cs tr mv) r) where
+  module _ {is : Memory} {r : Accepted} (done : Result k G a b m is r) where
     abbrev answer : Answer
     answer = record { number = 0; moved = r .moved; trail = r .trail }
 
-    is-accepted : editResult answer (memoryOf ns ds ws cs tr mv (r .tally)) ≡ accepted k G a b m
-    unfolding accepted planIn
+    is-accepted : editResult answer is ≡ accepted k G a b m
+    unfolding accepted
     is-accepted = λ i. record {
       answer = record { number = 0; moved = done .movedCount i; trail = done .trailCount i };
-      memory = record {
-        slices = record { neighbours = done .rightNeighbours i; degrees = done .rightDegrees i; waves = done .rightWaves i; counts = done .rightCounts i };
-        tally = done .tally i;
-        trail = done .rightTrail i;
-        moved = done .rightMoved i;
-      };
+      memory = record { slices = done .slices i; tally = done .tally i; trail = done .trail i; moved = done .moved i };
     }
 
-    ready-after : Ready H (memoryOf ns ds ws cs tr mv (r .tally))
-    ready-after =
-        let same = edited-banks k G a b in
-        record {
-          plan = plan-of H (slicesOf ns ds ws cs) (r .tally) (r .tally .banks) (done .held) (done .tally);
-          trailRoom = omega (arith, over-long (trail k G H a b) tr (m .trail) (omega (arith, trail-few k G H a b, ready .trailRoom)) (done .rightTrail), ready .trailRoom);
-          movedRoom = omega (arith, over-long (moved G H) mv (m .moved) (omega (arith, moved-few G H, ready .movedRoom)) (done .rightMoved), ready .movedRoom);
-        }
-
-    pub edit-accepted : Edits k G a b m (record { answer = answer; tally = r .tally }) (memoryOf ns ds ws cs tr mv (r .tally))
+    pub edit-accepted : EditMade k G a b m (record { answer = answer; tally = is .tally }) is
     edit-accepted = record {
       is = is-accepted ∙ unfold editBy in edit-by k G a b m 0 e;
-      ready = rw (← (after-by k G a b m 0 e)) (unfold graphBy in ready-after);
+      ready = rw (← (after-by k G a b m 0 e)) (unfold graphBy in done .ready);
     }
 
 -- the calls add and strike: refused by questions 3 to 5, or an edit of the plan that memory holds
@@ -152,11 +110,12 @@ module _ (k : Kind) (a b : ℕ) (m : Memory) where
   unfolding edit
   checked-by c e = ap (λ (x : ℕ). checkedBy x k a b m) e
 
-  pub call-refused : (c : ℕ) → c ≡ memoryNumber m → c ≢ 0 → (r : Edited) → r .answer ≡ noEdit c → r .tally ≡ m .tally → editResult (r .answer) (with m (r .tally)) ≡ edit k a b m
+  pub call-refused : (c : ℕ) → c ≡ memoryNumber m → c ≢ 0 → (r : Edited) → r .answer ≡ noEdit c → r .tally ≡ m .tally
+      → editResult (r .answer) (with m (r .tally)) ≡ edit k a b m
   call-refused zero e n r p q = absurd (n refl)
   call-refused (suc c) e n r p q = ap₂ (λ (x : Answer) (t : Tally). editResult x (with m t)) p q ∙ unfold checkedBy refused in checked-by (suc c) e
 
-  pub call-held : 0 ≡ memoryNumber m → {r : Edited} {m′ : Memory} → Edits k (graphIn (m .tally .banks) (m .slices)) a b m r m′ → editResult (r .answer) m′ ≡ edit k a b m
+  pub call-held : 0 ≡ memoryNumber m → {r : Edited} {m′ : Memory} → EditMade k (graphIn (m .tally .banks) (m .slices)) a b m r m′ → editResult (r .answer) m′ ≡ edit k a b m
   call-held e d = d .is ∙ unfold checkedBy in checked-by 0 e
 
 accepted-by : (c : ℕ) (k : Kind) (G : Graph) (a b : ℕ) (m : Memory) → editBy c k G a b m .answer .number ≡ 0 → (c ≡ 0) × (editBy c k G a b m ≡ accepted k G a b m)

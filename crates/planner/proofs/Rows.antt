@@ -15,13 +15,16 @@ use Rattle.rule.proofs.Lists.{in-none, in-append, in-cons}
 use Rattle.rule.proofs.Neighbours.{degree-length, memb-neighbours}
 use Rattle.memory.specs.declared.Tally.{Tally}
 use Rattle.memory.specs.Plan.{Slices, graphIn, PlanOf}
-use Rattle.memory.specs.View.{Held}
+use Rattle.memory.specs.inner.View.{Held}
 use Rattle.memory.proofs.Fronts.{getD-any, take-next, in-cell}
 use Rattle.memory.proofs.Views.{held-of, tally-banks}
-use Rattle.planner.specs.Calls.{bankNumber, waveBy, waveOf, clashesBy, clashesOf}
+use Rattle.rule.specs.declared.Kind.{Kind}
+use Rattle.planner.specs.inner.Held.{clashNumber}
+use Rattle.planner.proofs.Numbers.{two-banks}
+use Rattle.planner.specs.Calls.{editNumber, bankNumber, waveBy, waveOf, clashesBy, clashesOf}
 
 module _ {G : Graph} {s : Slices} {t : Tally} (p : PlanOf G s t) {b : ℕ} (l : b < t .banks) where
-  held : Held G (s .neighbours) (s .degrees) (s .waves) (s .counts) (t .banks)
+  held : Held G s (t .banks)
   held = held-of G s t p
 
   pub below : b < G .banks
@@ -100,6 +103,17 @@ pub here : (v i : ℕ) (row : List ℕ) → i < length row → getD row i 0 ≡ 
 here v i row l e = sym (is-true (memb v row) (rw e at (in-cell i row l)))
 
 -- a row names the banks that clash with its bank
-pub clash-named : {G : Graph} {s : Slices} {t : Tally} → PlanOf G s t → {a b : ℕ} → b < t .banks → (row : List ℕ) → row ≡ neighbours G a → (r : Bool) → r ≡ memb b row → G .clash a b ≡ r
+pub clash-named : {G : Graph} {s : Slices} {t : Tally} → PlanOf G s t → {a b : ℕ} → b < t .banks → (row : List ℕ) → row ≡ neighbours G a → (r : Bool) → r ≡ memb b row
+    → G .clash a b ≡ r
 clash-named {G} {s} {t} p {a} {b} l row e r q =
     sym (q ∙ ap (memb b) e ∙ memb-neighbours G a b (omega (arith, tally-banks t G (p .tally))))
+
+-- the questions about the clash and the degrees, by the cells, are those that are left of two different banks
+pub edit-asked : (k : Kind) {G : Graph} {s : Slices} {t : Tally} (p : PlanOf G s t) {a b x y r : ℕ} {row : List ℕ}
+    → a < t .banks → b < t .banks → a ≢ b → row ≡ neighbours G a → x ≡ a → y ≡ b
+    → r ≡ clashNumber k (memb b row) (getD (s .degrees) x 0) (getD (s .degrees) y 0) → r ≡ editNumber k G a b
+edit-asked k {G} {s} {t} p {a} {b} {x} {y} {r} {row} la lb d is ex ey q =
+    let clash = clash-named p lb row is (memb b row) refl in
+    let da = ap (λ (z : ℕ). getD (s .degrees) z 0) ex ∙ plan-degree p la in
+    let db = ap (λ (z : ℕ). getD (s .degrees) z 0) ey ∙ plan-degree p lb in
+    q ∙ rw (← clash, da, db) (sym (two-banks G a b (below p la) (below p lb) k d))

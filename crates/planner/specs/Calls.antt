@@ -6,23 +6,15 @@ use lib.Dec.{ltb, leb, eqb}
 use lib.ListN.{length}
 use Rattle.rule.specs.Graph.{Graph, degree, neighbours, empty}
 use Rattle.rule.specs.Wave.{wave}
-use Rattle.rule.specs.Reach.{Kind, adding, striking, edited, trail, moved}
+use Rattle.rule.specs.Reach.{edited, trail, moved}
+use Rattle.rule.specs.declared.Kind.{Kind}
+use Rattle.rule.specs.declared.Kind.the-variants.{Adding, Striking}
 use Rattle.memory.specs.declared.Tally.{Tally}
 use Rattle.memory.specs.Cells.{over}
-use Rattle.memory.specs.Plan.{Slices, slicesOf, longEnough, planIn, tallyOf, graphIn, holds}
+use Rattle.memory.specs.Plan.{Slices, longEnough, planIn, tallyOf, graphIn, holds}
+use Rattle.memory.specs.Memory.{Memory}
 use Rattle.planner.specs.declared.Answer.{Answer}
 use Rattle.planner.specs.Questions.{Question, _else_, firstNo}
-
--- what an edit is lent and leaves: the plan, its tally, the trail slice and the moved slice
-pub record Memory : Type 0 where
-  pub slices : Slices
-  pub tally : Tally
-  pub trail : List ℕ
-  pub moved : List ℕ
-
-abbrev pub memoryOf : List ℕ → List ℕ → List ℕ → List ℕ → List ℕ → List ℕ → Tally → Memory
-memoryOf neighbours degrees waves counts trail moved tally =
-    record { slices = slicesOf neighbours degrees waves counts; tally = tally; trail = trail; moved = moved }
 
 -- is each slice that a call of n banks uses long enough, trail and moved included?
 unfoldable pub allLong : ℕ → Memory → Bool
@@ -47,15 +39,15 @@ memoryNumber m =
     firstNo
     ((leb (m .tally .banks) 1024 else 1) ∷ (allLong (m .tally .banks) m else 2) ∷ (holds (m .slices) (m .tally) else 3) ∷ [])
 
--- questions 9 and 11 of an add, 10 of a strike
-unfoldable pub clashQuestions : Kind → Graph → ℕ → ℕ → List Question
-clashQuestions adding G a b = (not (G .clash a b) else 6) ∷ (ltb (degree G a) 23 && ltb (degree G b) 23 else 8) ∷ []
-clashQuestions striking G a b = (G .clash a b else 7) ∷ []
+-- questions 9 and 11 of an add, 10 of a strike, by whether the banks clash and by their degrees
+unfoldable pub clashQuestions : Kind → Bool → ℕ → ℕ → List Question
+clashQuestions Adding clash da db = (not clash else 6) ∷ (ltb da 23 && ltb db 23 else 8) ∷ []
+clashQuestions Striking clash da db = (clash else 7) ∷ []
 
 -- questions 7 to 11 of an edit of the plan of G
 unfoldable pub editNumber : Kind → Graph → ℕ → ℕ → ℕ
 editNumber k G a b =
-    firstNo ((ltb a (G .banks) && ltb b (G .banks) else 4) ∷ (not (eqb a b) else 5) ∷ clashQuestions k G a b)
+    firstNo ((ltb a (G .banks) && ltb b (G .banks) else 4) ∷ (not (eqb a b) else 5) ∷ clashQuestions k (G .clash a b) (degree G a) (degree G b))
 
 -- what opening leaves
 pub record OpenResult : Type 0 where

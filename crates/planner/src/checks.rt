@@ -6,10 +6,10 @@ use rule::Bank;
 use rule::MOST_BANKS;
 use rule::wide;
 ghost use mathlib.Core.Path.{_≡_};
-ghost use Rattle.memory.specs.Plan.{slicesOf, graphIn, PlanOf};
 ghost use Prim.Native.Nat.{_<_};
-ghost use Rattle.planner.specs.Calls.{memoryOf, planNumber, bankNumber, memoryNumber};
-ghost use Rattle.planner.specs.Held.{Ready};
+ghost use Rattle.memory.specs.Lent.{slicesBefore, before};
+ghost use Rattle.planner.specs.Calls.{planNumber, bankNumber, memoryNumber};
+ghost use Rattle.planner.specs.inner.Held.{PlanIn, ReadyIn};
 
 // Questions 3 to 5 of a call that only reads.
 pub fn check_plan(
@@ -19,8 +19,8 @@ pub fn check_plan(
     counts: &[u16],
     tally: Tally,
 ) -> u16
-    ensures number { λ r. ⌜ r ≡ planNumber (slicesOf (now (neighbours .entry)) (now (degrees .entry)) (now (waves .entry)) (now (counts .entry))) tally ⌝ }
-    ensures plan { λ r. ⌜ (r ≡ 0 → PlanOf (graphIn (tally .banks) (slicesOf (now (neighbours .entry)) (now (degrees .entry)) (now (waves .entry)) (now (counts .entry)))) (slicesOf (now (neighbours .entry)) (now (degrees .entry)) (now (waves .entry)) (now (counts .entry))) tally) ⌝ }
+    ensures number { λ r. ⌜ r ≡ planNumber (slicesBefore neighbours degrees waves counts) tally ⌝ }
+    ensures plan { λ r. ⌜ (r ≡ 0 → PlanIn (slicesBefore neighbours degrees waves counts) tally) ⌝ }
 {
     let banks = tally.banks;
     if MOST_BANKS < wide(banks) {
@@ -44,8 +44,8 @@ pub fn check_bank(
     tally: Tally,
     b: Bank,
 ) -> u16
-    ensures number { λ r. ⌜ r ≡ bankNumber (b .0) (slicesOf (now (neighbours .entry)) (now (degrees .entry)) (now (waves .entry)) (now (counts .entry))) tally ⌝ }
-    ensures plan { λ r. ⌜ (r ≡ 0 → PlanOf (graphIn (tally .banks) (slicesOf (now (neighbours .entry)) (now (degrees .entry)) (now (waves .entry)) (now (counts .entry)))) (slicesOf (now (neighbours .entry)) (now (degrees .entry)) (now (waves .entry)) (now (counts .entry))) tally × (b .0 < tally .banks)) ⌝ }
+    ensures number { λ r. ⌜ r ≡ bankNumber (b .0) (slicesBefore neighbours degrees waves counts) tally ⌝ }
+    ensures plan { λ r. ⌜ (r ≡ 0 → PlanIn (slicesBefore neighbours degrees waves counts) tally × (b .0 < tally .banks)) ⌝ }
 {
     let number = check_plan(neighbours, degrees, waves, counts, tally);
     if number != 0 {
@@ -67,8 +67,8 @@ pub fn check_memory(
     moved: &[u16],
     tally: Tally,
 ) -> u16
-    ensures number { λ r. ⌜ r ≡ memoryNumber (memoryOf (now (neighbours .entry)) (now (degrees .entry)) (now (waves .entry)) (now (counts .entry)) (now (trail .entry)) (now (moved .entry)) tally) ⌝ }
-    ensures ready { λ r. ⌜ (r ≡ 0 → Ready (graphIn (tally .banks) (slicesOf (now (neighbours .entry)) (now (degrees .entry)) (now (waves .entry)) (now (counts .entry)))) (memoryOf (now (neighbours .entry)) (now (degrees .entry)) (now (waves .entry)) (now (counts .entry)) (now (trail .entry)) (now (moved .entry)) tally)) ⌝ }
+    ensures number { λ r. ⌜ r ≡ memoryNumber (before neighbours degrees waves counts trail moved tally) ⌝ }
+    ensures ready { λ r. ⌜ (r ≡ 0 → ReadyIn (before neighbours degrees waves counts trail moved tally)) ⌝ }
 {
     let n = wide(tally.banks);
     if MOST_BANKS < n {

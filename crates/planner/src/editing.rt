@@ -3,20 +3,22 @@ use crate::Answer;
 use crate::Edited;
 use crate::checks::check_memory;
 use crate::reading::clashes_held;
-use edits::add_edit;
-use edits::strike_edit;
+use edits::make_edit;
 use memory::Tally;
 use rule::Bank;
+use rule::Kind;
 use rule::MOST_CLASHES;
 use rule::wide;
 ghost use mathlib.Core.Path.{_≡_};
-ghost use Prim.Native.Nat.{_<_};
+ghost use Prim.Native.Nat.{ℕ};
 ghost use Rattle.rule.specs.Lists.{memb};
 ghost use Rattle.rule.specs.Graph.{Graph};
-ghost use Rattle.rule.specs.Reach.{Kind.adding, Kind.striking};
-ghost use Rattle.memory.specs.Plan.{slicesOf, PlanOf};
-ghost use Rattle.planner.specs.Calls.{memoryOf, noEdit, editResult, editNumber, edit};
-ghost use Rattle.planner.specs.Held.{Ready, Held, Edits};
+ghost use Rattle.rule.specs.declared.Kind.the-variants.{Adding, Striking};
+ghost use Rattle.memory.specs.Plan.{PlanOf};
+ghost use Rattle.memory.specs.Memory.{Ready};
+ghost use Rattle.memory.specs.Lent.{slicesGiven, slicesBefore, given, before, after};
+ghost use Rattle.planner.specs.Calls.{noEdit, editResult, editNumber, edit};
+ghost use Rattle.planner.specs.inner.Held.{clashNumber, HoldsPlan, EditMade};
 
 // Whether the cells name bank v.
 fn names(row: &[u16], v: Bank) -> bool
@@ -32,45 +34,46 @@ fn names(row: &[u16], v: Bank) -> bool
     false
 }
 
-// Questions 7, 8, 9 and 11 of an add: 0, or the number of the first no.
-pub fn add_number(
-    neighbours: &[u16],
-    degrees: &[u16],
-    waves: &[u16],
-    counts: &[u16],
-    tally: Tally,
-    a: Bank,
-    b: Bank,
-) -> u16
-    requires { ⌜ ((G : Graph) × PlanOf G (slicesOf (now neighbours) (now degrees) (now waves) (now counts)) tally) ⌝ }
-    ensures { λ r. ⌜ ((G : Graph) → PlanOf G (slicesOf (now (neighbours .entry)) (now (degrees .entry)) (now (waves .entry)) (now (counts .entry))) tally → r ≡ editNumber adding G (a .0) (b .0)) ⌝ }
+// Questions 9 and 11 of an add: 0, or the number of the first no.
+fn add_number(there: bool, degree_a: u16, degree_b: u16) -> u16
+    ensures { λ r. ⌜ r ≡ clashNumber Adding there «degree_a» «degree_b» ⌝ }
 {
-    if tally.banks <= a.0 {
-        return 4;
-    }
-    if tally.banks <= b.0 {
-        return 4;
-    }
-    if a.0 == b.0 {
-        return 5;
-    }
-    let row = clashes_held(neighbours, degrees, waves, counts, tally, a);
-    if names(row, b) {
+    if there {
         return 6;
     }
-    let at_a = wide(a.0);
-    let at_b = wide(b.0);
-    if MOST_CLASHES <= degrees[at_a] {
+    if MOST_CLASHES <= degree_a {
         return 8;
     }
-    if MOST_CLASHES <= degrees[at_b] {
+    if MOST_CLASHES <= degree_b {
         return 8;
     }
     0
 }
 
-// Questions 7, 8 and 10 of a strike: 0, or the number of the first no.
-pub fn strike_number(
+// Question 10 of a strike: 0, or its number.
+fn strike_number(there: bool) -> u16
+    ensures { λ r. ⌜ ((da db : ℕ) → r ≡ clashNumber Striking there da db) ⌝ }
+{
+    if there {
+        return 0;
+    }
+    7
+}
+
+// Questions 9 and 11 of an add, 10 of a strike, of two different banks: 0, or the number of the first no. `row` has the clashes of a.
+fn clash_number(kind: Kind, row: &[u16], b: Bank, degree_a: u16, degree_b: u16) -> u16
+    ensures { λ r. ⌜ r ≡ clashNumber kind (memb (b .0) (now (row .entry))) «degree_a» «degree_b» ⌝ }
+{
+    let there = names(row, b);
+    match kind {
+        Kind::Adding => add_number(there, degree_a, degree_b),
+        Kind::Striking => strike_number(there),
+    }
+}
+
+// Questions 7 to 11 of an edit: 0, or the number of the first no.
+pub fn edit_number(
+    kind: Kind,
     neighbours: &[u16],
     degrees: &[u16],
     waves: &[u16],
@@ -79,8 +82,10 @@ pub fn strike_number(
     a: Bank,
     b: Bank,
 ) -> u16
-    requires { ⌜ ((G : Graph) × PlanOf G (slicesOf (now neighbours) (now degrees) (now waves) (now counts)) tally) ⌝ }
-    ensures { λ r. ⌜ ((G : Graph) → PlanOf G (slicesOf (now (neighbours .entry)) (now (degrees .entry)) (now (waves .entry)) (now (counts .entry))) tally → r ≡ editNumber striking G (a .0) (b .0)) ⌝ }
+    requires { ⌜ ((G : Graph) × PlanOf G (slicesGiven neighbours degrees waves counts) tally) ⌝ }
+    ensures { λ r. ⌜ ((G : Graph)
+        → PlanOf G (slicesBefore neighbours degrees waves counts) tally
+        → r ≡ editNumber kind G (a .0) (b .0)) ⌝ }
 {
     if tally.banks <= a.0 {
         return 4;
@@ -92,10 +97,9 @@ pub fn strike_number(
         return 5;
     }
     let row = clashes_held(neighbours, degrees, waves, counts, tally, a);
-    if !names(row, b) {
-        return 7;
-    }
-    0
+    let at_a = wide(a.0);
+    let at_b = wide(b.0);
+    clash_number(kind, row, b, degrees[at_a], degrees[at_b])
 }
 
 // A refused edit: the number, counts 0, the tally as it was.
@@ -112,9 +116,10 @@ fn refuse(number: u16, tally: Tally) -> Edited
     }
 }
 
-// Adds the clash of a and b in memory that holds a plan, or refuses with 4, 5, 6 or 8. The layers above call it where they know that, so that
+// Adds or strikes the clash of a and b in memory that holds a plan, or refuses with 4 to 8. The layers above call it where they know that, so that
 // question 5 is not asked again at each row.
-pub fn add_held(
+pub fn edit_held(
+    kind: Kind,
     neighbours: &mut [u16],
     degrees: &mut [u16],
     waves: &mut [u16],
@@ -125,14 +130,19 @@ pub fn add_held(
     a: Bank,
     b: Bank,
 ) -> Edited
-    requires { ⌜ Held (memoryOf (now neighbours) (now degrees) (now waves) (now counts) (now trail) (now moved) tally) ⌝ }
-    ensures { λ r. ⌜ ((G : Graph) → Ready G (memoryOf (now (neighbours .entry)) (now (degrees .entry)) (now (waves .entry)) (now (counts .entry)) (now (trail .entry)) (now (moved .entry)) tally) → Edits adding G (a .0) (b .0) (memoryOf (now (neighbours .entry)) (now (degrees .entry)) (now (waves .entry)) (now (counts .entry)) (now (trail .entry)) (now (moved .entry)) tally) r (memoryOf (now (neighbours .exit)) (now (degrees .exit)) (now (waves .exit)) (now (counts .exit)) (now (trail .exit)) (now (moved .exit)) (r .tally))) ⌝ }
+    requires { ⌜ HoldsPlan (given neighbours degrees waves counts trail moved tally) ⌝ }
+    ensures { λ r. ⌜ ((G : Graph)
+        → Ready G (before neighbours degrees waves counts trail moved tally)
+        → EditMade kind G (a .0) (b .0)
+        (before neighbours degrees waves counts trail moved tally) r
+        (after neighbours degrees waves counts trail moved (r .tally))) ⌝ }
 {
-    let number = add_number(neighbours, degrees, waves, counts, tally, a, b);
+    let number = edit_number(kind, neighbours, degrees, waves, counts, tally, a, b);
     if number != 0 {
         return refuse(number, tally);
     }
-    let done = add_edit(
+    let done = make_edit(
+        kind,
         neighbours,
         degrees,
         waves,
@@ -154,8 +164,9 @@ pub fn add_held(
     }
 }
 
-// Strikes the clash of a and b in memory that holds a plan, or refuses with 4, 5 or 7. Called as add_held is.
-pub fn strike_held(
+// An edit with the tally by value: the core of `add` and `strike`, for programs and other crates.
+pub fn edit_core(
+    kind: Kind,
     neighbours: &mut [u16],
     degrees: &mut [u16],
     waves: &mut [u16],
@@ -166,54 +177,15 @@ pub fn strike_held(
     a: Bank,
     b: Bank,
 ) -> Edited
-    requires { ⌜ Held (memoryOf (now neighbours) (now degrees) (now waves) (now counts) (now trail) (now moved) tally) ⌝ }
-    ensures { λ r. ⌜ ((G : Graph) → Ready G (memoryOf (now (neighbours .entry)) (now (degrees .entry)) (now (waves .entry)) (now (counts .entry)) (now (trail .entry)) (now (moved .entry)) tally) → Edits striking G (a .0) (b .0) (memoryOf (now (neighbours .entry)) (now (degrees .entry)) (now (waves .entry)) (now (counts .entry)) (now (trail .entry)) (now (moved .entry)) tally) r (memoryOf (now (neighbours .exit)) (now (degrees .exit)) (now (waves .exit)) (now (counts .exit)) (now (trail .exit)) (now (moved .exit)) (r .tally))) ⌝ }
-{
-    let number = strike_number(neighbours, degrees, waves, counts, tally, a, b);
-    if number != 0 {
-        return refuse(number, tally);
-    }
-    let done = strike_edit(
-        neighbours,
-        degrees,
-        waves,
-        counts,
-        trail,
-        moved,
-        tally,
-        a,
-        b,
-    );
-    let after = done.tally;
-    Edited {
-        answer: Answer {
-            number: 0,
-            moved: done.moved,
-            trail: done.trail,
-        },
-        tally: after,
-    }
-}
-
-// The call add with the tally by value: the core of `add`, for programs and other crates.
-pub fn add_core(
-    neighbours: &mut [u16],
-    degrees: &mut [u16],
-    waves: &mut [u16],
-    counts: &mut [u16],
-    trail: &mut [u16],
-    moved: &mut [u16],
-    tally: Tally,
-    a: Bank,
-    b: Bank,
-) -> Edited
-    ensures { λ r. ⌜ editResult (r .answer) (memoryOf (now (neighbours .exit)) (now (degrees .exit)) (now (waves .exit)) (now (counts .exit)) (now (trail .exit)) (now (moved .exit)) (r .tally)) ≡ edit adding (a .0) (b .0) (memoryOf (now (neighbours .entry)) (now (degrees .entry)) (now (waves .entry)) (now (counts .entry)) (now (trail .entry)) (now (moved .entry)) tally) ⌝ }
+    ensures { λ r. ⌜ editResult (r .answer) (after neighbours degrees waves counts trail moved (r .tally))
+        ≡ edit kind (a .0) (b .0) (before neighbours degrees waves counts trail moved tally) ⌝ }
 {
     let number = check_memory(neighbours, degrees, waves, counts, trail, moved, tally);
     if number != 0 {
         return refuse(number, tally);
     }
-    add_held(
+    edit_held(
+        kind,
         neighbours,
         degrees,
         waves,
@@ -226,7 +198,36 @@ pub fn add_core(
     )
 }
 
-// The call strike with the tally by value: the core of `strike`, for programs and other crates.
+// The core of `add`.
+pub fn add_core(
+    neighbours: &mut [u16],
+    degrees: &mut [u16],
+    waves: &mut [u16],
+    counts: &mut [u16],
+    trail: &mut [u16],
+    moved: &mut [u16],
+    tally: Tally,
+    a: Bank,
+    b: Bank,
+) -> Edited
+    ensures { λ r. ⌜ editResult (r .answer) (after neighbours degrees waves counts trail moved (r .tally))
+        ≡ edit Adding (a .0) (b .0) (before neighbours degrees waves counts trail moved tally) ⌝ }
+{
+    edit_core(
+        Kind::Adding,
+        neighbours,
+        degrees,
+        waves,
+        counts,
+        trail,
+        moved,
+        tally,
+        a,
+        b,
+    )
+}
+
+// The core of `strike`.
 pub fn strike_core(
     neighbours: &mut [u16],
     degrees: &mut [u16],
@@ -238,13 +239,11 @@ pub fn strike_core(
     a: Bank,
     b: Bank,
 ) -> Edited
-    ensures { λ r. ⌜ editResult (r .answer) (memoryOf (now (neighbours .exit)) (now (degrees .exit)) (now (waves .exit)) (now (counts .exit)) (now (trail .exit)) (now (moved .exit)) (r .tally)) ≡ edit striking (a .0) (b .0) (memoryOf (now (neighbours .entry)) (now (degrees .entry)) (now (waves .entry)) (now (counts .entry)) (now (trail .entry)) (now (moved .entry)) tally) ⌝ }
+    ensures { λ r. ⌜ editResult (r .answer) (after neighbours degrees waves counts trail moved (r .tally))
+        ≡ edit Striking (a .0) (b .0) (before neighbours degrees waves counts trail moved tally) ⌝ }
 {
-    let number = check_memory(neighbours, degrees, waves, counts, trail, moved, tally);
-    if number != 0 {
-        return refuse(number, tally);
-    }
-    strike_held(
+    edit_core(
+        Kind::Striking,
         neighbours,
         degrees,
         waves,

@@ -6,9 +6,9 @@ use crate::opening::open_core;
 use memory::Tally;
 use rule::Bank;
 ghost use mathlib.Core.Path.{_≡_};
-ghost use Rattle.rule.specs.Reach.{Kind.adding, Kind.striking};
-ghost use Rattle.memory.specs.Plan.{slicesOf};
-ghost use Rattle.planner.specs.Calls.{memoryOf, openResult, opened, editResult, edit};
+ghost use Rattle.rule.specs.declared.Kind.the-variants.{Adding, Striking};
+ghost use Rattle.memory.specs.Lent.{slicesBefore, slicesAfter, before, after};
+ghost use Rattle.planner.specs.Calls.{openResult, opened, editResult, edit};
 
 // Opens a plan of `banks` banks with no clash. Answers 0, or changes nothing and answers the number of the first no.
 pub fn open(
@@ -19,7 +19,8 @@ pub fn open(
     banks: u16,
     tally: &mut Tally,
 ) -> u16
-    ensures { λ r. ⌜ openResult r (slicesOf (now (neighbours .exit)) (now (degrees .exit)) (now (waves .exit)) (now (counts .exit))) (now (tally .exit)) ≡ opened banks (slicesOf (now (neighbours .entry)) (now (degrees .entry)) (now (waves .entry)) (now (counts .entry))) (now (tally .entry)) ⌝ }
+    ensures { λ r. ⌜ openResult r (slicesAfter neighbours degrees waves counts) (now (tally .exit))
+        ≡ opened banks (slicesBefore neighbours degrees waves counts) (now (tally .entry)) ⌝ }
 {
     let t = *tally;
     let r = open_core(neighbours, degrees, waves, counts, banks, t);
@@ -39,7 +40,8 @@ pub fn add(
     a: Bank,
     b: Bank,
 ) -> Answer
-    ensures { λ r. ⌜ editResult r (memoryOf (now (neighbours .exit)) (now (degrees .exit)) (now (waves .exit)) (now (counts .exit)) (now (trail .exit)) (now (moved .exit)) (now (tally .exit))) ≡ edit adding (a .0) (b .0) (memoryOf (now (neighbours .entry)) (now (degrees .entry)) (now (waves .entry)) (now (counts .entry)) (now (trail .entry)) (now (moved .entry)) (now (tally .entry))) ⌝ }
+    ensures { λ r. ⌜ editResult r (after neighbours degrees waves counts trail moved (now (tally .exit)))
+        ≡ edit Adding (a .0) (b .0) (before neighbours degrees waves counts trail moved (now (tally .entry))) ⌝ }
 {
     let t = *tally;
     let r = add_core(neighbours, degrees, waves, counts, trail, moved, t, a, b);
@@ -59,7 +61,8 @@ pub fn strike(
     a: Bank,
     b: Bank,
 ) -> Answer
-    ensures { λ r. ⌜ editResult r (memoryOf (now (neighbours .exit)) (now (degrees .exit)) (now (waves .exit)) (now (counts .exit)) (now (trail .exit)) (now (moved .exit)) (now (tally .exit))) ≡ edit striking (a .0) (b .0) (memoryOf (now (neighbours .entry)) (now (degrees .entry)) (now (waves .entry)) (now (counts .entry)) (now (trail .entry)) (now (moved .entry)) (now (tally .entry))) ⌝ }
+    ensures { λ r. ⌜ editResult r (after neighbours degrees waves counts trail moved (now (tally .exit)))
+        ≡ edit Striking (a .0) (b .0) (before neighbours degrees waves counts trail moved (now (tally .entry))) ⌝ }
 {
     let t = *tally;
     let r = strike_core(neighbours, degrees, waves, counts, trail, moved, t, a, b);

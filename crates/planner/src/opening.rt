@@ -1,4 +1,4 @@
-// The call open.
+// The call open, and opening for a pass over edits.
 use crate::Opened;
 use memory::Tally;
 use memory::long_enough;
@@ -11,8 +11,9 @@ ghost use mathlib.Core.Path.{_≡_};
 ghost use mathlib.Core.List.{_++_};
 ghost use Prim.Native.Nat.{_≤_, min};
 ghost use lib.ListN.{length, drop, replicate};
-ghost use Rattle.memory.specs.Plan.{slicesOf};
+ghost use Rattle.memory.specs.Lent.{slicesBefore, slicesAfter, before, after};
 ghost use Rattle.planner.specs.Calls.{openResult, opened};
+ghost use Rattle.planner.specs.inner.Held.{OpensAll, roomNumber};
 
 // Sets the first n cells.
 fn fill(cells: &mut [u16], n: usize, x: u16)
@@ -46,7 +47,8 @@ pub fn open_core(
     banks: u16,
     tally: Tally,
 ) -> Opened
-    ensures { λ r. ⌜ openResult (r .number) (slicesOf (now (neighbours .exit)) (now (degrees .exit)) (now (waves .exit)) (now (counts .exit))) (r .tally) ≡ opened banks (slicesOf (now (neighbours .entry)) (now (degrees .entry)) (now (waves .entry)) (now (counts .entry))) tally ⌝ }
+    ensures { λ r. ⌜ openResult (r .number) (slicesAfter neighbours degrees waves counts) (r .tally)
+        ≡ opened banks (slicesBefore neighbours degrees waves counts) tally ⌝ }
 {
     let n = wide(banks);
     if MOST_BANKS < n {
@@ -73,4 +75,46 @@ pub fn open_core(
             waves: first_waves(banks),
         },
     }
+}
+
+// Questions 3 and 4, the latter for the trail and moved slices only: their number, or 0.
+fn room_number(banks: u16, trail: usize, moved: usize) -> u16
+    ensures { λ r. ⌜ r ≡ roomNumber banks trail moved ⌝ }
+{
+    let n = wide(banks);
+    if MOST_BANKS < n {
+        return 1;
+    }
+    if trail < n {
+        return 2;
+    }
+    if moved < n {
+        return 2;
+    }
+    0
+}
+
+// Opens a plan of `banks` banks for a list or a journal: question 4 is asked for the trail and moved slices too.
+pub fn open_all(
+    neighbours: &mut [u16],
+    degrees: &mut [u16],
+    waves: &mut [u16],
+    counts: &mut [u16],
+    trail: &[u16],
+    moved: &[u16],
+    banks: u16,
+    tally: Tally,
+) -> Opened
+    ensures { λ r. ⌜ OpensAll banks
+        (before neighbours degrees waves counts trail moved tally) r
+        (after neighbours degrees waves counts trail moved (r .tally)) ⌝ }
+{
+    let number = room_number(banks, trail.len(), moved.len());
+    if number != 0 {
+        return Opened {
+            number: number,
+            tally: tally,
+        };
+    }
+    open_core(neighbours, degrees, waves, counts, banks, tally)
 }

@@ -9,7 +9,8 @@ use rule::wide;
 ghost use mathlib.Core.Path.{_≡_};
 ghost use Prim.Native.Nat.{_<_};
 ghost use Rattle.rule.specs.Graph.{Graph, neighbours as neighboursOf};
-ghost use Rattle.memory.specs.Plan.{slicesOf, PlanOf};
+ghost use Rattle.memory.specs.Plan.{PlanOf};
+ghost use Rattle.memory.specs.Lent.{slicesGiven, slicesBefore};
 ghost use Rattle.planner.specs.Calls.{bankNumber, waveOf, clashesOf};
 
 // The wave of bank b, or wave 0 with the number of the first no.
@@ -21,8 +22,8 @@ pub fn wave_of(
     tally: Tally,
     b: Bank,
 ) -> Found
-    ensures number { λ r. ⌜ r .number ≡ bankNumber (b .0) (slicesOf (now (neighbours .entry)) (now (degrees .entry)) (now (waves .entry)) (now (counts .entry))) tally ⌝ }
-    ensures wave { λ r. ⌜ r .wave .0 ≡ waveOf (b .0) (slicesOf (now (neighbours .entry)) (now (degrees .entry)) (now (waves .entry)) (now (counts .entry))) tally ⌝ }
+    ensures number { λ r. ⌜ r .number ≡ bankNumber (b .0) (slicesBefore neighbours degrees waves counts) tally ⌝ }
+    ensures wave { λ r. ⌜ r .wave .0 ≡ waveOf (b .0) (slicesBefore neighbours degrees waves counts) tally ⌝ }
 {
     let number = check_bank(neighbours, degrees, waves, counts, tally, b);
     if number != 0 {
@@ -47,8 +48,10 @@ pub fn clashes_held<'a>(
     tally: Tally,
     b: Bank,
 ) -> &'a [u16]
-    requires { ⌜ ((G : Graph) × PlanOf G (slicesOf (now neighbours) (now degrees) (now waves) (now counts)) tally) × (b .0 < tally .banks) ⌝ }
-    ensures { λ r. ⌜ ((G : Graph) → PlanOf G (slicesOf (now (neighbours .entry)) (now (degrees .entry)) (now (waves .entry)) (now (counts .entry))) tally → now r ≡ neighboursOf G (b .0)) ⌝ }
+    requires { ⌜ ((G : Graph) × PlanOf G (slicesGiven neighbours degrees waves counts) tally) × (b .0 < tally .banks) ⌝ }
+    ensures { λ r. ⌜ ((G : Graph)
+        → PlanOf G (slicesBefore neighbours degrees waves counts) tally
+        → now r ≡ neighboursOf G (b .0)) ⌝ }
 {
     let at = wide(b.0);
     let start = at * ROW_CELLS;
@@ -65,7 +68,7 @@ pub fn clashes_of<'a>(
     tally: Tally,
     b: Bank,
 ) -> &'a [u16]
-    ensures { λ r. ⌜ now r ≡ clashesOf (b .0) (slicesOf (now (neighbours .entry)) (now (degrees .entry)) (now (waves .entry)) (now (counts .entry))) tally ⌝ }
+    ensures { λ r. ⌜ now r ≡ clashesOf (b .0) (slicesBefore neighbours degrees waves counts) tally ⌝ }
 {
     if check_bank(neighbours, degrees, waves, counts, tally, b) != 0 {
         return &neighbours[0..0];

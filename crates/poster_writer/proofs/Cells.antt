@@ -5,9 +5,10 @@ use Prim.Native.Nat.{ℕ, _+_, _≤_, _<_}
 use native.Mathlib.Numerals.{add-one}
 use lib.ListN.{length, length-append}
 use Rattle.rule.specs.Lists.{upto}
-use Rattle.sheet_writer.specs.Sheet.{joined}
-use Rattle.sheet_writer.proofs.Texts.{joined-append, texts-more, texts-room}
-use Rattle.poster_writer.specs.Put.{membersOf, linesWith, waveText, wavesText, cellLines}
+use Rattle.text.specs.Text.{joined}
+use Rattle.text.proofs.Joined.{joined-append, texts-more, texts-room}
+use Rattle.wave_lines.specs.inner.Cells.{membersOf}
+use Rattle.poster_writer.specs.inner.Cells.{linesWith, posterWave, posterWaves, cellLines}
 
 flatMap-append : {A : Type 0} (f : ℕ → List A) (xs ys : List ℕ) → flatMap f (xs ++ ys) ≡ flatMap f xs ++ flatMap f ys
 unfolding flatMap
@@ -32,19 +33,19 @@ module _ (ws : List ℕ) (n : ℕ) where
       ∙ ap length (flatMap-append lines (upto c) (c ∷ []) ∙ ap (λ (l : List (List ℕ)). flatMap lines (upto c) ++ l) (append-nil (lines c)))
       ∙ length-append (flatMap lines (upto c)) (lines c)
 
-  pub waves-none : wavesText ws n 0 ≡ []
-  unfolding wavesText upto joined
+  pub waves-none : posterWaves ws n 0 ≡ []
+  unfolding posterWaves upto joined
   waves-none = refl
 
-  pub waves-next : (c : ℕ) → wavesText ws n (c + 1) ≡ wavesText ws n c ++ waveText ws n c
-  unfolding wavesText
-  waves-next c = texts-more (waveText ws n) c
+  pub waves-next : (c : ℕ) → posterWaves ws n (c + 1) ≡ posterWaves ws n c ++ posterWave ws n c
+  unfolding posterWaves
+  waves-next c = texts-more (posterWave ws n) c
 
-  pub waves-room : (c k : ℕ) → c < k → length (wavesText ws n c) + length (waveText ws n c) ≤ length (wavesText ws n k)
-  unfolding wavesText
-  waves-room c k h = texts-room (waveText ws n) c k h
+  pub waves-room : (c k : ℕ) → c < k → length (posterWaves ws n c) + length (posterWave ws n c) ≤ length (posterWaves ws n k)
+  unfolding posterWaves
+  waves-room c k h = texts-room (posterWave ws n) c k h
 
   -- the text of the waves is that of their lines
-  pub text-is : (k : ℕ) → wavesText ws n k ≡ joined (cellLines ws n k)
-  unfolding wavesText waveText cellLines
+  pub text-is : (k : ℕ) → posterWaves ws n k ≡ joined (cellLines ws n k)
+  unfolding posterWaves posterWave cellLines
   text-is k = sym (joined-flatMap (λ c. linesWith c (membersOf ws c n)) (upto k))

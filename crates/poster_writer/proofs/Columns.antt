@@ -1,37 +1,22 @@
 -- Banks in their columns, and lines to their end: how long they are, and one more of them.
 use mathlib.Core.List.{List, [], _∷_, _++_, map, append-nil}
-use mathlib.Core.Logic.{inl, inr}
 use mathlib.Core.Path.{_≡_, refl, sym, ap, _∙_}
 use Prim.Native.Nat.{ℕ, _+_, _*_, _-_, _≤_, _<_}
 use native.Mathlib.Omega.{arith}
 use lib.ListN.{length, getD, take, replicate, length-append, length-replicate, replicate-append-replicate}
 use lib.Seq.{take-suc, length-take-le}
 use native.Mathlib.Numerals.{add-one}
-use Rattle.rule.proofs.Booleans.{lt-or-ge}
 use Rattle.rule.proofs.Lists.{in-head, in-tail}
 use Rattle.memory.proofs.Fronts.{take-next, in-take}
-use Rattle.sheet_writer.specs.Sheet.{joined, decimal}
-use Rattle.sheet_writer.specs.Put.{Puts}
-use Rattle.sheet_writer.proofs.Decimal.{length-low, two-digits, three-digits, four-digits}
-use Rattle.sheet_writer.proofs.Putting.{puts-then, puts-three}
-use Rattle.sheet_writer.proofs.Texts.{joined-append, texts-append}
+use Rattle.text.specs.Text.{joined}
+use Rattle.text.specs.Numbers.{decimal}
+use Rattle.text.specs.Places.{Puts}
+use Rattle.text.proofs.Decimal.{few-digits}
+use Rattle.text.proofs.Putting.{puts-then, puts-three}
+use Rattle.text.proofs.Joined.{joined-append, texts-append}
 use Rattle.poster_writer.specs.Poster.{rightAligned, padded, posterLine}
-use Rattle.poster_writer.specs.Put.{Small}
+use Rattle.poster_writer.specs.inner.Cells.{Small}
 use Rattle.poster_writer.proofs.Each.{Each, each-at, each-take, each-replicate}
-
--- a bank has one to four digits
-pub few-digits : (b : ℕ) → b < 1024 → (1 ≤ length (decimal b)) × (length (decimal b) ≤ 4)
-few-digits b h =
-    elim (lt-or-ge b 10) [
-      | inl l ↦ (omega (arith, length-low b l), omega (arith, length-low b l))
-      | inr g ↦ elim (lt-or-ge b 100) [
-        | inl l ↦ (omega (arith, two-digits b g l), omega (arith, two-digits b g l))
-        | inr g ↦ elim (lt-or-ge b 1000) [
-          | inl l ↦ (omega (arith, three-digits b g l), omega (arith, three-digits b g l))
-          | inr g ↦ let four = four-digits b g (omega arith) in (omega (arith, four), omega (arith, four))
-        ]
-      ]
-    ]
 
 pub length-spaces : (n : ℕ) → length {A = ℕ} (replicate n 32) ≡ n
 length-spaces n = length-replicate n 32
@@ -39,15 +24,15 @@ length-spaces n = length-replicate n 32
 pub length-aligned : (b : ℕ) → b < 1024 → length (rightAligned b) ≡ 5
 unfolding rightAligned
 length-aligned b h =
-    let few = few-digits b h in
     let spaces : List ℕ = replicate (5 - length (decimal b)) 32 in
-    omega (arith, length-append spaces (decimal b), length-spaces (5 - length (decimal b)))
+    omega (arith, few-digits 3 b (omega arith), length-append spaces (decimal b), length-spaces (5 - length (decimal b)))
 
 pub length-columns : (bs : List ℕ) → Small bs → length (joined (map rightAligned bs)) ≡ 5 * length bs
 unfolding joined
 length-columns [] small = refl
 length-columns (b ∷ bs) small =
-    omega (arith, length-append (rightAligned b) (joined (map rightAligned bs)), length-aligned b (small b (in-head b b bs refl)), length-columns bs (λ x m. small x (in-tail x b bs m)))
+    let one = length-append (rightAligned b) (joined (map rightAligned bs)) in
+    omega (arith, length-aligned b (small b (in-head b b bs refl)), length-columns bs (λ x m. small x (in-tail x b bs m)))
 
 pub length-end : (used : ℕ) → length {A = ℕ} (replicate (40 - used) 32 ++ (10 ∷ [])) ≡ 40 - used + 1
 length-end used = length-append {A = ℕ} (replicate (40 - used) 32) (10 ∷ []) ∙ ap (λ (n : ℕ). n + 1) (length-spaces (40 - used))
@@ -73,7 +58,8 @@ puts-line mark bs small few at out room r₁ r₂ r₃ r₄ out₁ out₂ out₃
     let long : length columns ≡ 5 * length bs = length-columns bs small in
     let start = puts-three (mark ∷ []) (32 ∷ []) columns at out (omega arith) r₁ r₂ r₃ out₁ out₂ out₃ same p₁ p₂ p₃ in
     let used : r₃ - at ≡ length (mark ∷ 32 ∷ columns) = omega (arith, start .next) in
-    puts-then (mark ∷ 32 ∷ columns) (replicate (40 - length (mark ∷ 32 ∷ columns)) 32 ++ (10 ∷ [])) at out (omega (arith, length-end (length (mark ∷ 32 ∷ columns)))) r₃ r₄ out₃ out₄ start (rw used at p₄)
+    let text : List ℕ = mark ∷ 32 ∷ columns in
+    puts-then text (replicate (40 - length text) 32 ++ (10 ∷ [])) at out (omega (arith, length-end (length text))) r₃ r₄ out₃ out₄ start (rw used at p₄)
 
 -- one more of the same
 pub replicate-next : {A : Type 0} (n : ℕ) (a : A) → replicate (n + 1) a ≡ replicate n a ++ (a ∷ [])
@@ -108,7 +94,8 @@ pub lines-room : (ls : List (List ℕ)) (i : ℕ) → i < length ls → Each (λ
     → (length (getD ls i []) ≡ 41) × (length (joined (take i ls)) + 41 ≤ length (joined ls))
 lines-room ls i h e =
     let at-line = each-at (λ l. length l ≡ 41) [] ls i e h in
-    (at-line, omega (arith, length-rows ls e, length-rows (take i ls) (each-take (λ l. length l ≡ 41) i ls e), length-take-le i ls (omega arith)))
+    let before = length-rows (take i ls) (each-take (λ l. length l ≡ 41) i ls e) in
+    (at-line, omega (arith, length-rows ls e, length-take-le i ls (omega arith)))
 
 pub no-lines : (ls : List (List ℕ)) → joined (take 0 ls) ≡ []
 unfolding joined
@@ -144,4 +131,5 @@ length-blank = length-padded [] (omega arith)
 
 pub length-blanks : (n : ℕ) → length (joined (replicate n (padded []))) ≡ 41 * n
 length-blanks n =
-    omega (arith, length-rows (replicate n (padded [])) (each-replicate (λ l. length l ≡ 41) (padded []) length-blank n), length-replicate n (padded []))
+    let rows = length-rows (replicate n (padded [])) (each-replicate (λ l. length l ≡ 41) (padded []) length-blank n) in
+    omega (arith, length-replicate n (padded []))

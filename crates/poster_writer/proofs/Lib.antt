@@ -5,7 +5,6 @@ pub mod Members
 pub mod Pieces
 pub mod Cells
 pub mod Pages
-pub mod Digits
 pub mod ReadBack
 pub mod Shown
 pub mod Plans

@@ -1,19 +1,17 @@
--- The banks of a wave by the wave cells, bank by bank.
+-- A bank of a wave or of another, and the banks that were gathered.
 use mathlib.Core.Bool.{Bool, true, false, cond}
-use mathlib.Core.List.{List, [], _∷_, _++_}
-use mathlib.Core.Path.{_≡_, refl, ap, _∙_}
+use mathlib.Core.List.{List, [], _∷_}
+use mathlib.Core.Path.{_≡_, ap, _∙_}
 use Prim.Native.Nat.{ℕ, _+_, _-_, _≤_, _<_}
-use native.Mathlib.Numerals.{add-one}
 use native.Mathlib.Omega.{arith}
 use lib.Dec.{eqb}
-use lib.ListN.{length, getD, take, drop}
+use lib.ListN.{length, take, drop}
 use lib.Seq.{take-append-seam}
 use borrow.Author.Tests.{eq-eqb, ne-eqb}
-use Rattle.rule.specs.Lists.{upto, filter}
-use Rattle.rule.proofs.Lists.{upto-below, length-upto, filter-in, filter-short}
-use Rattle.sheet_writer.specs.Put.{put, Puts}
-use Rattle.sheet_writer.proofs.Lists.{filter-append}
-use Rattle.poster_writer.specs.Put.{membersOf, Small}
+use Rattle.text.specs.Places.{put, Puts}
+use Rattle.wave_lines.specs.inner.Cells.{membersOf}
+use Rattle.wave_lines.proofs.Members.{members-below}
+use Rattle.poster_writer.specs.inner.Cells.{Small}
 
 module _ (w c b : ℕ) where
   pub member-same : w ≡ c → cond (eqb w c) (b ∷ []) [] ≡ b ∷ []
@@ -29,26 +27,10 @@ module _ (w c b : ℕ) where
       go true = omega arith
       go false = omega arith
 
-pub members-none : (ws : List ℕ) (c : ℕ) → membersOf ws c 0 ≡ []
-unfolding membersOf upto filter
-members-none ws c = refl
-
-module _ (ws : List ℕ) (c n : ℕ) where
-  pub members-next : membersOf ws c (n + 1) ≡ membersOf ws c n ++ cond (eqb (getD ws n 0) c) (n ∷ []) []
-  unfolding membersOf upto filter
-  members-next =
-      let p : ℕ → Bool = λ b. eqb (getD ws b 0) c in
-      ap (λ (k : ℕ). filter p (upto k)) (add-one n) ∙ filter-append p (upto n) (n ∷ [])
-
-  pub members-few : length (membersOf ws c n) ≤ n
-  unfolding membersOf
-  members-few = omega (arith, filter-short (λ b. eqb (getD ws b 0) c) (upto n), length-upto n)
-
-  pub members-small : n ≤ 1024 → Small (membersOf ws c n)
-  unfolding membersOf
-  members-small h b m =
-      let below : b < n = upto-below n b (filter-in (λ b. eqb (getD ws b 0) c) (upto n) b m .0) in
-      omega arith
+pub members-small : (ws : List ℕ) (c n : ℕ) → n ≤ 1024 → Small (membersOf ws c n)
+members-small ws c n h b m =
+    let below : b < n = members-below ws c n b m in
+    omega arith
 
 -- what was put at the front of a longer slice
 pub gathered : (members banks : List ℕ) (r : ℕ) (banks′ : List ℕ) → Puts members 0 banks r banks′ → take (r - 0) (drop 0 banks′) ≡ members

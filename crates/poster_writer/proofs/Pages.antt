@@ -4,8 +4,8 @@ use mathlib.Core.Path.{_≡_, ap, _∙_}
 use Prim.Native.Nat.{ℕ, _+_, _*_, _-_, _/_, _%_}
 use native.Mathlib.Omega.{arith}
 use lib.ListN.{length, replicate, length-append}
-use Rattle.sheet_writer.specs.Sheet.{joined}
-use Rattle.sheet_writer.proofs.Texts.{joined-append}
+use Rattle.text.specs.Text.{joined}
+use Rattle.text.proofs.Joined.{joined-append}
 use Rattle.poster_writer.specs.Poster.{padded, filled}
 use Rattle.poster_writer.proofs.Each.{Each}
 use Rattle.poster_writer.proofs.Columns.{length-rows, length-blanks}
@@ -25,4 +25,5 @@ filled-text ls =
 pub length-filled : (ls : List (List ℕ)) → Each (λ l. length l ≡ 41) ls → length (joined (filled ls)) ≡ 2050 * pages (length ls)
 length-filled ls rows =
     let fill : ℕ = 50 * pages (length ls) - length ls in
-    omega (arith, ap length (filled-text ls), length-append (joined ls) (joined (replicate fill (padded []))), length-rows ls rows, length-blanks fill)
+    let parts = length-append (joined ls) (joined (replicate fill (padded []))) in
+    omega (arith, ap length (filled-text ls), length-rows ls rows, length-blanks fill)

@@ -8,9 +8,10 @@ use lib.ListN.{length, getD, take, drop, length-take, length-drop, take-append-d
 use lib.Seq.{drop-drop, take-at, drop-at, take-all}
 use Rattle.rule.proofs.Booleans.{lt-or-ge}
 use Rattle.memory.proofs.Fronts.{in-take, in-drop}
-use Rattle.sheet_writer.specs.Sheet.{letters, joined}
+use Rattle.text.specs.Text.{joined}
+use Rattle.wave_lines.specs.Lines.{letters}
 use Rattle.poster_writer.specs.Poster.{pieces, sevens, posterLine, marked}
-use Rattle.poster_writer.specs.Put.{Small, markAt, linesWith}
+use Rattle.poster_writer.specs.inner.Cells.{Small, markAt, linesWith}
 use Rattle.poster_writer.proofs.Each.{Each}
 use Rattle.poster_writer.proofs.Columns.{length-line}
 

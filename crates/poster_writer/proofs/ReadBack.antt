@@ -10,16 +10,17 @@ use lib.ListN.{length, getD, take, drop, replicate, length-append, replicate-app
 use lib.Seq.{take-at, drop-at, getD-at}
 use borrow.Author.Tests.{ne-eqb}
 use Rattle.rule.specs.Lists.{filter, memb}
-use Rattle.rule.proofs.Lists.{in-head, in-tail, in-cons, in-none, in-append, filter-cong, filter-true}
-use Rattle.list_rows.specs.Text.{valueFrom}
-use Rattle.sheet_writer.specs.Sheet.{Line, joined, decimal}
-use Rattle.sheet_writer.proofs.Lists.{filter-append}
+use Rattle.rule.proofs.Lists.{in-head, in-tail, in-cons, in-none, in-append, filter-cong, filter-true, filter-append}
+use Rattle.text.specs.Text.{joined}
+use Rattle.text.specs.Numbers.{valueFrom, decimal}
+use Rattle.text.proofs.Digits.{digit-high}
+use Rattle.text.proofs.Decimal.{some-digit, decimal-digits, decimal-value}
+use Rattle.wave_lines.specs.Lines.{Line}
 use Rattle.poster_writer.specs.Poster.{pieces, sevens, rightAligned, padded, posterLine, marked, waveLines}
 use Rattle.poster_writer.specs.Reading.{linesOn, numberIn, bankIn, banksOn, continued, grouped, Row}
-use Rattle.poster_writer.specs.Put.{Small}
-use Rattle.poster_writer.proofs.Digits.{decimal-value, digit-high}
+use Rattle.poster_writer.specs.inner.Cells.{Small}
 use Rattle.poster_writer.proofs.Each.{Each, each-append, each-replicate, each-map}
-use Rattle.poster_writer.proofs.Columns.{few-digits, length-aligned, length-columns, length-padded, length-rows, length-spaces}
+use Rattle.poster_writer.proofs.Columns.{length-aligned, length-columns, length-padded, length-rows, length-spaces}
 use Rattle.poster_writer.proofs.Pieces.{Fits, each-fits, length-sevens, pieces-joined, sevens-joined}
 
 -- a bank in its columns
@@ -38,14 +39,16 @@ no-ink (suc n) = no-ink n
 
 digits-inked : (b : ℕ) → filter inked (decimal b) ≡ decimal b
 digits-inked b =
-    filter-cong inked (λ x. true) (decimal b) (λ x m. let h : 48 ≤ x = digit-high b x m in ap not (ne-eqb x 32 (λ e. omega arith))) ∙ filter-true (decimal b)
+    let ink : (x : ℕ) → T (memb x (decimal b)) → inked x ≡ true =
+    λ x m. let h : 48 ≤ x = digit-high (decimal b) (decimal-digits b) x m in ap not (ne-eqb x 32 (λ e. omega arith)) in
+    filter-cong inked (λ x. true) (decimal b) ink ∙ filter-true (decimal b)
 
-bank-in : (b : ℕ) → b < 1024 → bankIn (rightAligned b) ≡ b ∷ []
+bank-in : (b : ℕ) → bankIn (rightAligned b) ≡ b ∷ []
 unfolding bankIn rightAligned
-bank-in b h =
+bank-in b =
     let spaces : List ℕ = replicate (5 - length (decimal b)) 32 in
     ap numberIn (filter-append inked spaces (decimal b) ∙ ap₂ (λ (l r : List ℕ). l ++ r) (no-ink (5 - length (decimal b))) (digits-inked b))
-    ∙ number-some (decimal b) (few-digits b h .0)
+    ∙ number-some (decimal b) (some-digit b)
     ∙ ap (λ (n : ℕ). n ∷ []) (decimal-value b)
 
 -- columns without a bank
@@ -77,8 +80,9 @@ banks-in (suc count) left (b ∷ bs) small few e =
     let text : (rightAligned b ++ joined (map rightAligned bs)) ++ (replicate left 32 ++ (10 ∷ [])) ≡ rightAligned b ++ rest =
     append-assoc (rightAligned b) (joined (map rightAligned bs)) (replicate left 32 ++ (10 ∷ [])) in
     ap (λ (l : List ℕ). bankIn (take 5 l) ++ joined (map bankIn (pieces count 5 (drop 5 l)))) text
-    ∙ ap₂ (λ (x y : List ℕ). bankIn x ++ joined (map bankIn (pieces count 5 y))) (take-at (rightAligned b) rest 5 (length-aligned b h)) (drop-at (rightAligned b) rest 5 (length-aligned b h))
-    ∙ ap₂ (λ (x y : List ℕ). x ++ y) (bank-in b h) (banks-in count left bs (λ x m. small x (in-tail x b bs m)) (omega arith) (omega arith))
+    ∙ ap₂ (λ (x y : List ℕ). bankIn x ++ joined (map bankIn (pieces count 5 y)))
+    (take-at (rightAligned b) rest 5 (length-aligned b h)) (drop-at (rightAligned b) rest 5 (length-aligned b h))
+    ∙ ap₂ (λ (x y : List ℕ). x ++ y) (bank-in b) (banks-in count left bs (λ x m. small x (in-tail x b bs m)) (omega arith) (omega arith))
 
 -- the banks on a line are those that were put on it
 pub banks-on : (mark : ℕ) (bs : List ℕ) → Fits bs → banksOn (posterLine mark bs) ≡ bs
@@ -156,13 +160,15 @@ module _ (n : ℕ) where
   none-continues [] good = unfold flatMap in blanks-continue n
   none-continues (l ∷ ls) good =
       ap continued (shown-cons l ls)
-      ∙ first-stops (l .letter) (good .0 .high) (shown ls) (none-continues ls (good .1)) (sevens (l .banks)) (omega (arith, length-sevens (l .banks), good .0 .some))
+      ∙ first-stops (l .letter) (good .0 .high) (shown ls) (none-continues ls (good .1)) (sevens (l .banks))
+      (omega (arith, length-sevens (l .banks), good .0 .some))
 
   pub waves-again : (ls : List Line) → Each Good ls → grouped (shown ls) ≡ ls
   waves-again [] good = unfold flatMap in blanks-no-wave n
   waves-again (l ∷ ls) good =
       ap grouped (shown-cons l ls)
-      ∙ one-wave (l .letter) (good .0 .high) (shown ls) (none-continues ls (good .1)) (sevens (l .banks)) (each-fits (l .banks) (good .0 .small)) (omega (arith, length-sevens (l .banks), good .0 .some))
+      ∙ one-wave (l .letter) (good .0 .high) (shown ls) (none-continues ls (good .1)) (sevens (l .banks)) (each-fits (l .banks) (good .0 .small))
+      (omega (arith, length-sevens (l .banks), good .0 .some))
       ∙ ap₂ (λ (bs : List ℕ) (rest : List Line). record { letter = l .letter; banks = bs } ∷ rest) (sevens-joined (l .banks)) (waves-again ls (good .1))
 
 -- the banks line by line are those of the waves, and before them those that continue none of these
@@ -173,7 +179,8 @@ banks-by-wave (l ∷ ls) = ap (λ (bs : List ℕ). banksOn l ++ bs) (banks-by-wa
   where
     go : (space : Bool)
         → banksOn l ++ (continued ls ++ joined (map (λ (l : Line). l .banks) (grouped ls)))
-        ≡ cond space (banksOn l ++ continued ls) [] ++ joined (map (λ (l : Line). l .banks) (cond space (grouped ls) (record { letter = getD l 0 0; banks = banksOn l ++ continued ls } ∷ grouped ls)))
+        ≡ cond space (banksOn l ++ continued ls) []
+        ++ joined (map (λ (l : Line). l .banks) (cond space (grouped ls) (record { letter = getD l 0 0; banks = banksOn l ++ continued ls } ∷ grouped ls)))
     go true = sym (append-assoc (banksOn l) (continued ls) (joined (map (λ (l : Line). l .banks) (grouped ls))))
     go false = sym (append-assoc (banksOn l) (continued ls) (joined (map (λ (l : Line). l .banks) (grouped ls))))
 
@@ -189,7 +196,7 @@ in-columns (b ∷ bs) y m =
     elim (in-append y (rightAligned b) (joined (map rightAligned bs)) m) [
       | inl t ↦ elim (in-append y (replicate (5 - length (decimal b)) 32) (decimal b) t) [
         | inl u ↦ inl (in-spaces (5 - length (decimal b)) y u)
-        | inr u ↦ inr (digit-high b y u)
+        | inr u ↦ inr (digit-high (decimal b) (decimal-digits b) y u)
       ]
       | inr t ↦ in-columns bs y t
     ]
@@ -210,10 +217,12 @@ module _ (text : List ℕ) (few : length text ≤ 40) where
   row space none = record {
     long = length-padded text few;
     space = space;
-    inside = λ m. elim (in-append 10 text (replicate (40 - length text) 32) (subst (λ (l : List ℕ). T (memb 10 l)) (ap (take 40) padded-is ∙ take-at front (10 ∷ []) 40 length-front) m)) [
-      | inl t ↦ none t
-      | inr t ↦ let e : _≡_ {A = ℕ} 10 32 = in-spaces (40 - length text) 10 t in omega arith
-    ];
+    inside = λ m.
+        let same = ap (take 40) padded-is ∙ take-at front (10 ∷ []) 40 length-front in
+        elim (in-append 10 text (replicate (40 - length text) 32) (subst (λ (l : List ℕ). T (memb 10 l)) same m)) [
+          | inl t ↦ none t
+          | inr t ↦ let e : _≡_ {A = ℕ} 10 32 = in-spaces (40 - length text) 10 t in omega arith
+        ];
     feed = ap (λ (l : List ℕ). getD l 40 0) padded-is ∙ getD-at front 10 [] 0 40 length-front;
   }
 
@@ -248,7 +257,8 @@ unfolding flatMap waveLines
 waves-rows [] good = tt
 waves-rows (l ∷ ls) good =
     let high : 65 ≤ l .letter = good .0 .high in
-    each-append Row (waveLines l) (flatMap waveLines ls) (marked-rows (l .letter) (sevens (l .banks)) (λ e. omega arith) (each-fits (l .banks) (good .0 .small))) (waves-rows ls (good .1))
+    let first = marked-rows (l .letter) (sevens (l .banks)) (λ e. omega arith) (each-fits (l .banks) (good .0 .small)) in
+    each-append Row (waveLines l) (flatMap waveLines ls) first (waves-rows ls (good .1))
 
 -- every line has the form of one
 pub rows : (n : ℕ) (ls : List Line) → Each Good ls → Each Row (flatMap waveLines ls ++ replicate n (padded []))

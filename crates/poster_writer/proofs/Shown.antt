@@ -1,39 +1,27 @@
 -- The poster of a set of clashes: its lines are good ones, and few enough.
 use mathlib.Core.List.{List, [], _∷_, _++_, map, flatMap}
-use mathlib.Core.Logic.{inl, inr}
 use mathlib.Core.Path.{_≡_, refl, ap, _∙_}
 use Prim.Native.Nat.{ℕ, _+_, _*_, _-_, _/_, _%_, _≤_, _<_}
 use native.Mathlib.Omega.{arith}
-use lib.Dec.{T, ltb, eqb, lt→ltb, ltb→lt}
-use lib.ListN.{length, getD, length-append}
-use Rattle.rule.specs.Lists.{upto, filter, some, memb}
+use lib.Dec.{T, ltb, eqb, ltb→lt}
+use lib.ListN.{length, length-append}
+use Rattle.rule.specs.Lists.{upto, memb}
 use Rattle.rule.specs.Graph.{Graph}
 use Rattle.rule.specs.Wave.{wave, waveCount}
-use Rattle.rule.proofs.Booleans.{lt-or-ge, T-along, and-l}
-use Rattle.rule.proofs.Lists.{in-head, in-tail, in-none, upto-below, some-in}
+use Rattle.rule.proofs.Booleans.{T-along, and-l}
+use Rattle.rule.proofs.Lists.{in-head, in-tail, in-none, upto-below}
 use Rattle.memory.specs.Plan.{Clashes}
-use Rattle.memory.proofs.Fronts.{in-cell}
-use Rattle.sheet_writer.specs.Sheet.{letters, Line, banksOf, lineOf, linesOf, joined, banksShown}
-use Rattle.sheet_writer.proofs.Letters.{length-letters}
-use Rattle.sheet_writer.proofs.Lengths.{few-waves}
-use Rattle.sheet_writer.proofs.Shown.{shown-count, count-lines, on-line, no-empty-line}
+use Rattle.text.specs.Text.{joined}
+use Rattle.wave_lines.specs.Lines.{Line, banksOf, lineOf, linesOf, banksShown}
+use Rattle.wave_lines.proofs.Letters.{letter-high}
+use Rattle.wave_lines.proofs.Plans.{few-waves}
+use Rattle.wave_lines.proofs.Shown.{shown-count, count-lines, on-line, no-empty-line}
 use Rattle.poster_writer.specs.Poster.{sevens, waveLines, posterLines, filled, poster}
 use Rattle.poster_writer.specs.Reading.{linesOn, banksOn, banksRead, grouped, wavesRead, Row}
 use Rattle.poster_writer.proofs.Each.{Each}
 use Rattle.poster_writer.proofs.Pieces.{length-marked, length-sevens}
 use Rattle.poster_writer.proofs.Pages.{length-filled}
 use Rattle.poster_writer.proofs.ReadBack.{Good, rows, lines-again, none-continues, waves-again, banks-by-wave, waves-long}
-
-none-low : T (some (λ x. ltb x 65) letters) → ⊥
-unfolding letters upto filter some
-none-low t = t
-
-letter-high : (c : ℕ) → c < 24 → 65 ≤ getD letters c 0
-letter-high c h =
-    elim (lt-or-ge (getD letters c 0) 65) [
-      | inl l ↦ absurd (none-low (some-in (λ x. ltb x 65) letters (getD letters c 0) (in-cell c letters (omega (arith, length-letters))) (lt→ltb (getD letters c 0) 65 l)))
-      | inr g ↦ g
-    ]
 
 some-long : (xs : List ℕ) (x : ℕ) → T (memb x xs) → 1 ≤ length xs
 some-long [] x m = absurd (in-none x m)
@@ -44,7 +32,9 @@ few-lines : (ls : List Line) → 7 * length (flatMap waveLines ls) ≤ length (j
 unfolding flatMap waveLines joined
 few-lines [] = omega arith
 few-lines (l ∷ ls) =
-    omega (arith, few-lines ls, length-append (waveLines l) (flatMap waveLines ls), length-marked (l .letter) (sevens (l .banks)), length-sevens (l .banks), length-append (l .banks) (joined (map (λ (l : Line). l .banks) ls)))
+    let lines = length-append (waveLines l) (flatMap waveLines ls) in
+    let banks = length-append (l .banks) (joined (map (λ (l : Line). l .banks) ls)) in
+    omega (arith, few-lines ls, length-marked (l .letter) (sevens (l .banks)), length-sevens (l .banks))
 
 module _ (G : Graph) (clashes : Clashes G) where
   good-line : (c : ℕ) → c < waveCount G → Good (lineOf G c)
@@ -54,7 +44,9 @@ module _ (G : Graph) (clashes : Clashes G) where
       let held = no-empty-line G c h in
       record {
         high = letter-high c (omega arith);
-        small = λ b m. let below : b < G .banks = ltb→lt b (G .banks) (and-l (ltb b (G .banks)) (eqb (wave G b) c) (T-along (on-line G b c) m)) in omega arith;
+        small = λ b m.
+            let below : b < G .banks = ltb→lt b (G .banks) (and-l (ltb b (G .banks)) (eqb (wave G b) c) (T-along (on-line G b c) m)) in
+            omega arith;
         some = some-long (banksOf G c) (held .0) (held .1);
       }
 

@@ -1,25 +1,23 @@
 -- The theorems to cite. Their proofs are in the files beside this one.
 use mathlib.Core.Bool.{cond}
-use mathlib.Core.List.{List, []}
-use mathlib.Core.Path.{_≡_, sym, ap, _∙_}
+use mathlib.Core.List.{List, [], flatMap}
+use mathlib.Core.Path.{_≡_, ap, _∙_}
 use Prim.Native.Nat.{ℕ, _+_, _*_, _/_, _≤_, _<_}
-use native.Mathlib.Omega.{arith}
 use lib.Dec.{ltb}
 use lib.ListN.{length, getD}
 use Rattle.rule.specs.Graph.{Graph}
 use Rattle.memory.specs.declared.Tally.{Tally}
 use Rattle.memory.specs.Cells.{over}
-use Rattle.memory.specs.Plan.{Slices, graphIn, Clashes, PlanOf}
-use Rattle.planner.proofs.Numbers.{held-number, number-plan}
-use Rattle.sheet_writer.specs.Sheet.{linesOf, joined, banksShown, times}
-use Rattle.sheet_writer.specs.Calls.{textResult}
-use Rattle.sheet_writer.proofs.Theorems.{bank-once}
-use Rattle.sheet_writer.proofs.Writing.{text-fits, written-within}
-use Rattle.poster_writer.specs.Poster.{posterLines, filled, poster}
+use Rattle.memory.specs.Plan.{Slices, Clashes, PlanOf}
+use Rattle.text.specs.Text.{joined}
+use Rattle.wave_lines.specs.Lines.{Line, linesOf, banksShown, times}
+use Rattle.wave_lines.specs.Calls.{textResult}
+use Rattle.wave_lines.proofs.Theorems.{bank-once, one-lines, written-within}
+use Rattle.wave_lines.proofs.Writing as Writing
+use Rattle.poster_writer.specs.Poster.{waveLines, posterLines, filled, poster}
 use Rattle.poster_writer.specs.Calls.{writePoster}
 use Rattle.poster_writer.specs.Reading.{linesOn, banksRead, wavesRead, Row}
 use Rattle.poster_writer.proofs.Each.{each-at}
-use Rattle.poster_writer.proofs.Plans
 use Rattle.poster_writer.proofs.Shown
 
 -- the poster of any plan
@@ -52,17 +50,13 @@ no-page = Shown.no-page
 
 -- 6. the poster of memory depends on nothing but the clashes whose plan it holds
 pub one-poster : (G H : Graph) (s : Slices) (t : Tally) → PlanOf G s t → PlanOf H s t → poster G ≡ poster H
-unfolding poster
-one-poster G H s t p q = ap (λ (ls : List (List ℕ)). joined (filled ls)) (sym (Plans.lines-are G s t p) ∙ Plans.lines-are H s t q)
+unfolding poster posterLines
+one-poster G H s t p q = ap (λ (ls : List Line). joined (filled (flatMap waveLines ls))) (one-lines G H s t p q)
 
 -- 7. an output of 8,200 bytes is never too short: memory that holds the plan of G gives its poster
 pub never-short : (G : Graph) (s : Slices) (t : Tally) (out : List ℕ) → PlanOf G s t → 8200 ≤ length out
     → textResult (record { number = 0; length = length (poster G) }) (over (poster G) out) ≡ writePoster s t out
-never-short G s t out held room =
-    let checked = held-number G s t held in
-    let plan = number-plan s t checked in
-    let fits = poster-fits (graphIn (t .banks) s) (plan .clashes) in
-    text-fits poster s t out (sym checked) (omega (arith, fits)) (poster G) (one-poster G (graphIn (t .banks) s) s t held plan)
+never-short = Writing.never-short poster 8200 poster-fits one-poster
 
 -- 8. the length that is answered is one of bytes in the output
 pub within-output : (s : Slices) (t : Tally) (out : List ℕ) → writePoster s t out .answer .length ≤ length (writePoster s t out .out)

@@ -3,7 +3,7 @@ use mathlib.Core.List.{List}
 use Prim.Native.Nat.{ℕ}
 use Rattle.memory.specs.declared.Tally.{Tally}
 use Rattle.memory.specs.Plan.{Slices}
-use Rattle.sheet_writer.specs.Calls.{TextResult, writeText}
+use Rattle.wave_lines.specs.Calls.{TextResult, writeText}
 use Rattle.poster_writer.specs.Poster.{poster}
 
 -- the call write a poster, of any memory and any output

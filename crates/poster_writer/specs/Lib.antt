@@ -1,6 +1,5 @@
--- What a reader must believe of the poster: Poster, Calls, Reading. Examples tests them. Put serves the proofs.
+-- What a reader must believe of the poster: Poster, Calls, Reading. inner serves the functions.
 pub mod Poster
 pub mod Calls
 pub mod Reading
-pub mod Examples
-pub mod Put
+pub mod inner

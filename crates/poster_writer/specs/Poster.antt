@@ -3,7 +3,9 @@ use mathlib.Core.List.{List, [], _∷_, _++_, map, flatMap}
 use Prim.Native.Nat.{ℕ, zero, suc, _+_, _-_, _/_, _%_}
 use lib.ListN.{length, take, drop, replicate}
 use Rattle.rule.specs.Graph.{Graph}
-use Rattle.sheet_writer.specs.Sheet.{Line, linesOf, joined, decimal}
+use Rattle.text.specs.Text.{joined}
+use Rattle.text.specs.Numbers.{decimal}
+use Rattle.wave_lines.specs.Lines.{Line, linesOf}
 
 -- a list cut into `count` pieces of `size`
 unfoldable pub pieces : {A : Type 0} → ℕ → ℕ → List A → List (List A)

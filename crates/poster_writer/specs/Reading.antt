@@ -6,8 +6,9 @@ use Prim.Native.Nat.{ℕ, _/_}
 use lib.Dec.{T, eqb}
 use lib.ListN.{length, getD, take, drop}
 use Rattle.rule.specs.Lists.{filter, memb}
-use Rattle.list_rows.specs.Text.{valueFrom}
-use Rattle.sheet_writer.specs.Sheet.{Line, joined}
+use Rattle.text.specs.Numbers.{valueFrom}
+use Rattle.text.specs.Text.{joined}
+use Rattle.wave_lines.specs.Lines.{Line}
 use Rattle.poster_writer.specs.Poster.{pieces}
 
 -- the lines of the pages, 40 characters and a line feed each

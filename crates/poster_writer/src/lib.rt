@@ -1,7 +1,7 @@
 // The poster writer: the waves of a plan in pages of 50 lines for the depot gate. `write_poster` is the call.
+mod column;
 mod lines;
 mod poster;
-mod text;
 mod waves;
 
 pub use poster::LONGEST_POSTER;

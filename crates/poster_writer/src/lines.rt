@@ -1,18 +1,19 @@
-// The lines of one wave, written like the text of text.rt.
-use crate::text::put_aligned;
-use crate::text::put_end;
+// The lines of one wave. Each function writes at `at` and answers the place after what it wrote.
+use crate::column::put_aligned;
+use crate::column::put_end;
 use rule::Bank;
 use rule::Wave;
-use sheet_writer::letter;
-use sheet_writer::put_byte;
+use text::put_byte;
+use wave_lines::letter;
 ghost use mathlib.Core.List.{[], map};
 ghost use mathlib.Core.Path.{_≡_};
 ghost use Prim.Native.Nat.{_+_, _*_, _/_, _≤_, _<_, min};
 ghost use lib.ListN.{length, getD, replicate};
-ghost use Rattle.sheet_writer.specs.Sheet.{letters, joined};
-ghost use Rattle.sheet_writer.specs.Put.{Puts};
+ghost use Rattle.text.specs.Text.{joined};
+ghost use Rattle.text.specs.Places.{Room, Wrote};
+ghost use Rattle.wave_lines.specs.Lines.{letters};
 ghost use Rattle.poster_writer.specs.Poster.{rightAligned, padded, posterLine};
-ghost use Rattle.poster_writer.specs.Put.{Small, markAt, linesWith};
+ghost use Rattle.poster_writer.specs.inner.Cells.{Small, markAt, linesWith};
 
 // The banks of a line.
 const LINE_BANKS: usize = 7;
@@ -20,7 +21,7 @@ const LINE_BANKS: usize = 7;
 // Banks, each in its five columns.
 fn put_banks(out: &mut [u8], at: usize, banks: &[u16]) -> usize
     requires { ⌜ Small (now banks) × (at + 5 * length (now banks) ≤ length (now out)) ⌝ }
-    ensures { λ r. ⌜ Puts (joined (map rightAligned (now (banks .entry)))) at (now (out .entry)) r (now (out .exit)) ⌝ }
+    ensures { λ r. ⌜ Wrote (joined (map rightAligned (now (banks .entry)))) at out r ⌝ }
 {
     let mut next = at;
     let mut i = 0;
@@ -34,7 +35,7 @@ fn put_banks(out: &mut [u8], at: usize, banks: &[u16]) -> usize
 // A line: its mark, a space, its banks, and its end.
 fn put_line(out: &mut [u8], at: usize, mark: u8, banks: &[u16]) -> usize
     requires { ⌜ Small (now banks) × (length (now banks) ≤ 7) × (at + 41 ≤ length (now out)) ⌝ }
-    ensures { λ r. ⌜ Puts (posterLine mark (now (banks .entry))) at (now (out .entry)) r (now (out .exit)) ⌝ }
+    ensures { λ r. ⌜ Wrote (posterLine mark (now (banks .entry))) at out r ⌝ }
 {
     let space = put_byte(out, at, mark);
     let first = put_byte(out, space, b' ');
@@ -67,8 +68,12 @@ fn line_end(from: usize, banks: usize) -> usize
 
 // Line i of wave c with these banks.
 fn put_line_at(out: &mut [u8], at: usize, c: Wave, banks: &[u16], i: usize) -> usize
-    requires { ⌜ (c .0 < 24) × Small (now banks) × (length (now banks) ≤ 1024) × (7 * i < length (now banks)) × (at + 41 ≤ length (now out)) ⌝ }
-    ensures { λ r. ⌜ Puts (getD (linesWith (c .0) (now (banks .entry))) i []) at (now (out .entry)) r (now (out .exit)) ⌝ }
+    requires { ⌜ (c .0 < 24)
+        × Small (now banks)
+        × (length (now banks) ≤ 1024)
+        × (7 * i < length (now banks))
+        × (at + 41 ≤ length (now out)) ⌝ }
+    ensures { λ r. ⌜ Wrote (getD (linesWith (c .0) (now (banks .entry))) i []) at out r ⌝ }
 {
     let from = LINE_BANKS * i;
     let to = line_end(from, banks.len());
@@ -85,8 +90,11 @@ pub fn lines_for(banks: usize) -> usize
 
 // The lines of wave c with these banks.
 pub fn put_wave(out: &mut [u8], at: usize, c: Wave, banks: &[u16]) -> usize
-    requires { ⌜ (c .0 < 24) × Small (now banks) × (length (now banks) ≤ 1024) × (at + length (joined (linesWith (c .0) (now banks))) ≤ length (now out)) ⌝ }
-    ensures { λ r. ⌜ Puts (joined (linesWith (c .0) (now (banks .entry)))) at (now (out .entry)) r (now (out .exit)) ⌝ }
+    requires { ⌜ (c .0 < 24)
+        × Small (now banks)
+        × (length (now banks) ≤ 1024)
+        × Room (joined (linesWith (c .0) (now banks))) at out ⌝ }
+    ensures { λ r. ⌜ Wrote (joined (linesWith (c .0) (now (banks .entry)))) at out r ⌝ }
 {
     let lines = lines_for(banks.len());
     let mut next = at;
@@ -101,7 +109,7 @@ pub fn put_wave(out: &mut [u8], at: usize, c: Wave, banks: &[u16]) -> usize
 // Lines of 40 spaces.
 pub fn put_blank_lines(out: &mut [u8], at: usize, count: usize) -> usize
     requires { ⌜ at + 41 * count ≤ length (now out) ⌝ }
-    ensures { λ r. ⌜ Puts (joined (replicate count (padded []))) at (now (out .entry)) r (now (out .exit)) ⌝ }
+    ensures { λ r. ⌜ Wrote (joined (replicate count (padded []))) at out r ⌝ }
 {
     let mut next = at;
     let mut i = 0;

@@ -4,10 +4,10 @@ use crate::waves::count_lines;
 use crate::waves::put_waves;
 use memory::Tally;
 use planner::check_plan;
-use sheet_writer::Written;
+use wave_lines::Written;
 ghost use mathlib.Core.Path.{_≡_};
-ghost use Rattle.memory.specs.Plan.{slicesOf};
-ghost use Rattle.sheet_writer.specs.Calls.{textResult};
+ghost use Rattle.memory.specs.Lent.{slicesBefore};
+ghost use Rattle.wave_lines.specs.Calls.{textResult};
 ghost use Rattle.poster_writer.specs.Calls.{writePoster};
 
 // The lines of a page, and its bytes: 41 for each line.
@@ -27,7 +27,11 @@ pub fn write_poster(
     tally: Tally,
     out: &mut [u8],
 ) -> Written
-    ensures { λ r. ⌜ textResult r (now (out .exit)) ≡ writePoster (slicesOf (now (neighbours .entry)) (now (degrees .entry)) (now (waves .entry)) (now (counts .entry))) tally (now (out .entry)) ⌝ }
+    ensures { λ r. ⌜ textResult r (now (out .exit))
+        ≡ writePoster
+        (slicesBefore neighbours degrees waves counts)
+        tally
+        (now (out .entry)) ⌝ }
 {
     let number = check_plan(neighbours, degrees, waves, counts, tally);
     if number != 0 {

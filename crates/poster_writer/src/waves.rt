@@ -10,13 +10,14 @@ ghost use mathlib.Core.Path.{_≡_};
 ghost use Prim.Native.Nat.{_+_, _*_, _≤_, _<_};
 ghost use lib.Dec.{eqb};
 ghost use lib.ListN.{length};
-ghost use Rattle.sheet_writer.specs.Put.{Puts};
-ghost use Rattle.poster_writer.specs.Put.{membersOf, linesWith, waveText, wavesText, cellLines};
+ghost use Rattle.text.specs.Places.{Room, Wrote};
+ghost use Rattle.wave_lines.specs.inner.Cells.{membersOf};
+ghost use Rattle.poster_writer.specs.inner.Cells.{linesWith, posterWave, posterWaves, cellLines};
 
 // Bank b, whose wave is w, if it is one of wave c.
 fn put_member(banks: &mut [u16], at: usize, w: Wave, c: Wave, b: Bank) -> usize
     requires { ⌜ at < length (now banks) ⌝ }
-    ensures { λ r. ⌜ Puts (cond (eqb (w .0) (c .0)) (b .0 ∷ []) []) at (now (banks .entry)) r (now (banks .exit)) ⌝ }
+    ensures { λ r. ⌜ Wrote (cond (eqb (w .0) (c .0)) (b .0 ∷ []) []) at banks r ⌝ }
 {
     if w.0 != c.0 {
         return at;
@@ -28,7 +29,7 @@ fn put_member(banks: &mut [u16], at: usize, w: Wave, c: Wave, b: Bank) -> usize
 // The banks of wave c, ascending, of n banks in all, at the front of `banks`.
 fn gather(banks: &mut [u16], waves: &[u16], n: u16, c: Wave) -> usize
     requires { ⌜ (n ≤ length (now waves)) × (n ≤ length (now banks)) ⌝ }
-    ensures { λ r. ⌜ Puts (membersOf (now (waves .entry)) (c .0) n) 0 (now (banks .entry)) r (now (banks .exit)) ⌝ }
+    ensures { λ r. ⌜ Wrote (membersOf (now (waves .entry)) (c .0) n) 0 banks r ⌝ }
 {
     let mut next = 0;
     let mut b: u16 = 0;
@@ -65,8 +66,8 @@ pub fn count_lines(waves: &[u16], n: u16, k: u16) -> usize
 
 // The lines of wave c.
 fn put_wave_of(out: &mut [u8], at: usize, waves: &[u16], n: u16, c: Wave) -> usize
-    requires { ⌜ (c .0 < 24) × (n ≤ 1024) × (n ≤ length (now waves)) × (at + length (waveText (now waves) n (c .0)) ≤ length (now out)) ⌝ }
-    ensures { λ r. ⌜ Puts (waveText (now (waves .entry)) n (c .0)) at (now (out .entry)) r (now (out .exit)) ⌝ }
+    requires { ⌜ (c .0 < 24) × (n ≤ 1024) × (n ≤ length (now waves)) × Room (posterWave (now waves) n (c .0)) at out ⌝ }
+    ensures { λ r. ⌜ Wrote (posterWave (now (waves .entry)) n (c .0)) at out r ⌝ }
 {
     let mut banks = [0u16; MOST_BANKS];
     let count = gather(&mut banks, waves, n, c);
@@ -75,8 +76,8 @@ fn put_wave_of(out: &mut [u8], at: usize, waves: &[u16], n: u16, c: Wave) -> usi
 
 // The lines of the first k waves, at the front.
 pub fn put_waves(out: &mut [u8], waves: &[u16], n: u16, k: u16) -> usize
-    requires { ⌜ (n ≤ 1024) × (k ≤ 24) × (n ≤ length (now waves)) × (length (wavesText (now waves) n k) ≤ length (now out)) ⌝ }
-    ensures { λ r. ⌜ Puts (wavesText (now (waves .entry)) n k) 0 (now (out .entry)) r (now (out .exit)) ⌝ }
+    requires { ⌜ (n ≤ 1024) × (k ≤ 24) × (n ≤ length (now waves)) × Room (posterWaves (now waves) n k) 0 out ⌝ }
+    ensures { λ r. ⌜ Wrote (posterWaves (now (waves .entry)) n k) 0 out r ⌝ }
 {
     let mut next = 0;
     let mut c: u16 = 0;

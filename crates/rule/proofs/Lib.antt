@@ -15,4 +15,5 @@ pub mod Steps
 pub mod Turned
 pub mod Reaches
 pub mod Strike
+pub mod Fixed
 pub mod Theorems

@@ -135,16 +135,21 @@ filter-filter p q (x ∷ xs) = go (p x) (filter-filter p q xs)
     go true e = ap (λ (r : List ℕ). cond (q x) (x ∷ r) r) e
     go false e = e
 
+-- one list after another
+pub filter-append : (p : ℕ → Bool) (xs ys : List ℕ) → filter p (xs ++ ys) ≡ filter p xs ++ filter p ys
+unfolding filter
+filter-append p [] ys = refl
+filter-append p (x ∷ xs) ys = go (p x) (filter-append p xs ys)
+  where
+    go : (b : Bool) → filter p (xs ++ ys) ≡ filter p xs ++ filter p ys
+        → cond b (x ∷ filter p (xs ++ ys)) (filter p (xs ++ ys)) ≡ cond b (x ∷ filter p xs) (filter p xs) ++ filter p ys
+    go true e = ap (_∷_ x) e
+    go false e = e
+
 -- one more at the end
 filter-snoc : (p : ℕ → Bool) (xs : List ℕ) (y : ℕ) → filter p (xs ++ (y ∷ [])) ≡ filter p xs ++ cond (p y) (y ∷ []) []
 unfolding filter
-filter-snoc p [] y = refl
-filter-snoc p (x ∷ xs) y = go (p x) (filter-snoc p xs y)
-  where
-    go : (t : Bool) → filter p (xs ++ (y ∷ [])) ≡ filter p xs ++ cond (p y) (y ∷ []) []
-        → cond t (x ∷ filter p (xs ++ (y ∷ []))) (filter p (xs ++ (y ∷ []))) ≡ cond t (x ∷ filter p xs) (filter p xs) ++ cond (p y) (y ∷ []) []
-    go true e = ap (_∷_ x) e
-    go false e = e
+filter-snoc p xs y = filter-append p xs (y ∷ [])
 
 pub filter-kept : (p : ℕ → Bool) (xs : List ℕ) (y : ℕ) → T (p y) → filter p (xs ++ (y ∷ [])) ≡ filter p xs ++ (y ∷ [])
 filter-kept p xs y t =

@@ -55,7 +55,8 @@ module _ (G : Graph) (a b : ℕ) where
     neighbours-less x =
         test-ext (memb x (neighbours (struck G a b) y)) (memb x (neighbours G y) && not (eqb x z))
         (λ m. (let r = neighbours-in (struck G a b) y x m in
-        both (memb x (neighbours G y)) (not (eqb x z)) (in-neighbours G y x (r .0) (and-l (G .clash y x) (not (pair a b y x)) (r .1))) (T-along (ap not (gives x)) (and-r (G .clash y x) (not (pair a b y x)) (r .1)))))
+        both (memb x (neighbours G y)) (not (eqb x z)) (in-neighbours G y x (r .0) (and-l (G .clash y x) (not (pair a b y x)) (r .1)))
+        (T-along (ap not (gives x)) (and-r (G .clash y x) (not (pair a b y x)) (r .1)))))
         (λ m. (let r = neighbours-in G y x (and-l (memb x (neighbours G y)) (not (eqb x z)) m) in
         in-neighbours (struck G a b) y x (r .0) (both (G .clash y x) (not (pair a b y x)) (r .1) (T-along (ap not (sym (gives x))) (and-r (memb x (neighbours G y)) (not (eqb x z)) m)))))
 
@@ -71,7 +72,8 @@ module _ (G : Graph) (a b : ℕ) where
     degree-less lz there =
         let is : neighbours G y ≡ insertBy ltb z (neighbours (struck G a b) y) =
         sorted-unique ltb ltb-strict _ _ (neighbours-sorted G y)
-        (sorted-insertBy ltb ltb-strict z (neighbours (struck G a b) y) (λ m. T-not (eqb z z) (and-r (memb z (neighbours G y)) (not (eqb z z)) (T-along (neighbours-less z) m)) (eq→eqb z z refl)) (neighbours-sorted (struck G a b) y))
+        (sorted-insertBy ltb ltb-strict z (neighbours (struck G a b) y) (λ m. T-not (eqb z z) (and-r (memb z (neighbours G y)) (not (eqb z z)) (T-along (neighbours-less z) m)) (eq→eqb z z refl))
+        (neighbours-sorted (struck G a b) y))
         (λ x. put-back (memb x (neighbours G y)) (eqb x z) (λ t. rw (eqb→eq x z t) (in-neighbours G y z lz there))
         ∙ ap (λ (t : Bool). eqb x z || t) (sym (neighbours-less x)) ∙ sym (memb-insertBy ltb z (neighbours (struck G a b) y) x)) in
         omega (arith, degree-length (struck G a b) y, degree-length G y, ap length is, length-insertBy ltb z (neighbours (struck G a b) y))
@@ -80,11 +82,13 @@ module _ (G : Graph) (a b : ℕ) where
   module _ (y : ℕ) (da : y ≢ a) (db : y ≢ b) where
     pub neighbours-added : neighbours (added G a b) y ≡ neighbours G y
     unfolding neighbours
-    neighbours-added = filter-cong (λ x. G .clash y x || pair a b y x) (G .clash y) (upto (G .banks)) (λ x m. ap (λ (t : Bool). G .clash y x || t) (pair-none a b y da db x) ∙ or-false (G .clash y x))
+    neighbours-added =
+        filter-cong (λ x. G .clash y x || pair a b y x) (G .clash y) (upto (G .banks)) (λ x m. ap (λ (t : Bool). G .clash y x || t) (pair-none a b y da db x) ∙ or-false (G .clash y x))
 
     pub neighbours-struck : neighbours (struck G a b) y ≡ neighbours G y
     unfolding neighbours
-    neighbours-struck = filter-cong (λ x. G .clash y x && not (pair a b y x)) (G .clash y) (upto (G .banks)) (λ x m. ap (λ (t : Bool). G .clash y x && not t) (pair-none a b y da db x) ∙ and-true (G .clash y x))
+    neighbours-struck =
+        filter-cong (λ x. G .clash y x && not (pair a b y x)) (G .clash y) (upto (G .banks)) (λ x m. ap (λ (t : Bool). G .clash y x && not t) (pair-none a b y da db x) ∙ and-true (G .clash y x))
 
     pub degree-added : degree (added G a b) y ≡ degree G y
     degree-added = degree-length (added G a b) y ∙ ap length neighbours-added ∙ sym (degree-length G y)

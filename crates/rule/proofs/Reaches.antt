@@ -9,9 +9,11 @@ use Prim.Native.Nat.{ℕ, _≤_, _<_}
 use lib.Dec.{T, eqb, ltb, ltb→lt, T-not}
 use lib.ListN.{length}
 use Rattle.rule.specs.Lists.{upto, filter, some, memb, insertBy, sortBy, Sorted, Once}
-use Rattle.rule.specs.Graph.{Graph, earlier, later, order}
+use Rattle.rule.specs.Graph.{Graph, earlier, later, order, Same}
 use Rattle.rule.specs.Wave.{wave}
-use Rattle.rule.specs.Reach.{Kind, adding, striking, changed, isNamed, isTurned, isReached, onTrail, trail, moved, inCore, around}
+use Rattle.rule.specs.Reach.{changed, isNamed, isTurned, isReached, onTrail, trail, moved, inCore, around}
+use Rattle.rule.specs.declared.Kind.{Kind}
+use Rattle.rule.specs.declared.Kind.the-variants.{Adding, Striking}
 use Rattle.rule.proofs.Booleans.{and-l, and-r, both, or-l, or-r, or-cases, T-along, eq→eqb}
 use Rattle.rule.proofs.Lists.{in-head, in-tail, in-upto, upto-below, some-in, in-some, count-le}
 use Rattle.rule.proofs.Order.{earlier-strict}
@@ -91,8 +93,8 @@ module _ (k : Kind) (old new : Graph) (a b : ℕ) (la : a < new .banks) (lb : b 
 
   turned-clash : (e : Kind) (y x : ℕ) → T (isTurned e old new y x) → T (new .clash y x)
   unfolding isTurned
-  turned-clash adding y x t = and-l (new .clash y x) (earlier old x y && later new x y) t
-  turned-clash striking y x t = and-l (new .clash y x) (later old x y && earlier new x y) t
+  turned-clash Adding y x t = and-l (new .clash y x) (earlier old x y && later new x y) t
+  turned-clash Striking y x t = and-l (new .clash y x) (later old x y && earlier new x y) t
 
   named-a : T (isNamed a b a)
   unfolding isNamed
@@ -126,11 +128,7 @@ module _ (k : Kind) (old new : Graph) (a b : ℕ) (la : a < new .banks) (lb : b 
   trail-bound =
       omega (arith, count-order new (onTrail k old new a b), count-le (onTrail k old new a b) near (upto (new .banks)) (λ x m t. trail-near x t))
 
--- two sets of clashes that agree between the banks
-pub record Same (G H : Graph) : Type 0 where
-  pub banks : G .banks ≡ H .banks
-  pub clash : (x y : ℕ) → x < H .banks → y < H .banks → G .clash x y ≡ H .clash x y
-
+-- of two sets of clashes that agree between the banks
 module _ {G H : Graph} (s : Same G H) where
   same-earlier : (x y : ℕ) → x < H .banks → y < H .banks → earlier G x y ≡ earlier H x y
   same-earlier = earlier-agree G H (s .banks) (s .clash)
@@ -166,8 +164,8 @@ module _ {old new old′ new′ : Graph} (o : Same old old′) (n : Same new new
 
   turned-agree : (k : Kind) (y x : ℕ) → y < new′ .banks → x < new′ .banks → isTurned k old new y x ≡ isTurned k old′ new′ y x
   unfolding isTurned later
-  turned-agree adding y x hy hx = rw (n .clash y x hy hx, same-earlier o x y (rw banks hx) (rw banks hy), same-earlier n x y hx hy)
-  turned-agree striking y x hy hx = rw (n .clash y x hy hx, same-earlier o x y (rw banks hx) (rw banks hy), same-earlier n x y hx hy)
+  turned-agree Adding y x hy hx = rw (n .clash y x hy hx, same-earlier o x y (rw banks hx) (rw banks hy), same-earlier n x y hx hy)
+  turned-agree Striking y x hy hx = rw (n .clash y x hy hx, same-earlier o x y (rw banks hx) (rw banks hy), same-earlier n x y hx hy)
 
   some-agree : (p q : ℕ → Bool) (xs : List ℕ) → ((x : ℕ) → T (memb x xs) → p x ≡ q x) → some p xs ≡ some q xs
   unfolding some

@@ -8,9 +8,10 @@ use Prim.Native.Nat.{ℕ, _≤_, _<_}
 use lib.Dec.{T, ltb, eqb}
 use lib.ListN.{length}
 use Rattle.rule.specs.Lists.{memb, insertBy, Sorted, Once, Strict}
-use Rattle.rule.specs.Graph.{Graph, degree, earlier, earlierNeighbours, order}
+use Rattle.rule.specs.Graph.{Graph, degree, earlier, earlierNeighbours, order, Same}
 use Rattle.rule.specs.Wave.{lowestFree, wave}
-use Rattle.rule.specs.Reach.{Kind, edited, changed, isTurned, onTrail, trail, moved, around}
+use Rattle.rule.specs.Reach.{edited, changed, isTurned, onTrail, trail, moved, around}
+use Rattle.rule.specs.declared.Kind.{Kind}
 use Rattle.rule.specs.WorkList.{OneEdit, Allowed, turned, seed, isTaken, taken, WorkList, Next}
 use Rattle.rule.proofs.Free
 use Rattle.rule.proofs.Order
@@ -22,7 +23,7 @@ use Rattle.rule.proofs.Spread
 use Rattle.rule.proofs.Steps
 use Rattle.rule.proofs.Turned
 use Rattle.rule.proofs.Reaches
-use Rattle.rule.proofs.Reaches.{Same}
+use Rattle.rule.proofs.Fixed
 use Rattle.rule.proofs.Booleans.{T-along, and-l, and-r, both}
 use Rattle.rule.proofs.Lists.{filter-true}
 
@@ -77,6 +78,11 @@ module _ {old new old′ new′ : Graph} (o : Same old old′) (n : Same new new
 
   pub trail-agree : (k : Kind) (a b : ℕ) → a < new′ .banks → b < new′ .banks → trail k old new a b ≡ trail k old′ new′ a b
   trail-agree = Reaches.trail-agree o n banks
+
+-- the old and the new clashes fix the trail of an edit, whatever its kind, and whichever of its banks is named first
+pub trail-fixed : {G H : Graph} (k k′ : Kind) (a b a′ b′ : ℕ) → a < G .banks → b < G .banks → Allowed k G a b
+    → Same G H → Same (edited k G a b) (edited k′ H a′ b′) → trail k G (edited k G a b) a b ≡ trail k′ H (edited k′ H a′ b′) a′ b′
+trail-fixed = Fixed.trail-fixed
 
 -- 5. the trail and the moved list are in the new order, name none twice, and name exactly the banks of their test
 module _ (k : Kind) (old new : Graph) (a b : ℕ) where

@@ -9,7 +9,9 @@ use Prim.Native.Nat.{ℕ, _+_, _<_}
 use lib.Dec.{T, eqb, ltb, eqb→eq, ltb→lt, lt→ltb}
 use Rattle.rule.specs.Order.{earlierBy}
 use Rattle.rule.specs.Graph.{Graph, degree, earlier, later, order, added, struck}
-use Rattle.rule.specs.Reach.{Kind, adding, striking, edited, isNamed, isTurned, isReached, onTrail, trail}
+use Rattle.rule.specs.Reach.{edited, isNamed, isTurned, isReached, onTrail, trail}
+use Rattle.rule.specs.declared.Kind.{Kind}
+use Rattle.rule.specs.declared.Kind.the-variants.{Adding, Striking}
 use Rattle.rule.specs.WorkList.{OneEdit, Allowed, turned, seed, isTaken, taken}
 use Rattle.rule.proofs.Booleans.{and-l, and-r, both, or-l, or-r, or-cases, T-along, eq→eqb}
 use Rattle.rule.proofs.Lists.{filter-cong}
@@ -90,12 +92,12 @@ module _ (G : Graph) (symmetric : (x y : ℕ) → x < G .banks → y < G .banks 
   pub is-turned : (k : Kind) → Allowed k G a b → (x : ℕ)
       → (isTurned k G (edited k G a b) a x ≡ turned G (edited k G a b) a x) × (isTurned k G (edited k G a b) b x ≡ turned G (edited k G a b) b x)
   unfolding isTurned turned edited later
-  is-turned adding free x =
+  is-turned Adding free x =
       let r = added-raised free in (
         ap (λ (t : Bool). added G a b .clash a x && t) (turns-down (earlier G x a) (earlier (added G a b) x a) (still-earlier G (added G a b) a b r x)),
         ap (λ (t : Bool). added G a b .clash b x && t) (turns-down (earlier G x b) (earlier (added G a b) x b) (still-earlier G (added G a b) b a (raised-swap r) x)),
       )
-  is-turned striking there x =
+  is-turned Striking there x =
       let r = struck-raised there in (
         ap (λ (t : Bool). struck G a b .clash a x && t) (turns-up (earlier G x a) (earlier (struck G a b) x a) (still-earlier (struck G a b) G a b r x)),
         ap (λ (t : Bool). struck G a b .clash b x && t) (turns-up (earlier G x b) (earlier (struck G a b) x b) (still-earlier (struck G a b) G b a (raised-swap r) x)),
@@ -117,5 +119,5 @@ module _ (G : Graph) (symmetric : (x y : ℕ) → x < G .banks → y < G .banks 
   -- and it is one edit
   pub edited-one : (k : Kind) → OneEdit G (edited k G a b) a b
   unfolding edited
-  edited-one adding = added-one G symmetric a b
-  edited-one striking = struck-one G symmetric a b
+  edited-one Adding = added-one G symmetric a b
+  edited-one Striking = struck-one G symmetric a b

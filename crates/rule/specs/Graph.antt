@@ -1,7 +1,8 @@
 -- A set of clashes, and the rule order of its banks (01, "The rule"). It is a simple graph: banks are its vertices, clashes its edges.
 use mathlib.Core.Bool.{Bool, false, _&&_, _||_, not}
 use mathlib.Core.List.{List}
-use Prim.Native.Nat.{ℕ}
+use mathlib.Core.Path.{_≡_}
+use Prim.Native.Nat.{ℕ, _<_}
 use lib.Dec.{eqb}
 use lib.ListN.{length}
 use Rattle.rule.specs.Lists.{upto, filter, sortBy}
@@ -51,3 +52,8 @@ added G a b = record { banks = G .banks; clash = λ x y. G .clash x y || pair a 
 -- these clashes with that of a and b struck
 abbrev pub struck : Graph → ℕ → ℕ → Graph
 struck G a b = record { banks = G .banks; clash = λ x y. G .clash x y && not (pair a b x y) }
+
+-- two sets of clashes of as many banks, equal between the banks
+pub record Same (G H : Graph) : Type 0 where
+  pub banks : G .banks ≡ H .banks
+  pub clash : (x y : ℕ) → x < H .banks → y < H .banks → G .clash x y ≡ H .clash x y

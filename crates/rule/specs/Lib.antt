@@ -1,8 +1,8 @@
--- What a reader must believe of the rule: Lists, Order, Graph, Wave, Reach. Examples tests them. WorkList serves the proofs.
+-- What a reader must believe of the rule: Lists, Order, Graph, Wave, Reach, Numbers. WorkList serves the proofs.
 pub mod Lists
 pub mod Order
 pub mod Graph
 pub mod Wave
 pub mod Reach
-pub mod Examples
+pub mod Numbers
 pub mod WorkList

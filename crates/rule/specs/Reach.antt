@@ -6,15 +6,18 @@ use lib.Dec.{eqb}
 use Rattle.rule.specs.Lists.{upto, filter, some}
 use Rattle.rule.specs.Graph.{Graph, earlier, later, order, added, struck}
 use Rattle.rule.specs.Wave.{wave}
-
--- the two kinds of edit
-pub data Kind : Type 0 where
-  adding striking : Kind
+use Rattle.rule.specs.declared.Kind.{Kind}
+use Rattle.rule.specs.declared.Kind.the-variants.{Adding, Striking}
 
 -- the new clashes: the old ones with that of a and b added or struck
 unfoldable pub edited : Kind → Graph → ℕ → ℕ → Graph
-edited adding old a b = added old a b
-edited striking old a b = struck old a b
+edited Adding old a b = added old a b
+edited Striking old a b = struck old a b
+
+-- the kind of the edit that takes an edit back
+abbrev pub inverse : Kind → Kind
+inverse Adding = Striking
+inverse Striking = Adding
 
 -- the rule wave of x changed
 unfoldable pub changed : Graph → Graph → ℕ → Bool
@@ -26,8 +29,8 @@ isNamed a b x = eqb x a || eqb x b
 
 -- (ii) x is a neighbour, after the edit, of y that was earlier than it and is now later (add), or was later and is now earlier (strike)
 unfoldable pub isTurned : Kind → Graph → Graph → ℕ → ℕ → Bool
-isTurned adding old new y x = new .clash y x && (earlier old x y && later new x y)
-isTurned striking old new y x = new .clash y x && (later old x y && earlier new x y)
+isTurned Adding old new y x = new .clash y x && (earlier old x y && later new x y)
+isTurned Striking old new y x = new .clash y x && (later old x y && earlier new x y)
 
 -- (iii) x clashes with an earlier bank, in the new order, whose rule wave changed
 unfoldable pub isReached : Graph → Graph → ℕ → Bool

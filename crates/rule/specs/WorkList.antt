@@ -7,7 +7,9 @@ use Prim.Native.Nat.{ℕ, _<_}
 use lib.Dec.{T}
 use Rattle.rule.specs.Lists.{filter}
 use Rattle.rule.specs.Graph.{Graph, earlier, order, pair}
-use Rattle.rule.specs.Reach.{Kind, adding, striking, changed, isNamed, isReached}
+use Rattle.rule.specs.Reach.{changed, isNamed, isReached}
+use Rattle.rule.specs.declared.Kind.{Kind}
+use Rattle.rule.specs.declared.Kind.the-variants.{Adding, Striking}
 
 -- the two sets of clashes differ at most in the clash of a and b, and a new clash goes both ways
 pub record OneEdit (old new : Graph) (a b : ℕ) : Type 0 where
@@ -17,8 +19,8 @@ pub record OneEdit (old new : Graph) (a b : ℕ) : Type 0 where
 
 -- an add has no clash of a and b before it, a strike has one
 abbrev pub Allowed : Kind → Graph → ℕ → ℕ → Type 0
-Allowed adding G a b = T (G .clash a b) → ⊥
-Allowed striking G a b = T (G .clash a b)
+Allowed Adding G a b = T (G .clash a b) → ⊥
+Allowed Striking G a b = T (G .clash a b)
 
 -- x clashes with y, and their order turned over, whichever way
 unfoldable pub turned : Graph → Graph → ℕ → ℕ → Bool

@@ -8,6 +8,12 @@ pub struct Bank(pub u16);
 // A wave's number: the colour of a vertex.
 pub struct Wave(pub u16);
 
+// The two kinds of edit of one clash.
+pub enum Kind {
+    Adding,
+    Striking,
+}
+
 // The most banks of a plan.
 pub const MOST_BANKS: usize = 1024;
 

@@ -4,23 +4,20 @@ use crate::lines::put_lines;
 use memory::Tally;
 use planner::check_plan;
 use rule::wide;
+use wave_lines::Written;
 ghost use mathlib.Core.Path.{_≡_};
 ghost use mathlib.Core.List.{map};
 ghost use Prim.Native.Nat.{_+_, _*_, _≤_};
 ghost use lib.ListN.{length};
 ghost use Rattle.rule.specs.Lists.{upto};
-ghost use Rattle.memory.specs.Plan.{slicesOf};
-ghost use Rattle.sheet_writer.specs.Sheet.{joined, bankText, headText};
-ghost use Rattle.sheet_writer.specs.Calls.{textResult, writeSheet};
+ghost use Rattle.memory.specs.Lent.{slicesBefore};
+ghost use Rattle.text.specs.Text.{joined};
+ghost use Rattle.wave_lines.specs.Calls.{textResult};
+ghost use Rattle.sheet_writer.specs.Sheet.{bankText, headText};
+ghost use Rattle.sheet_writer.specs.Calls.{writeSheet};
 
 // The bytes of the longest sheet, that of 1,024 banks in 24 waves: 9 of `WAVES 24`, 2 for each line, and 4,010 of the banks.
 pub const LONGEST_SHEET: usize = 4067;
-
-// The answer of write_sheet: 01's number, and the bytes of the sheet.
-pub struct Written {
-    pub number: u16,
-    pub length: usize,
-}
 
 // The bytes of the banks on their lines, each with its space.
 fn banks_length(banks: u16) -> usize
@@ -61,7 +58,11 @@ pub fn write_sheet(
     tally: Tally,
     out: &mut [u8],
 ) -> Written
-    ensures { λ r. ⌜ textResult r (now (out .exit)) ≡ writeSheet (slicesOf (now (neighbours .entry)) (now (degrees .entry)) (now (waves .entry)) (now (counts .entry))) tally (now (out .entry)) ⌝ }
+    ensures { λ r. ⌜ textResult r (now (out .exit))
+        ≡ writeSheet
+        (slicesBefore neighbours degrees waves counts)
+        tally
+        (now (out .entry)) ⌝ }
 {
     let number = check_plan(neighbours, degrees, waves, counts, tally);
     if number != 0 {

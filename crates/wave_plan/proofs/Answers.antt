@@ -1,4 +1,5 @@
 -- Where the clashes of a bank stand.
+use mathlib.Core.List.{List}
 use mathlib.Core.Path.{_≡_, refl, sym, ap, ap₂, _∙_}
 use Prim.Native.Nat.{ℕ, zero, suc, _+_, _*_, _-_, _≤_, _<_}
 use native.Mathlib.Omega.{arith}
@@ -13,24 +14,21 @@ use Rattle.memory.proofs.Theorems.{holds-plan}
 use Rattle.planner.specs.Calls.{bankNumber, clashesOf}
 use Rattle.planner.proofs.Numbers as Numbers
 use Rattle.planner.proofs.Rows as Rows
-use Rattle.wave_plan.specs.Calls.{startBy}
+use Rattle.wave_plan.specs.Calls.{rowStart}
+
+pub row-start-none : (b number : ℕ) → number ≡ 0 → 23 * b ≡ rowStart number b
+unfolding rowStart
+row-start-none b number none = rw none
+
+pub row-start-some : (b number : ℕ) → (number ≡ 0 → ⊥) → 0 ≡ rowStart number b
+row-start-some b zero some = absurd (some refl)
+row-start-some b (suc c) some = unfold rowStart in refl
 
 module _ (b : ℕ) (s : Slices) (t : Tally) where
   abbrev G : Graph
   G = graphIn (t .banks) s
 
-  pub refused-start : (bankNumber b s t ≡ 0 → ⊥) → startBy (bankNumber b s t) b ≡ 0
-  refused-start = go (bankNumber b s t)
-    where
-      go : (c : ℕ) → (c ≡ 0 → ⊥) → startBy c b ≡ 0
-      go zero h = absurd (h refl)
-      go (suc c) h = unfold startBy in refl
-
   module _ (none : bankNumber b s t ≡ 0) where
-    pub found-start : startBy (bankNumber b s t) b ≡ 23 * b
-    unfolding startBy
-    found-start = rw none
-
     few : t .banks ≤ 1024
     unfolding bankNumber
     few = leb-true (t .banks) 1024 (Numbers.none _ 0 _ none .0)
@@ -53,8 +51,8 @@ module _ (b : ℕ) (s : Slices) (t : Tally) where
     counted : length (clashesOf b s t) ≡ getD (s .degrees) b 0
     counted = ap length found ∙ sym (degree-length G b) ∙ sym (Rows.plan-degree plan below)
 
-    pub few-clashes : length (clashesOf b s t) ≤ 23
-    few-clashes = omega (arith, counted, Rows.few-cells plan below)
+    few-found : length (clashesOf b s t) ≤ 23
+    few-found = omega (arith, counted, Rows.few-cells plan below)
 
     -- the filled part of the row
     pub row-part : take (length (clashesOf b s t)) (drop (23 * b) (s .neighbours)) ≡ clashesOf b s t
@@ -63,3 +61,16 @@ module _ (b : ℕ) (s : Slices) (t : Tally) where
         let l : length (clashesOf b s t) ≡ b * 23 + d - b * 23 = omega (arith, counted) in
         let k : 23 * b ≡ b * 23 = omega arith in
         ap₂ (λ (x y : ℕ). take x (drop y (s .neighbours))) l k ∙ Rows.row-part plan below b d refl refl ∙ sym found
+
+  -- what the results of wave_plan_clashes_of name, by the number
+  pub part-at : (c : ℕ) → bankNumber b s t ≡ c → take (length (clashesOf b s t)) (drop (rowStart c b) (s .neighbours)) ≡ clashesOf b s t
+  unfolding rowStart
+  part-at zero e = row-part e
+  part-at (suc c) e = rw (← Rows.clashes-refused b s t (suc c) (sym e) (λ z. absurd (omega arith)))
+
+  pub few-clashes : (part : List ℕ) → part ≡ clashesOf b s t → length part ≤ 23
+  few-clashes part is = rw is (by (bankNumber b s t) refl)
+    where
+      by : (c : ℕ) → bankNumber b s t ≡ c → length (clashesOf b s t) ≤ 23
+      by zero e = few-found e
+      by (suc c) e = rw (← Rows.clashes-refused b s t (suc c) (sym e) (λ z. absurd (omega arith))) (omega arith)

@@ -1,203 +1,122 @@
--- What each function leaves, of what its calls left: by the definition of its call.
+-- What each function leaves, of what its calls left: by the definition of its call. `short` is what `room` answered.
 use mathlib.Core.List.{List, [], _∷_}
-use mathlib.Core.Path.{_≡_, refl, sym, ap, ap₂, _∙_}
-use Prim.Native.Nat.{ℕ, _*_, _≤_}
-use native.Mathlib.Omega.{arith}
-use lib.ListN.{length, getD, take, drop}
-use Rattle.rule.specs.Graph.{Graph}
-use Rattle.rule.specs.Reach.{Kind}
+use mathlib.Core.Path.{_≡_, ap, ap₂, _∙_}
+use Prim.Native.Nat.{ℕ}
+use lib.ListN.{length, take}
+use Rattle.rule.specs.declared.Kind.{Kind}
 use Rattle.memory.specs.declared.Tally.{Tally}
 use Rattle.memory.specs.Cells.{over}
 use Rattle.memory.specs.Plan.{Slices}
-use Rattle.planner.specs.declared.Edited.{Edited}
-use Rattle.planner.specs.Calls.{Memory, OpenResult, openResult, opened, EditResult, editResult, edit, bankNumber, waveOf, clashesOf}
-use Rattle.planner.proofs.Rows as Rows
-use Rattle.list_reader.specs.declared.pass.Listed.{Listed}
-use Rattle.list_reader.specs.Pass.{ListResult, listResult, readList}
-use Rattle.sheet_writer.specs.declared.sheet.Written.{Written}
-use Rattle.sheet_writer.specs.Calls.{TextResult, textResult, writeText}
-use Rattle.journal.specs.declared.start.Started.{Started}
-use Rattle.journal.specs.declared.record.RecordedEdit.{RecordedEdit}
-use Rattle.journal_replay.specs.declared.rerun.ReplayedPlan.{ReplayedPlan}
-use Rattle.journal.specs.Calls.{StartResult, startResult, started, RecordResult, recordResult, recorded}
-use Rattle.journal_replay.specs.Replay.{ReplayResult, replayResult, replayed}
-use Rattle.c_cells.specs.Lent.{tallyIn, tallyCells, Lent, memoryIn, leaving}
-use Rattle.wave_plan.specs.Calls.{openLeft, openDone, openCall, Left, left, editDone, editCall, listDone, listCall, told, waveDone, waveCall, startBy, clashesDone, clashesCall, partNamed, textLeft, textDone, textCall}
-use Rattle.wave_plan.specs.Journals.{startLeft, startDone, startCall, recordLeft, recordDone, recordCall, replayDone, replayCall}
-use Rattle.c_cells.specs.Put.{AnswerPut}
-use Rattle.wave_plan.proofs.Answers.{refused-start, found-start, row-part}
-use Rattle.wave_plan.proofs.Room.{room}
+use Rattle.memory.specs.Memory.{Memory, memoryOf}
+use Rattle.planner.specs.Calls.{OpenResult, opened, bankNumber, waveOf, clashesOf}
+use Rattle.journal.specs.Calls.{RecordResult, recorded}
+use Rattle.c_cells.specs.CellMemory.{tallyIn, tallyCells, shortNumber, CellMemory, cellsOf, answered}
+use Rattle.c_cells.proofs.Rooms.{roomed-none}
+use Rattle.c_cells.proofs.Calls.{on-memory, put-as, refused, called}
+use Rattle.wave_plan.specs.declared.sources.Source.{Source}
+use Rattle.wave_plan.specs.declared.sources.Source.the-variants.{FromList, FromJournal}
+use Rattle.wave_plan.specs.declared.sources.Made.{Made}
+use Rattle.wave_plan.specs.Calls.{openAnswered, openDone, openCall, listOutcome, listCall, bankAnswered, waveDone, waveCall}
+use Rattle.wave_plan.specs.Calls.{rowStart, clashesDone, clashesCall, TextOutcome, textAnswered, textDone, textCall}
+use Rattle.wave_plan.specs.Journals.{recordAnswered, recordDone, recordCall, replayOutcome, replayCall}
+use Rattle.wave_plan.specs.inner.Sources.{resultsOf, MadeFrom, sourceCall}
 
-module _ (n : ℕ) (s : Slices) (tally : List ℕ) where
-  pub open-done : (t : Tally) (number : ℕ) (s′ : Slices) (t′ : Tally) (tally′ : List ℕ)
-      → 3 ≤ length tally
+module _ (s : Slices) (tally : List ℕ) (short : ℕ) (is : short ≡ shortNumber 0 (length tally) 0) where
+  pub open-done : (n : ℕ) (t : Tally) (o : OpenResult) (tally′ : List ℕ)
+      → short ≡ 0
       → t ≡ tallyIn tally
-      → openResult number s′ t′ ≡ opened n s t
-      → tally′ ≡ over (tallyCells t′) tally
-      → openLeft number s′ tally′ ≡ openCall n s tally
+      → o ≡ opened n s t
+      → tally′ ≡ over (tallyCells (o .tally)) tally
+      → openAnswered (o .number) (o .slices) tally′ ≡ openCall n s tally
   unfolding openCall openDone
-  open-done t number s′ t′ tally′ h is call put =
-      ap (openLeft number s′) put
-      ∙ ap (λ (o : OpenResult). openDone o tally) (call ∙ ap (opened n s) is)
-      ∙ room 0 tally [] (λ c. openLeft c s tally) _ h (omega arith)
+  open-done n t o tally′ none at made put =
+      ap (openAnswered (o .number) (o .slices)) put
+      ∙ ap (λ (x : OpenResult). openDone x tally) (made ∙ ap (opened n s) at)
+      ∙ roomed-none 0 (length tally) 0 short is (λ c. openAnswered c s tally) _ none
 
-abbrev memory-with : Slices → Tally → List ℕ → List ℕ → Memory
-memory-with s t trail moved = record { slices = s; tally = t; trail = trail; moved = moved }
-
-abbrev lent-with : Slices → List ℕ → List ℕ → List ℕ → List ℕ → Lent
-lent-with s trail moved tally result = record { slices = s; trail = trail; moved = moved; tally = tally; result = result }
-
-module _ (l : Lent) where
-  -- a call on the lent slices and the tally that was read from its cells is a call on the lent memory
-  on-lent : {R : Type 0} (f : Memory → R) (t : Tally) (x : R)
-      → t ≡ tallyIn (l .tally)
-      → x ≡ f (memory-with (l .slices) t (l .trail) (l .moved))
-      → x ≡ f (memoryIn l)
-  unfolding memoryIn
-  on-lent f t x is call = call ∙ ap (λ (u : Tally). f (memory-with (l .slices) u (l .trail) (l .moved))) is
-
-  -- what it leaves, its answer put into the cells
-  left-as : (number : ℕ) (t : Tally) (results : List ℕ) (s : Slices) (trail moved : List ℕ) (r : ℕ) (tally′ result′ : List ℕ)
-      → AnswerPut number t results (l .tally) (l .result) r tally′ result′
-      → left r (lent-with s trail moved tally′ result′) ≡ left number (leaving (memory-with s t trail moved) results l)
-  unfolding leaving
-  left-as number t results s trail moved r tally′ result′ put =
-      rw (put .answered) (ap₂ (λ (x y : List ℕ). left number (lent-with s trail moved x y)) (put .tallied) (put .told))
-
-  pub edit-done : (k : Kind) (a b : ℕ) (t : Tally) (e : Edited) (s : Slices) (trail moved : List ℕ) (r : ℕ) (tally′ result′ : List ℕ)
-      → 3 ≤ length (l .tally)
-      → 2 ≤ length (l .result)
-      → t ≡ tallyIn (l .tally)
-      → editResult (e .answer) (memory-with s (e .tally) trail moved) ≡ edit k a b (memory-with (l .slices) t (l .trail) (l .moved))
-      → AnswerPut (e .answer .number) (e .tally) (e .answer .moved ∷ e .answer .trail ∷ []) (l .tally) (l .result) r tally′ result′
-      → left r (lent-with s trail moved tally′ result′) ≡ editCall k a b l
-  unfolding editCall editDone
-  edit-done k a b t e s trail moved r tally′ result′ h i is call put =
-      left-as _ _ _ s trail moved r tally′ result′ put
-      ∙ ap (λ (e : EditResult). editDone e l) (on-lent (edit k a b) t _ is call)
-      ∙ room 2 (l .tally) (l .result) (λ c. left c l) _ h i
-
-  pub list-done : (bytes : List ℕ) (t : Tally) (x : Listed) (s : Slices) (trail moved : List ℕ) (r : ℕ) (tally′ result′ : List ℕ)
-      → 3 ≤ length (l .tally)
-      → 1 ≤ length (l .result)
-      → t ≡ tallyIn (l .tally)
-      → listResult (x .answer) (memory-with s (x .tally) trail moved) ≡ readList bytes (memory-with (l .slices) t (l .trail) (l .moved))
-      → AnswerPut (x .answer .number) (x .tally) (x .answer .row ∷ []) (l .tally) (l .result) r tally′ result′
-      → left r (lent-with s trail moved tally′ result′) ≡ listCall bytes l
-  unfolding listCall listDone
-  list-done bytes t x s trail moved r tally′ result′ h i is call put =
-      left-as _ _ _ s trail moved r tally′ result′ put
-      ∙ ap (λ (y : ListResult). listDone y l) (on-lent (readList bytes) t _ is call)
-      ∙ room 1 (l .tally) (l .result) (λ c. left c l) _ h i
-
-  pub record-done : (k : Kind) (a b size : ℕ) (journal : List ℕ) (t : Tally) (e : RecordedEdit) (s : Slices) (trail moved : List ℕ)
-      (r : ℕ) (tally′ result′ journal′ : List ℕ)
-      → 3 ≤ length (l .tally)
-      → 3 ≤ length (l .result)
-      → t ≡ tallyIn (l .tally)
-      → recordResult (e .answer) (memory-with s (e .tally) trail moved) journal′ ≡ recorded k a b (memory-with (l .slices) t (l .trail) (l .moved)) size journal
-      → AnswerPut (e .answer .number) (e .tally) (e .answer .moved ∷ e .answer .trail ∷ e .answer .length ∷ []) (l .tally) (l .result) r tally′ result′
-      → recordLeft r (lent-with s trail moved tally′ result′) journal′ ≡ recordCall k a b l size journal
-  unfolding recordCall recordDone
-  record-done k a b size journal t e s trail moved r tally′ result′ journal′ h i is call put =
-      ap (λ (x : Left). recordLeft (x .number) (x .lent) journal′) (left-as _ _ _ s trail moved r tally′ result′ put)
-      ∙ ap (λ (x : RecordResult). recordDone x l) (on-lent (λ (m : Memory). recorded k a b m size journal) t _ is call)
-      ∙ room 3 (l .tally) (l .result) (λ c. recordLeft c l journal) _ h i
-
-  pub replay-done : (bytes : List ℕ) (t : Tally) (x : ReplayedPlan) (s : Slices) (trail moved : List ℕ) (r : ℕ) (tally′ result′ : List ℕ)
-      → 3 ≤ length (l .tally)
-      → 2 ≤ length (l .result)
-      → t ≡ tallyIn (l .tally)
-      → replayResult (x .answer) (memory-with s (x .tally) trail moved) ≡ replayed bytes (memory-with (l .slices) t (l .trail) (l .moved))
-      → AnswerPut (x .answer .number) (x .tally) (x .answer .field ∷ x .answer .left ∷ []) (l .tally) (l .result) r tally′ result′
-      → left r (lent-with s trail moved tally′ result′) ≡ replayCall bytes l
-  unfolding replayCall replayDone
-  replay-done bytes t x s trail moved r tally′ result′ h i is call put =
-      left-as _ _ _ s trail moved r tally′ result′ put
-      ∙ ap (λ (y : ReplayResult). replayDone y l) (on-lent (replayed bytes) t _ is call)
-      ∙ room 2 (l .tally) (l .result) (λ c. left c l) _ h i
-
-module _ (b : ℕ) (s : Slices) (tally result : List ℕ) where
-  pub wave-done : (t : Tally) (number wave : ℕ) (result′ : List ℕ)
-      → 3 ≤ length tally
-      → 1 ≤ length result
-      → t ≡ tallyIn tally
+module _ (s : Slices) (tally result : List ℕ) (short b : ℕ) (t : Tally) (at : t ≡ tallyIn tally) (none : short ≡ 0) where
+  pub wave-done : (number wave : ℕ) (result′ : List ℕ)
+      → short ≡ shortNumber 1 (length tally) (length result)
       → number ≡ bankNumber b s t
       → wave ≡ waveOf b s t
       → result′ ≡ over (wave ∷ []) result
-      → told number result′ ≡ waveCall b s tally result
+      → bankAnswered number result′ ≡ waveCall b s tally result
   unfolding waveCall waveDone
-  wave-done t number wave result′ h i is num call put =
-      ap₂ told (num ∙ ap (bankNumber b s) is) (put ∙ ap (λ (w : ℕ). over (w ∷ []) result) (call ∙ ap (waveOf b s) is))
-      ∙ room 1 tally result (λ c. told c result) _ h i
+  wave-done number wave result′ is num call put =
+      rw (← at)
+      (ap₂ bankAnswered num (put ∙ ap (λ (w : ℕ). over (w ∷ []) result) call)
+      ∙ roomed-none 1 (length tally) (length result) short is (λ c. bankAnswered c result) _ none)
 
-  module _ (t : Tally) (number : ℕ) (long : 3 ≤ length tally) (wide : 2 ≤ length result) (is : t ≡ tallyIn tally) (num : number ≡ bankNumber b s t) where
-    told-as : (start : ℕ) (part result′ : List ℕ)
-        → start ≡ startBy (bankNumber b s t) b
-        → part ≡ clashesOf b s t
-        → result′ ≡ over (start ∷ length part ∷ []) result
-        → told number result′ ≡ clashesCall b s tally result
-    unfolding clashesCall clashesDone
-    told-as start part result′ begins call put =
-        rw (← is)
-        (ap₂ told num (put ∙ ap₂ (λ (x : ℕ) (l : List ℕ). over (x ∷ length l ∷ []) result) begins call)
-        ∙ room 2 tally result (λ c. told c result) _ long wide)
+  pub clashes-done : (number start : ℕ) (part result′ : List ℕ)
+      → short ≡ shortNumber 2 (length tally) (length result)
+      → number ≡ bankNumber b s t
+      → start ≡ rowStart number b
+      → part ≡ clashesOf b s t
+      → result′ ≡ over (start ∷ length part ∷ []) result
+      → bankAnswered number result′ ≡ clashesCall b s tally result
+  unfolding clashesCall clashesDone
+  clashes-done number start part result′ is num begins call put =
+      let starts : start ≡ rowStart (bankNumber b s t) b = begins ∙ ap (λ (c : ℕ). rowStart c b) num in
+      rw (← at)
+      (ap₂ bankAnswered num (put ∙ ap₂ (λ (x : ℕ) (l : List ℕ). over (x ∷ length l ∷ []) result) starts call)
+      ∙ roomed-none 2 (length tally) (length result) short is (λ c. bankAnswered c result) _ none)
 
-    part-as : (start : ℕ) (part result′ : List ℕ)
-        → take (length part) (drop start (s .neighbours)) ≡ part
-        → part ≡ clashesOf b s t
-        → result′ ≡ over (start ∷ length part ∷ []) result
-        → partNamed result′ (s .neighbours) ≡ clashesOf b s (tallyIn tally)
-    unfolding partNamed over
-    part-as start part result′ stands call put =
-        ap (λ (l : List ℕ). take (getD l 1 0) (drop (getD l 0 0) (s .neighbours))) put ∙ (stands ∙ (call ∙ ap (clashesOf b s) is))
-
-    pub clashes-refused : (result′ : List ℕ)
-        → (number ≡ 0 → ⊥)
-        → result′ ≡ over (0 ∷ 0 ∷ []) result
-        → (told number result′ ≡ clashesCall b s tally result) × (partNamed result′ (s .neighbours) ≡ clashesOf b s (tallyIn tally))
-    clashes-refused result′ some put =
-        let no : bankNumber b s t ≡ 0 → ⊥ = λ e. some (num ∙ e) in
-        let none : [] ≡ clashesOf b s t = Rows.clashes-refused b s t number num some in
-        (told-as 0 [] result′ (sym (refused-start b s t no)) none put, part-as 0 [] result′ refl none put)
-
-    pub clashes-found : (start : ℕ) (part result′ : List ℕ)
-        → number ≡ 0
-        → start ≡ 23 * b
-        → part ≡ clashesOf b s t
-        → result′ ≡ over (start ∷ length part ∷ []) result
-        → (told 0 result′ ≡ clashesCall b s tally result) × (partNamed result′ (s .neighbours) ≡ clashesOf b s (tallyIn tally))
-    clashes-found start part result′ none at call put =
-        let zeroed : bankNumber b s t ≡ 0 = sym num ∙ none in
-        let stands : take (length part) (drop start (s .neighbours)) ≡ part = rw (at, call) (row-part b s t zeroed) in (
-          ap (λ (x : ℕ). told x result′) (sym none) ∙ told-as start part result′ (at ∙ sym (found-start b s t zeroed)) call put,
-          part-as start part result′ stands call put,
-        )
-
-module _ (text : Graph → List ℕ) (s : Slices) (tally out result : List ℕ) where
-  pub text-done : (t : Tally) (answer : Written) (out′ result′ : List ℕ)
-      → 3 ≤ length tally
-      → 1 ≤ length result
+module _ (write : Slices → Tally → List ℕ → TextOutcome) (s : Slices) (tally out result : List ℕ) (short : ℕ) where
+  pub text-done : (t : Tally) (x : TextOutcome) (result′ : List ℕ)
+      → short ≡ shortNumber 1 (length tally) (length result)
+      → short ≡ 0
       → t ≡ tallyIn tally
-      → textResult answer out′ ≡ writeText text s t out
-      → result′ ≡ over (answer .length ∷ []) result
-      → textLeft (answer .number) out′ result′ ≡ textCall text s tally out result
+      → x ≡ write s t out
+      → result′ ≡ over (x .length ∷ []) result
+      → textAnswered (x .number) (x .out) result′ ≡ textCall write s tally out result
   unfolding textCall textDone
-  text-done t answer out′ result′ h i is call put =
-      ap (textLeft (answer .number) out′) put
-      ∙ ap (λ (x : TextResult). textDone x result) (call ∙ ap (λ (u : Tally). writeText text s u out) is)
-      ∙ room 1 tally result (λ c. textLeft c out result) _ h i
+  text-done t x result′ is none at made put =
+      ap (textAnswered (x .number) (x .out)) put
+      ∙ ap (λ (y : TextOutcome). textDone y result) (made ∙ ap (λ (u : Tally). write s u out) at)
+      ∙ roomed-none 1 (length tally) (length result) short is (λ c. textAnswered c out result) _ none
 
-module _ (s : Slices) (tally journal result : List ℕ) where
-  pub start-done : (t : Tally) (answer : Started) (journal′ result′ : List ℕ)
-      → 3 ≤ length tally
-      → 1 ≤ length result
-      → t ≡ tallyIn tally
-      → startResult answer journal′ ≡ started s t journal
-      → result′ ≡ over (answer .length ∷ []) result
-      → startLeft (answer .number) journal′ result′ ≡ startCall s tally journal result
-  unfolding startCall startDone
-  start-done t answer journal′ result′ h i is call put =
-      ap (startLeft (answer .number) journal′) put
-      ∙ ap (λ (x : StartResult). startDone x result) (call ∙ ap (λ (u : Tally). started s u journal) is)
-      ∙ room 1 tally result (λ c. startLeft c journal result) _ h i
+module _ (l : CellMemory) (short : ℕ) where
+  pub record-done : (k : Kind) (a b size : ℕ) (journal : List ℕ) (t : Tally) (x : RecordResult) (tally′ result′ : List ℕ)
+      → short ≡ shortNumber 3 (length (l .tally)) (length (l .result))
+      → short ≡ 0
+      → t ≡ tallyIn (l .tally)
+      → x ≡ recorded k a b (memoryOf (l .slices) (l .trail) (l .moved) t) size journal
+      → tally′ ≡ over (tallyCells (x .memory .tally)) (l .tally)
+      → result′ ≡ over (x .answer .moved ∷ x .answer .trail ∷ x .answer .length ∷ []) (l .result)
+      → recordAnswered (x .answer .number) (cellsOf (x .memory .slices) (x .memory .trail) (x .memory .moved) tally′ result′) (x .journal)
+      ≡ recordCall k a b l size journal
+  unfolding recordCall recordDone
+  record-done k a b size journal t x tally′ result′ is none at made tallied told =
+      ap (λ (c : CellMemory). recordAnswered (x .answer .number) c (x .journal)) (put-as l (x .memory) _ tally′ result′ tallied told)
+      ∙ ap (λ (y : RecordResult). recordDone y l) (on-memory l (λ (m : Memory). recorded k a b m size journal) t x at made)
+      ∙ roomed-none 3 (length (l .tally)) (length (l .result)) short is (λ c. recordAnswered c l journal) _ none
+
+  -- a plan made from bytes: `count` is how many results the source has
+  module _ (bytes : List ℕ) (source : Source) (count : ℕ) (has : count ≡ resultsOf source)
+      (is : short ≡ shortNumber count (length (l .tally)) (length (l .result))) where
+    asked : short ≡ shortNumber (resultsOf source) (length (l .tally)) (length (l .result))
+    asked = rw (← has) is
+
+    pub source-refused : (short ≡ 0 → ⊥) → answered short l ≡ sourceCall source bytes l
+    source-refused = by source asked
+      where
+        by : (x : Source) → short ≡ shortNumber (resultsOf x) (length (l .tally)) (length (l .result)) → (short ≡ 0 → ⊥)
+            → answered short l ≡ sourceCall x bytes l
+        by FromList at some = unfold listCall resultsOf in refused l 1 _ short at some
+        by FromJournal at some = unfold replayCall resultsOf in refused l 2 _ short at some
+
+    pub source-done : (t : Tally) (r : Made) (s′ : Slices) (trail′ moved′ tally′ result′ : List ℕ)
+        → short ≡ 0
+        → t ≡ tallyIn (l .tally)
+        → MadeFrom source bytes (memoryOf (l .slices) (l .trail) (l .moved) t) r (memoryOf s′ trail′ moved′ (r .tally))
+        → tally′ ≡ over (tallyCells (r .tally)) (l .tally)
+        → result′ ≡ over (take count (r .first ∷ r .second ∷ [])) (l .result)
+        → answered (r .number) (cellsOf s′ trail′ moved′ tally′ result′) ≡ sourceCall source bytes l
+    source-done t r s′ trail′ moved′ tally′ result′ none at made tallied told = by source asked made (rw (← has) told)
+      where
+        by : (x : Source) → short ≡ shortNumber (resultsOf x) (length (l .tally)) (length (l .result))
+            → MadeFrom x bytes (memoryOf (l .slices) (l .trail) (l .moved) t) r (memoryOf s′ trail′ moved′ (r .tally))
+            → result′ ≡ over (take (resultsOf x) (r .first ∷ r .second ∷ [])) (l .result)
+            → answered (r .number) (cellsOf s′ trail′ moved′ tally′ result′) ≡ sourceCall x bytes l
+        by FromList fits out cells = unfold listCall resultsOf in called l 1 _ short fits t _ tally′ result′ none at (ap listOutcome out) tallied cells
+        by FromJournal fits out cells = unfold replayCall resultsOf in called l 2 _ short fits t _ tally′ result′ none at (ap replayOutcome out) tallied cells

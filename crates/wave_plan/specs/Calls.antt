@@ -2,114 +2,114 @@
 use mathlib.Core.List.{List, [], _∷_}
 use Prim.Native.Nat.{ℕ, zero, suc, _*_}
 use lib.ListN.{length, getD, take, drop}
-use Rattle.rule.specs.Graph.{Graph}
-use Rattle.rule.specs.Reach.{Kind}
+use Rattle.rule.specs.declared.Kind.{Kind}
 use Rattle.memory.specs.declared.Tally.{Tally}
 use Rattle.memory.specs.Cells.{over}
 use Rattle.memory.specs.Plan.{Slices}
-use Rattle.planner.specs.Calls.{OpenResult, opened, EditResult, edit, bankNumber, waveOf, clashesOf}
+use Rattle.planner.specs.Calls.{OpenResult, opened, edit, bankNumber, waveOf, clashesOf}
 use Rattle.list_reader.specs.Pass.{ListResult, readList}
-use Rattle.sheet_writer.specs.Sheet.{sheet}
-use Rattle.sheet_writer.specs.Calls.{TextResult, writeText}
-use Rattle.poster_writer.specs.Poster.{poster}
-use Rattle.c_cells.specs.Lent.{tallyIn, tallyCells, roomNumber, roomed, Lent, memoryIn, leaving}
+use Rattle.wave_lines.specs.Calls.{TextResult}
+use Rattle.sheet_writer.specs.Calls.{writeSheet}
+use Rattle.poster_writer.specs.Calls.{writePoster}
+use Rattle.c_cells.specs.CellMemory.{tallyIn, tallyCells, shortNumber, roomed, CellMemory, Outcome, outcome, Answered, onCells, editOutcome}
 
 -- what opening answers and leaves
-pub record OpenLeft : Type 0 where
+pub record OpenAnswered : Type 0 where
   pub number : ℕ
   pub slices : Slices
   pub tally : List ℕ
 
-abbrev pub openLeft : ℕ → Slices → List ℕ → OpenLeft
-openLeft number slices tally = record { number = number; slices = slices; tally = tally }
+abbrev pub openAnswered : ℕ → Slices → List ℕ → OpenAnswered
+openAnswered number slices tally = record { number = number; slices = slices; tally = tally }
 
 -- the tally is put into its cells
-unfoldable pub openDone : OpenResult → List ℕ → OpenLeft
-openDone o tally = openLeft (o .number) (o .slices) (over (tallyCells (o .tally)) tally)
+unfoldable pub openDone : OpenResult → List ℕ → OpenAnswered
+openDone o tally = openAnswered (o .number) (o .slices) (over (tallyCells (o .tally)) tally)
 
 -- wave_plan_open
-unfoldable pub openCall : ℕ → Slices → List ℕ → OpenLeft
-openCall n s tally = roomed (roomNumber 0 tally []) (λ c. openLeft c s tally) (openDone (opened n s (tallyIn tally)) tally)
-
--- what an edit or a list answers and leaves
-pub record Left : Type 0 where
-  pub number : ℕ
-  pub lent : Lent
-
-abbrev pub left : ℕ → Lent → Left
-left number lent = record { number = number; lent = lent }
-
--- the moved count and the trail count are the results
-unfoldable pub editDone : EditResult → Lent → Left
-editDone e l = left (e .answer .number) (leaving (e .memory) (e .answer .moved ∷ e .answer .trail ∷ []) l)
+unfoldable pub openCall : ℕ → Slices → List ℕ → OpenAnswered
+openCall n s tally = roomed (shortNumber 0 (length tally) 0) (λ c. openAnswered c s tally) (openDone (opened n s (tallyIn tally)) tally)
 
 -- wave_plan_add and wave_plan_strike
-unfoldable pub editCall : Kind → ℕ → ℕ → Lent → Left
-editCall k a b l = roomed (roomNumber 2 (l .tally) (l .result)) (λ c. left c l) (editDone (edit k a b (memoryIn l)) l)
+unfoldable pub editCall : Kind → ℕ → ℕ → CellMemory → Answered
+editCall k a b l = onCells 2 (λ m. editOutcome (edit k a b m)) l
 
--- the row is the result
-unfoldable pub listDone : ListResult → Lent → Left
-listDone x l = left (x .answer .number) (leaving (x .memory) (x .answer .row ∷ []) l)
+-- the result of a list: the row
+abbrev pub listOutcome : ListResult → Outcome
+listOutcome x = outcome (x .answer .number) (x .answer .row ∷ []) (x .memory)
 
 -- wave_plan_read_list
-unfoldable pub listCall : List ℕ → Lent → Left
-listCall bytes l = roomed (roomNumber 1 (l .tally) (l .result)) (λ c. left c l) (listDone (readList bytes (memoryIn l)) l)
+unfoldable pub listCall : List ℕ → CellMemory → Answered
+listCall bytes l = onCells 1 (λ m. listOutcome (readList bytes m)) l
 
 -- what a call that reads one bank answers and leaves
-pub record Told : Type 0 where
+pub record BankAnswered : Type 0 where
   pub number : ℕ
   pub result : List ℕ
 
-abbrev pub told : ℕ → List ℕ → Told
-told number result = record { number = number; result = result }
+abbrev pub bankAnswered : ℕ → List ℕ → BankAnswered
+bankAnswered number result = record { number = number; result = result }
 
 -- the wave is the result
-unfoldable pub waveDone : ℕ → Slices → Tally → List ℕ → Told
-waveDone b s t result = told (bankNumber b s t) (over (waveOf b s t ∷ []) result)
+unfoldable pub waveDone : ℕ → Slices → Tally → List ℕ → BankAnswered
+waveDone b s t result = bankAnswered (bankNumber b s t) (over (waveOf b s t ∷ []) result)
 
 -- wave_plan_wave_of
-unfoldable pub waveCall : ℕ → Slices → List ℕ → List ℕ → Told
-waveCall b s tally result = roomed (roomNumber 1 tally result) (λ c. told c result) (waveDone b s (tallyIn tally) result)
+unfoldable pub waveCall : ℕ → Slices → List ℕ → List ℕ → BankAnswered
+waveCall b s tally result = roomed (shortNumber 1 (length tally) (length result)) (λ c. bankAnswered c result) (waveDone b s (tallyIn tally) result)
 
--- by the number of the first no: where the row of b starts
-unfoldable pub startBy : ℕ → ℕ → ℕ
-startBy zero b = 23 * b
-startBy (suc c) b = 0
+-- where the row of b starts, or 0, by the number of the first no
+unfoldable pub rowStart : ℕ → ℕ → ℕ
+rowStart zero b = 23 * b
+rowStart (suc c) b = 0
 
 -- the filled part of the row, its start and its length, is the result
-unfoldable pub clashesDone : ℕ → Slices → Tally → List ℕ → Told
-clashesDone b s t result = told (bankNumber b s t) (over (startBy (bankNumber b s t) b ∷ length (clashesOf b s t) ∷ []) result)
+unfoldable pub clashesDone : ℕ → Slices → Tally → List ℕ → BankAnswered
+clashesDone b s t result =
+    bankAnswered (bankNumber b s t) (over (rowStart (bankNumber b s t) b ∷ length (clashesOf b s t) ∷ []) result)
 
 -- wave_plan_clashes_of
-unfoldable pub clashesCall : ℕ → Slices → List ℕ → List ℕ → Told
-clashesCall b s tally result = roomed (roomNumber 2 tally result) (λ c. told c result) (clashesDone b s (tallyIn tally) result)
+unfoldable pub clashesCall : ℕ → Slices → List ℕ → List ℕ → BankAnswered
+clashesCall b s tally result = roomed (shortNumber 2 (length tally) (length result)) (λ c. bankAnswered c result) (clashesDone b s (tallyIn tally) result)
 
 -- the part of a slice that two cells name by its start and its length
 unfoldable pub partNamed : List ℕ → List ℕ → List ℕ
 partNamed cells slice = take (getD cells 1 0) (drop (getD cells 0 0) slice)
 
--- what writing a text of the plan answers and leaves
-pub record TextLeft : Type 0 where
+-- what writing bytes of the plan to the front of a slice comes to: its number, how many they are, and the slice
+pub record TextOutcome : Type 0 where
+  pub number : ℕ
+  pub length : ℕ
+  pub out : List ℕ
+
+abbrev pub textOutcome : ℕ → ℕ → List ℕ → TextOutcome
+textOutcome number length out = record { number = number; length = length; out = out }
+
+abbrev pub textOf : TextResult → TextOutcome
+textOf x = textOutcome (x .answer .number) (x .answer .length) (x .out)
+
+-- what it answers and leaves
+pub record TextAnswered : Type 0 where
   pub number : ℕ
   pub out : List ℕ
   pub result : List ℕ
 
-abbrev pub textLeft : ℕ → List ℕ → List ℕ → TextLeft
-textLeft number out result = record { number = number; out = out; result = result }
+abbrev pub textAnswered : ℕ → List ℕ → List ℕ → TextAnswered
+textAnswered number out result = record { number = number; out = out; result = result }
 
 -- the length is the result
-unfoldable pub textDone : TextResult → List ℕ → TextLeft
-textDone x result = textLeft (x .answer .number) (x .out) (over (x .answer .length ∷ []) result)
+unfoldable pub textDone : TextOutcome → List ℕ → TextAnswered
+textDone x result = textAnswered (x .number) (x .out) (over (x .length ∷ []) result)
 
--- of a call that writes this text
-unfoldable pub textCall : (Graph → List ℕ) → Slices → List ℕ → List ℕ → List ℕ → TextLeft
-textCall text s tally out result =
-    roomed (roomNumber 1 tally result) (λ c. textLeft c out result) (textDone (writeText text s (tallyIn tally) out) result)
+-- of a call that writes in this way
+unfoldable pub textCall : (Slices → Tally → List ℕ → TextOutcome) → Slices → List ℕ → List ℕ → List ℕ → TextAnswered
+textCall write s tally out result =
+    roomed (shortNumber 1 (length tally) (length result)) (λ c. textAnswered c out result) (textDone (write s (tallyIn tally) out) result)
 
 -- wave_plan_write_sheet
-abbrev pub sheetCall : Slices → List ℕ → List ℕ → List ℕ → TextLeft
-sheetCall s tally out result = textCall sheet s tally out result
+abbrev pub sheetCall : Slices → List ℕ → List ℕ → List ℕ → TextAnswered
+sheetCall = textCall (λ s t out. textOf (writeSheet s t out))
 
 -- wave_plan_write_poster
-abbrev pub posterCall : Slices → List ℕ → List ℕ → List ℕ → TextLeft
-posterCall s tally out result = textCall poster s tally out result
+abbrev pub posterCall : Slices → List ℕ → List ℕ → List ℕ → TextAnswered
+posterCall = textCall (λ s t out. textOf (writePoster s t out))

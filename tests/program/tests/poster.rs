@@ -28,6 +28,18 @@ fn one_wave_of_any_size() {
     }
 }
 
+/// No bank, no page; nine banks of which 0 and 8 clash.
+#[test]
+fn no_page_and_one() {
+    assert_eq!(run::poster_program(b"N 0"), b"");
+    poster_agrees_with_model(b"N 9\n+ 0 8");
+    let page = run::poster_program(b"N 9\n+ 0 8");
+    assert_eq!(page[..8], *b"A     0 ");
+    assert_eq!(page[41..49], *b"      7 ");
+    assert_eq!(page[82..90], *b"B     8 ");
+    assert_eq!((page.len(), lines(&page)), (2050, 3));
+}
+
 /// 24 waves: of one bank each, and with a first wave of up to 1,001 banks.
 #[test]
 fn waves_of_few_banks_and_of_many() {

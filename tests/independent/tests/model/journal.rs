@@ -103,6 +103,15 @@ fn the_bytes_of_a_journal() {
     assert_eq!(wide, [0x4E, 2, 0, 0, 4, 0x2D, 4, 0, 44, 1, 255, 3]);
 }
 
+/// 300 is the bytes 44 and 1, the low one first.
+#[test]
+fn a_journal_and_the_list_of_the_same_edits() {
+    let entries = [add(300, 1), strike(1, 300)];
+    let fields = [0x2B, 4, 0, 44, 1, 1, 0, 0x2D, 4, 0, 1, 0, 44, 1];
+    assert_eq!(journal_of(1024, &entries)[5..], fields);
+    assert_eq!(same_list(1024, &entries), b"N 1024\n+ 300 1\n- 1 300");
+}
+
 #[test]
 fn a_new_journal_lists_the_lowest_pair_first() {
     let memory = opened(4, &[(3, 1), (2, 0), (0, 1)]);

@@ -38,6 +38,19 @@ fn a_wave_goes_on_after_seven_banks() {
     assert_eq!(lines(&[0; 15]), [first, second, "     14"]);
 }
 
+/// Nine banks of which 0 and 8 clash: three lines, and 47 that fill the page.
+#[test]
+fn the_page_of_nine_banks() {
+    let waves = Graph::of(9, [(0, 8)]).waves();
+    let lines = [
+        "A     0    1    2    3    4    5    6   \n".to_string(),
+        format!("      7{}\n", " ".repeat(33)),
+        format!("B     8{}\n", " ".repeat(33)),
+        format!("{}\n", " ".repeat(40)).repeat(47),
+    ];
+    assert_eq!(poster_text(&waves), lines.concat());
+}
+
 #[test]
 fn four_digits_leave_a_space() {
     let lines = lines(&[0; 1024]);

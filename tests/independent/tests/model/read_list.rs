@@ -3,7 +3,7 @@
 
 use crate::support::{memory_of, opened};
 use independent::graph::Graph;
-use independent::list::rows;
+use independent::list::{edit_row, n_row, rows, Row};
 use independent::lists;
 use independent::memory::Memory;
 use independent::random::Random;
@@ -47,8 +47,40 @@ fn rows_end_at_line_feeds_and_at_the_end() {
     assert_eq!(rows(b"a"), [b"a"]);
     assert_eq!(rows(b"a\n"), [b"a"]);
     assert_eq!(rows(b"a\nb"), [b"a", b"b"]);
+    assert_eq!(rows(b"a\nb\n"), [b"a", b"b"]);
     assert_eq!(rows(b"a\n\n"), [b"a".as_slice(), b""]);
     assert_eq!(rows(b"\na"), [b"".as_slice(), b"a"]);
+}
+
+#[test]
+fn what_a_row_says() {
+    for (row, banks) in [
+        (b"N 0".as_slice(), Some(0)),
+        (b"N 4", Some(4)),
+        (b"N 0004", Some(4)),
+        (b"N 00", Some(0)),
+        (b"N 9999", Some(9999)),
+        (b"N 10000", None),
+        (b"N 00005", None),
+        (b"N 5a", None),
+        (b"N ", None),
+        (b"N 4 ", None),
+        (b"", None),
+    ] {
+        assert_eq!(n_row(row), banks, "{:?}", String::from_utf8_lossy(row));
+    }
+    for (row, edit) in [
+        (b"+ 0 1".as_slice(), Some(Row::Add(0, 1))),
+        (b"- 0 1", Some(Row::Strike(0, 1))),
+        (b"D 3", Some(Row::StrikeAll(3))),
+        (b"+ 05 1", Some(Row::Add(5, 1))),
+        (b"+ 0  1", None),
+        (b"+ 0 1 ", None),
+        (b"N 4", None),
+        (b"", None),
+    ] {
+        assert_eq!(edit_row(row), edit, "{:?}", String::from_utf8_lossy(row));
+    }
 }
 
 #[test]

@@ -1,7 +1,7 @@
 -- `tally_in` meets its contract: the cells that it reads are those of `tallyIn`.
 use borrow.Author.Needs.{needs}
 use mathlib.Core.Path.{refl}
-use Rattle.c_cells.specs.Lent.{tallyIn}
+use Rattle.c_cells.specs.CellMemory.{tallyIn}
 use Rattle.c_cells.proofs.cells.tally_in.Statement.{statement}
 use Rattle.c_cells.proofs.cells.tally_in.Tie as tie
 

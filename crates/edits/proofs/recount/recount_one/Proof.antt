@@ -33,7 +33,11 @@ same-length : tie.Need-same-length
 same-length c = search needs
 
 returns : tie.Need-returns
-returns c = part-back (c .before .before .before .before .before .before .before .before .before .args .counts .now) (c .before .before .count-earlier .last .1 .1 .1 .0) (c .before .before .before .before .before .before .before .before .before .args .b .0) _ (c .before .before .before .before .before .before .before .before .before .pre .1) (c .before .before .count-earlier .ensures)
+returns c =
+    let count = c .before .before in
+    let start = count .before .before .before .before .before .before .before in
+    let a = start .args in
+    part-back (a .counts .now) (count .count-earlier .last .1 .1 .1 .0) (a .b .0) _ (start .pre .1) (count .count-earlier .ensures)
 
 pub recount-one-spec : {M : Type 1} → statement M
 recount-one-spec =

@@ -1,4 +1,5 @@
 -- `queue_seed`: the counts of v are counted, and v is queued, by the laws of `Recounts`.
+use borrow.Author.Needs.{needs}
 use Rattle.edits.proofs.Recounts.{v-countable, part-in, enqueuable, seed-queued}
 use Rattle.edits.proofs.seeds.queue_seed.Statement.{statement}
 use Rattle.edits.proofs.seeds.queue_seed.Tie as tie
@@ -10,10 +11,14 @@ enqueue-requires : tie.Need-enqueue-requires
 enqueue-requires c κs = let p = c .before .before .before .before .before .before .before .before .before .pre in (p .0 .0, enqueuable (p .0 .2) (p .1))
 
 same-length : tie.Need-same-length
-same-length c = c .before .before .before .before .recount-one .kept .1 .1 .1 .0
+same-length c = search needs
 
 returns : tie.Need-returns
-returns c = λ G was rc. (let lt = c .before .before .before .before .before .before .before .before .before .before .pre .1 in seed-queued rc lt (c .before .before .before .before .recount-one .kept .1 .1 .1 .0) (c .before .before .before .before .recount-one .ensures) (c .enqueue .ensures G (enqueuable rc lt)))
+returns c =
+    let count = c .before .before .before .before in
+    let lt = count .before .before .before .before .before .before .pre .1 in
+    let one = count .recount-one in
+    λ G was rc. seed-queued rc lt (one .kept .1 .1 .1 .0) (one .ensures) (c .enqueue .ensures G (enqueuable rc lt))
 
 pub queue-seed-spec : {M : Type 1} → statement M
 queue-seed-spec = tie.close (tie.spec recount-one-requires enqueue-requires same-length returns)

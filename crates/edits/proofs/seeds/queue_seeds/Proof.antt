@@ -1,4 +1,5 @@
 -- `queue_seeds`: a, b, and then the turned neighbours of each.
+use borrow.Author.Needs.{needs}
 use mathlib.Core.Path.{_∙_}
 use Rattle.edits.proofs.Seeding.{turn-a, turn-b, seeded}
 use Rattle.edits.proofs.seeds.queue_seeds.Statement.{statement}
@@ -9,34 +10,43 @@ queue-seed-requires c κs = let sd = c .before .before .before .before .before .
 
 queue-seed-requires-2 : tie.Need-queue-seed-requires-2
 queue-seed-requires-2 c κs =
-    let sd = c .before .before .before .before .before .before .before .before .before .before .before .pre .1 in
-    let one = c .before .before .before .before .queue-seed .ensures _ _ (sd .counts) in
+    let at = c .before .before .before .before in
+    let sd = at .before .before .before .before .before .before .before .pre .1 in
+    let one = at .queue-seed .ensures _ _ (sd .counts) in
     ((_, _, one .counts), sd .bankB)
 
 queue-turned-requires : tie.Need-queue-turned-requires
 queue-turned-requires c κs =
-    let sd = c .before .before .before .before .before .before .before .before .before .before .before .before .before .before .before .before .pre .1 in
-    let one = c .before .before .before .before .before .before .before .before .before .queue-seed .ensures _ _ (sd .counts) in
-    let two = c .before .before .before .before .queue-seed2 .ensures _ _ (one .counts) in
-    (_, turn-a sd one two)
+    let at-b = c .before .before .before .before in
+    let at-a = at-b .before .before .before .before .before in
+    let sd = at-a .before .before .before .before .before .before .before .pre .1 in
+    let one = at-a .queue-seed .ensures _ _ (sd .counts) in
+    (_, turn-a sd one (at-b .queue-seed2 .ensures _ _ (one .counts)))
 
 queue-turned-requires-2 : tie.Need-queue-turned-requires-2
 queue-turned-requires-2 c κs =
-    let sd = c .before .before .before .before .before .before .before .before .before .before .before .before .before .before .before .before .before .before .before .before .before .pre .1 in
-    let one = c .before .before .before .before .before .before .before .before .before .before .before .before .before .before .queue-seed .ensures _ _ (sd .counts) in
-    let two = c .before .before .before .before .before .before .before .before .before .queue-seed2 .ensures _ _ (one .counts) in
-    (_, turn-b sd one two (c .before .before .before .before .queue-turned .ensures _ (turn-a sd one two)))
+    let turn = c .before .before .before .before in
+    let at-b = turn .before .before .before .before .before in
+    let at-a = at-b .before .before .before .before .before in
+    let sd = at-a .before .before .before .before .before .before .before .pre .1 in
+    let one = at-a .queue-seed .ensures _ _ (sd .counts) in
+    let two = at-b .queue-seed2 .ensures _ _ (one .counts) in
+    (_, turn-b sd one two (turn .queue-turned .ensures _ (turn-a sd one two)))
 
 same-length : tie.Need-same-length
-same-length c = c .before .before .queue-turned2 .kept .1 .1 .1 .0 ∙ c .before .before .before .before .before .before .before .queue-turned .kept .1 .1 .1 .0 ∙ c .before .before .before .before .before .before .before .before .before .before .before .before .queue-seed2 .kept .1 .1 .1 .0 ∙ c .before .before .before .before .before .before .before .before .before .before .before .before .before .before .before .before .before .queue-seed .kept .1 .1 .1 .0
+same-length c = search needs
 
 returns : tie.Need-returns
 returns c =
+    let end = c .before .before in
+    let turn = end .before .before .before .before .before in
+    let at-b = turn .before .before .before .before .before in
+    let at-a = at-b .before .before .before .before .before in
     λ o sd.
-    let one = c .before .before .before .before .before .before .before .before .before .before .before .before .before .before .before .before .before .queue-seed .ensures _ _ (sd .counts) in
-    let two = c .before .before .before .before .before .before .before .before .before .before .before .before .queue-seed2 .ensures _ _ (one .counts) in
-    let three = c .before .before .before .before .before .before .before .queue-turned .ensures _ (turn-a sd one two) in
-    seeded sd one two three (c .before .before .queue-turned2 .ensures _ (turn-b sd one two three))
+    let one = at-a .queue-seed .ensures _ _ (sd .counts) in
+    let two = at-b .queue-seed2 .ensures _ _ (one .counts) in
+    let three = turn .queue-turned .ensures _ (turn-a sd one two) in
+    seeded sd one two three (end .queue-turned2 .ensures _ (turn-b sd one two three))
 
 pub queue-seeds-spec : {M : Type 1} → statement M
 queue-seeds-spec =

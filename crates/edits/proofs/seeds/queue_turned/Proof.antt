@@ -3,7 +3,8 @@ use native.Mathlib.Omega.{arith}
 use Prim.Native.Nat.{_-_, _≤_}
 use mathlib.Core.Path.{_≡_, refl, _∙_}
 use lib.ListN.{length, getD}
-use Rattle.edits.specs.Seeds.{Search, Turning}
+use Rattle.memory.specs.Plan.{slicesOf}
+use Rattle.edits.specs.inner.Seeds.{Search, Turning}
 use Rattle.edits.proofs.Seeding.{y-small, y-inside}
 use Rattle.edits.proofs.seeds.queue_turned.Statement.{statement}
 use Rattle.edits.proofs.seeds.queue_turned.Tie as tie
@@ -12,7 +13,9 @@ abbrev Inv-loop : tie.InvT-loop
 Inv-loop neighbours degrees waves counts₀ queue₀ banks b old at degree i₀ counts queue i =
     (i ≤ degree)
     × (length counts ≡ length counts₀)
-    × ((s : Search) → Turning s neighbours degrees waves counts₀ queue₀ banks (b .0) old 0 → Turning s neighbours degrees waves counts queue banks (b .0) old i)
+    × ((s : Search)
+    → Turning s (slicesOf neighbours degrees waves counts₀) queue₀ banks (b .0) old 0
+    → Turning s (slicesOf neighbours degrees waves counts) queue banks (b .0) old i)
 
 abbrev μ-loop : tie.MeasureT-loop
 μ-loop neighbours degrees waves counts₀ queue₀ banks b old at degree i₀ counts queue i = degree - i
@@ -33,25 +36,32 @@ loop-holds : tie.Need-loop-holds Inv-loop μ-loop
 loop-holds c = (omega arith, refl, λ s tn. tn)
 
 queue-turned-one-requires : tie.Need-queue-turned-one-requires Inv-loop μ-loop
-queue-turned-one-requires c κs = ((c .before .before .before .before .before .before .before .before .before .before .pre .0, c .before .before .before .loop .inv .2 (c .before .before .before .before .before .before .before .before .before .before .pre .0) (c .before .before .before .before .before .before .before .before .before .before .pre .1)), c .before .before .loop-test .taken)
+queue-turned-one-requires c κs =
+    let loop = c .before .before .before in
+    let pre = loop .before .before .before .before .before .before .before .pre in
+    ((pre .0, loop .loop .inv .2 (pre .0) (pre .1)), c .before .before .loop-test .taken)
 
 add-i : tie.Need-add-i Inv-loop μ-loop
-add-i c = omega (arith, y-small (c .before .before .before .before .before .before .before .before .before .before .before .before .before .pre .1), c .before .before .before .before .before .loop-test .taken)
+add-i c = let test = c .before .before .before .before .before in omega (arith, y-small (test .before .before .before .before .before .before .before .before .pre .1), test .loop-test .taken)
 
 loop-less : tie.Need-loop-less Inv-loop μ-loop
 loop-less c = omega arith
 
 loop-again : tie.Need-loop-again Inv-loop μ-loop
-loop-again c = (omega arith, c .before .before .queue-turned-one .kept .1 .1 .1 .0 ∙ c .before .before .before .before .before .before .loop .inv .1, λ s tn. c .before .before .queue-turned-one .ensures s (c .before .before .before .before .before .before .loop .inv .2 s tn))
+loop-again c =
+    let one = c .before .before .queue-turned-one in
+    let inv = c .before .before .before .before .before .before .loop .inv in
+    (omega arith, one .kept .1 .1 .1 .0 ∙ inv .1, λ s tn. one .ensures s (inv .2 s tn))
 
 same-length : tie.Need-same-length Inv-loop μ-loop
 same-length c = c .before .loop .inv .1
 
 returns : tie.Need-returns Inv-loop μ-loop
 returns c =
-    λ s tn.
-    let e : c .before .loop .i ≡ getD (c .before .before .before .before .before .before .before .before .args .degrees .now) (c .before .before .before .before .before .before .before .before .args .b .0) 0 = omega (arith, c .before .loop .inv .0, c .loop-test .left) in
-    rw e at (c .before .loop .inv .2 s tn)
+    let loop = c .before .loop in
+    let a = c .before .before .before .before .before .before .before .before .args in
+    let e : loop .i ≡ getD (a .degrees .now) (a .b .0) 0 = omega (arith, loop .inv .0, c .loop-test .left) in
+    λ s tn. rw e at (loop .inv .2 s tn)
 
 pub queue-turned-spec : {M : Type 1} → statement M
 queue-turned-spec =

@@ -1,4 +1,4 @@
--- `record_entry` meets its contract: an entry has 7 bytes, so the new length is at most 60,000.
+-- `record_entry` meets its contract: the new length is at most 60,000.
 use Rattle.journal_fields.proofs.Entries.{length-entry}
 use Rattle.journal.proofs.Recording.{recorded-of}
 use borrow.Author.Needs.{needs}
@@ -10,7 +10,10 @@ put-entry-requires : tie.Need-put-entry-requires
 put-entry-requires c κs = search needs
 
 cast-t8 : tie.Need-cast-t8
-cast-t8 c = omega (arith, c .before .before .put-entry .ensures .next, length-entry (c .before .before .before .before .before .args .entry), c .before .before .before .before .before .pre .1)
+cast-t8 c =
+    let put = c .before .before in
+    let start = put .before .before .before in
+    omega (arith, put .put-entry .ensures .next, length-entry (start .args .entry), start .pre .1)
 
 same-length : tie.Need-same-length
 same-length c = search needs

@@ -30,10 +30,18 @@ count-larger-requires c κs = search needs
 
 add-count : tie.Need-add-count Inv-loop μ-loop
 add-count c =
-    let p = c .before .before .before .before .before .before .before .before .before .pre in
-    let few = row-few (p .0) _ _ (p .1) (c .before .before .before .before .loop .a) (c .before .before .if1 .taken) in
-    let row = c .before .clashes-held .ensures (p .0) (p .1) in
-    omega (arith, few, ap length row, c .count-larger .ensures .1, c .before .before .before .before .loop .inv .1, plan-few (p .0) _ _ (p .1))
+    let row = c .before in
+    let at = row .before .before .before in
+    let p = at .before .before .before .before .before .pre in
+    let few = row-few (p .0) _ _ (p .1) (at .loop .a) (row .before .if1 .taken) in
+    omega (
+      arith,
+      few,
+      ap length (row .clashes-held .ensures (p .0) (p .1)),
+      c .count-larger .ensures .1,
+      at .loop .inv .1,
+      plan-few (p .0) _ _ (p .1),
+    )
 
 add-a : tie.Need-add-a Inv-loop μ-loop
 add-a c = omega arith
@@ -43,14 +51,14 @@ loop-less c = omega arith
 
 loop-again : tie.Need-loop-again Inv-loop μ-loop
 loop-again c =
-    let a = c .before .before .before .before .before .before .before .before .before .args in
-    let p = c .before .before .before .before .before .before .before .before .before .pre in
-    let w = c .before .before .before .before .loop in
+    let row = c .before in
+    let at = row .before .before .before in
+    let p = at .before .before .before .before .before .pre in
+    let w = at .loop in
     let n = c .count-larger .ensures in
-    let few = row-few (p .0) _ _ (p .1) (w .a) (c .before .before .if1 .taken) in
-    let row = c .before .clashes-held .ensures (p .0) (p .1) in (
-      λ G q. omega (arith, w .inv .0 G q, n .0, ap (λ (l : List ℕ). length (addsOf (w .a) l)) (c .before .clashes-held .ensures G q), below-count G (w .a)),
-      omega (arith, few, ap length row, n .1, w .inv .1),
+    let few = row-few (p .0) _ _ (p .1) (w .a) (row .before .if1 .taken) in (
+      λ G q. omega (arith, w .inv .0 G q, n .0, ap (λ (l : List ℕ). length (addsOf (w .a) l)) (row .clashes-held .ensures G q), below-count G (w .a)),
+      omega (arith, few, ap length (row .clashes-held .ensures (p .0) (p .1)), n .1, w .inv .1),
       omega arith,
     )
 

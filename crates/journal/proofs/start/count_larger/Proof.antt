@@ -40,15 +40,19 @@ loop-less c = search needs
 
 loop-again : tie.Need-loop-again Inv-loop μ-loop
 loop-again c =
-    let a = c .before .before .before .before .before .args in
-    let w = c .before .before .before .loop in
-    let e = ap length (adds-next (a .a .0) (a .row .now) (w .i) (c .before .before .loop-test .taken)) ∙ length-append (addsOf (a .a .0) (take (w .i) (a .row .now))) (addsOf (a .a .0) (getD (a .row .now) (w .i) 0 ∷ [])) in
+    let test = c .before .before in
+    let w = test .before .loop in
+    let a = test .before .before .before .args in
+    let row = a .row .now in
+    let e = ap length (adds-next (a .a .0) row (w .i) (test .loop-test .taken))
+    ∙ length-append (addsOf (a .a .0) (take (w .i) row)) (addsOf (a .a .0) (getD row (w .i) 0 ∷ [])) in
     (omega (arith, e, w .inv .0, c .larger .ensures .0), omega (arith, w .inv .1, c .larger .ensures .1), omega arith)
 
 returns : tie.Need-returns Inv-loop μ-loop
 returns c =
-    let a = c .before .before .before .args in
-    let w = c .before .loop in
+    let at = c .before in
+    let a = at .before .before .args in
+    let w = at .loop in
     (w .inv .0 ∙ ap (λ (l : List ℕ). length (addsOf (a .a .0) l)) (take-all (w .i) (a .row .now) (omega arith)), omega arith)
 
 pub count-larger-spec : {M : Type 1} → statement M

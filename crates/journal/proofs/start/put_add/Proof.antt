@@ -1,13 +1,13 @@
 -- `put_add` meets its contract: b gives one add if it is larger, else none.
-use Rattle.list_rows.specs.Rows.{bank}
 use lib.ListN.{length}
 use mathlib.Core.Path.{ap}
-use Rattle.journal_fields.specs.declared.field.Entry.the-variants.{Add}
-use Rattle.sheet_writer.proofs.Putting.{puts-none}
+use Rattle.rule.specs.declared.Kind.the-variants.{Adding}
 use Rattle.journal.proofs.Adds.{bytes-smaller, bytes-larger}
 use Rattle.journal_fields.proofs.Entries.{length-entry}
 use borrow.Author.Needs.{needs}
 use native.Mathlib.Omega.{arith}
+use Rattle.journal.specs.Calls.{entryFor}
+use Rattle.text.proofs.Putting.{puts-none}
 use Rattle.journal.proofs.start.put_add.Statement.{statement}
 use Rattle.journal.proofs.start.put_add.Tie as tie
 
@@ -16,14 +16,16 @@ returns c = rw (bytes-smaller _ _ (c .if1 .taken)) (puts-none _ _)
 
 put-entry-requires : tie.Need-put-entry-requires
 put-entry-requires c κs =
-    let a = c .before .before .before .before .before .args in
-    omega (arith, ap length (bytes-larger (a .a .0) (a .b .0) (c .before .if1 .left)), length-entry (Add (bank (a .a .0)) (bank (a .b .0))), c .before .before .before .before .before .pre)
+    let test = c .before in
+    let start = test .before .before .before .before in
+    let e = bytes-larger (start .args .a .0) (start .args .b .0) (test .if1 .left) in
+    omega (arith, ap length e, length-entry (entryFor Adding (start .args .a .0) (start .args .b .0)), start .pre)
 
 same-length : tie.Need-same-length
 same-length c = search needs
 
 returns-2 : tie.Need-returns-2
-returns-2 c = rw (bytes-larger _ _ (c .before .before .before .before .if1 .left)) (c .before .before .put-entry .ensures)
+returns-2 c = let put = c .before .before in rw (bytes-larger _ _ (put .before .before .if1 .left)) (put .put-entry .ensures)
 
 pub put-add-spec : {M : Type 1} → statement M
 put-add-spec = tie.close (tie.spec returns put-entry-requires same-length returns-2)

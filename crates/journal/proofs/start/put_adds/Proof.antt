@@ -1,17 +1,16 @@
 -- The loop has written the adds of the banks below a.
-use mathlib.Core.List.{List}
-use mathlib.Core.Path.{_≡_, refl, ap, _∙_}
+use mathlib.Core.Path.{_≡_, refl, _∙_}
 use lib.ListN.{length}
-use Rattle.journal.proofs.Adds.{below-empty, below-bytes, below-room, plan-banks}
-use Rattle.sheet_writer.proofs.Putting.{puts-none, puts-then}
-use Rattle.sheet_writer.specs.Put.{Puts}
-use Rattle.journal.specs.Calls.{addsOf, addsBelow}
+use Rattle.journal.proofs.Adds.{below-empty, below-bytes, row-room, plan-banks}
+use Rattle.journal.specs.Calls.{addsBelow}
 use Rattle.journal_fields.specs.Fields.{entriesBytes}
 use Rattle.memory.specs.Plan.{slicesOf, PlanOf}
 use Rattle.rule.specs.Graph.{Graph, neighbours}
 use borrow.Author.Needs.{needs}
 use native.Mathlib.Omega.{arith}
-use Prim.Native.Nat.{ℕ, _+_, _-_, _≤_}
+use Prim.Native.Nat.{_+_, _-_, _≤_}
+use Rattle.text.proofs.Putting.{puts-none, puts-then}
+use Rattle.text.specs.Places.{Puts}
 use Rattle.journal.proofs.start.put_adds.Statement.{statement}
 use Rattle.journal.proofs.start.put_adds.Tie as tie
 
@@ -29,16 +28,21 @@ loop-holds : tie.Need-loop-holds Inv-loop μ-loop
 loop-holds c = (λ G p r. rw (below-empty G) (puts-none _ _), omega arith, refl)
 
 clashes-held-requires : tie.Need-clashes-held-requires Inv-loop μ-loop
-clashes-held-requires c κs =
-    let p = c .before .before .before .before .before .before .before .before .pre in
-    ((p .0, p .1), c .if1 .taken)
+clashes-held-requires c κs = let p = c .before .before .before .before .before .before .before .before .pre in ((p .0, p .1), c .if1 .taken)
 
 put-adds-of-requires : tie.Need-put-adds-of-requires Inv-loop μ-loop
 put-adds-of-requires c κs =
-    let p = c .before .before .before .before .before .before .before .before .before .before .pre in
-    let w = c .before .before .before .before .loop in
-    let at = w .inv .0 (p .0) (p .1) (p .2) in
-    omega (arith, ap (λ (l : List ℕ). length (entriesBytes (addsOf (w .a) l))) (c .before .clashes-held .ensures (p .0) (p .1)), below-room (p .0) (w .a) (p .0 .banks) (omega (arith, plan-banks (p .0) _ _ (p .1), c .before .before .if1 .taken)), at .next, w .inv .2, p .2)
+    let row = c .before in
+    let at = row .before .before .before in
+    let p = at .before .before .before .before .before .before .pre in
+    let w = at .loop in
+    omega (
+      arith,
+      row-room (p .0) _ _ (p .1) (w .a) (row .before .if1 .taken) _ (row .clashes-held .ensures (p .0) (p .1)),
+      w .inv .0 (p .0) (p .1) (p .2) .next,
+      w .inv .2,
+      p .2,
+    )
 
 add-a : tie.Need-add-a Inv-loop μ-loop
 add-a c = omega arith
@@ -48,13 +52,16 @@ loop-less c = omega arith
 
 loop-again : tie.Need-loop-again Inv-loop μ-loop
 loop-again c =
-    let a = c .before .before .before .before .before .before .before .before .before .before .before .before .before .args in
-    let w = c .before .before .before .before .before .before .before .loop in
-    let test = c .before .before .before .before .before .if1 .taken in
-    let put = c .before .before .put-adds-of in (
-      λ G p r. rw (below-bytes G (w .a), ← (c .before .before .before .before .clashes-held .ensures G p)) (puts-then _ _ _ _ (omega (arith, r, below-room G (w .a) (G .banks) (omega (arith, plan-banks G _ _ p, test)), ap (λ (l : List ℕ). length (entriesBytes (addsOf (w .a) l))) (c .before .before .before .before .clashes-held .ensures G p))) _ _ _ _ (w .inv .0 G p r) (put .ensures)),
+    let put = c .before .before in
+    let row = put .before .before in
+    let at = row .before .before .before in
+    let w = at .loop in (
+      λ G p r.
+          let e = row .clashes-held .ensures G p in
+          rw (below-bytes G (w .a), ← e)
+          (puts-then _ _ _ _ (omega (arith, r, row-room G _ _ p (w .a) (row .before .if1 .taken) _ e)) _ _ _ _ (w .inv .0 G p r) (put .put-adds-of .ensures)),
       omega arith,
-      put .kept .0 ∙ w .inv .2,
+      put .put-adds-of .kept .0 ∙ w .inv .2,
     )
 
 same-length : tie.Need-same-length Inv-loop μ-loop

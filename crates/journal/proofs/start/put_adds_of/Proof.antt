@@ -3,20 +3,19 @@ use mathlib.Core.List.{[], _∷_}
 use mathlib.Core.Path.{_≡_, refl, _∙_}
 use lib.ListN.{length, getD, take}
 use lib.Seq.{take-all}
-use Rattle.sheet_writer.proofs.Putting.{puts-none, puts-then}
-use Rattle.sheet_writer.specs.Put.{Puts}
-use Rattle.journal_fields.specs.Fields.{entriesBytes}
-use Rattle.journal.specs.Calls.{addsOf}
+use Rattle.journal.specs.inner.Adds.{rowBytes}
 use Rattle.journal.proofs.Adds.{bytes-none, bytes-next, bytes-room}
 use borrow.Author.Needs.{needs}
 use native.Mathlib.Omega.{arith}
 use Prim.Native.Nat.{_-_, _≤_}
+use Rattle.text.proofs.Putting.{puts-none, puts-then}
+use Rattle.text.specs.Places.{Puts}
 use Rattle.journal.proofs.start.put_adds_of.Statement.{statement}
 use Rattle.journal.proofs.start.put_adds_of.Tie as tie
 
 abbrev Inv-loop : tie.InvT-loop
 Inv-loop journal₀ at row a next₀ i₀ journal next i =
-    Puts (entriesBytes (addsOf (a .0) (take i row))) at journal₀ next journal × (i ≤ length row) × (length journal ≡ length journal₀)
+    Puts (rowBytes (a .0) (take i row)) at journal₀ next journal × (i ≤ length row) × (length journal ≡ length journal₀)
 
 abbrev μ-loop : tie.MeasureT-loop
 μ-loop journal₀ at row a next₀ i₀ journal next i = length row - i
@@ -32,9 +31,10 @@ shared-slice-read-t12 c = search needs
 
 put-add-requires : tie.Need-put-add-requires Inv-loop μ-loop
 put-add-requires c κs =
-    let a = c .before .before .before .before .before .before .args in
-    let w = c .before .before .before .loop in
-    omega (arith, bytes-room (a .a .0) (a .row .now) (w .i) (c .before .before .loop-test .taken), w .inv .0 .next, w .inv .2, c .before .before .before .before .before .before .pre)
+    let test = c .before .before in
+    let w = test .before .loop in
+    let start = test .before .before .before .before in
+    omega (arith, bytes-room (start .args .a .0) (start .args .row .now) (w .i) (test .loop-test .taken), w .inv .0 .next, w .inv .2, start .pre)
 
 add-i : tie.Need-add-i Inv-loop μ-loop
 add-i c = search needs
@@ -44,12 +44,18 @@ loop-less c = search needs
 
 loop-again : tie.Need-loop-again Inv-loop μ-loop
 loop-again c =
-    let a = c .before .before .before .before .before .before .before .before .before .args in
-    let w = c .before .before .before .before .before .before .loop in
-    let room = bytes-room (a .a .0) (a .row .now) (w .i) (c .before .before .before .before .before .loop-test .taken) in (
-      rw (bytes-next (a .a .0) (a .row .now) (w .i) (c .before .before .before .before .before .loop-test .taken)) (puts-then (entriesBytes (addsOf (a .a .0) (take (w .i) (a .row .now)))) (entriesBytes (addsOf (a .a .0) (getD (a .row .now) (w .i) 0 ∷ []))) (a .at) (a .journal .now) (omega (arith, room, c .before .before .before .before .before .before .before .before .before .pre)) _ _ _ _ (w .inv .0) (c .before .before .put-add .ensures)),
+    let put = c .before .before in
+    let test = put .before .before .before in
+    let w = test .before .loop in
+    let start = test .before .before .before .before in
+    let a = start .args in
+    let row = a .row .now in
+    let room = bytes-room (a .a .0) row (w .i) (test .loop-test .taken) in (
+      rw (bytes-next (a .a .0) row (w .i) (test .loop-test .taken))
+          (puts-then (rowBytes (a .a .0) (take (w .i) row)) (rowBytes (a .a .0) (getD row (w .i) 0 ∷ [])) (a .at) (a .journal .now)
+          (omega (arith, room, start .pre)) _ _ _ _ (w .inv .0) (put .put-add .ensures)),
       omega arith,
-      c .before .before .put-add .kept .0 ∙ w .inv .2,
+      put .put-add .kept .0 ∙ w .inv .2,
     )
 
 same-length : tie.Need-same-length Inv-loop μ-loop
@@ -57,8 +63,8 @@ same-length c = search needs
 
 returns : tie.Need-returns Inv-loop μ-loop
 returns c =
-    let a = c .before .before .before .before .args in
-    rw (take-all (c .before .loop .i) (a .row .now) (omega arith)) at (c .before .loop .inv .0)
+    let w = c .before in
+    rw (take-all (w .loop .i) (w .before .before .before .args .row .now) (omega arith)) at (w .loop .inv .0)
 
 pub put-adds-of-spec : {M : Type 1} → statement M
 put-adds-of-spec =

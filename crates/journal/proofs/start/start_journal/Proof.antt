@@ -30,40 +30,47 @@ same-length c = search needs
 
 returns-2 : tie.Need-returns-2
 returns-2 c =
-    let plan = c .before .before .before .before .before .check-plan .ensures in
-    let zero = c .before .before .before .before .if1 .left in
-    let n = c .before .before .before .count-adds .ensures _ (plan .1 zero) in
+    let count = c .before .before .before in
+    let plan = count .before .before .check-plan .ensures in
+    let zero = count .before .if1 .left in
+    let n = count .count-adds .ensures _ (plan .1 zero) in
     start-full _ _ _ (sym (plan .0) ∙ zero) _ (start-size _ _ (n .0)) _ (c .before .space-number .ensures) (c .if2 .taken)
 
 put-first-requires : tie.Need-put-first-requires
 put-first-requires c κs =
-    let room = space-room _ _ (sym (c .before .before .space-number .ensures) ∙ c .before .if2 .left) in
-    omega (arith, room .0)
+    let test = c .before in
+    omega (arith, space-room _ _ (sym (test .before .space-number .ensures) ∙ test .if2 .left) .0)
 
 put-adds-requires : tie.Need-put-adds-requires
 put-adds-requires c κs =
-    let plan = c .before .before .before .before .before .before .before .before .before .before .check-plan .ensures .1 (c .before .before .before .before .before .before .before .before .before .if1 .left) in
-    let n = c .before .before .before .before .before .before .before .before .count-adds .ensures _ plan in
-    let room = space-room _ _ (sym (c .before .before .before .before .before .before .space-number .ensures) ∙ c .before .before .before .before .before .if2 .left) in
-    let p = c .before .before .before .put-first in
-    (_, plan, adds-room _ _ _ _ _ _ (n .0) (room .0) (p .ensures) (p .kept .0))
+    let first = c .before .before .before in
+    let test = first .before .before in
+    let count = test .before .before .before in
+    let plan = count .before .before .check-plan .ensures .1 (count .before .if1 .left) in
+    let room = space-room _ _ (sym (test .before .space-number .ensures) ∙ test .if2 .left) in
+    (_, plan, adds-room _ _ _ _ _ _ (count .count-adds .ensures _ plan .0) (room .0) (first .put-first .ensures) (first .put-first .kept .0))
 
 cast-t20 : tie.Need-cast-t20
 cast-t20 c =
-    let room = space-room _ _ (sym (c .before .before .before .before .before .before .before .before .before .space-number .ensures) ∙ c .before .before .before .before .before .before .before .before .if2 .left) in
-    omega (arith, room .1)
+    let test = c .before .before .before .before .before .before .before .before in
+    omega (arith, space-room _ _ (sym (test .before .space-number .ensures) ∙ test .if2 .left) .1)
 
 same-length-2 : tie.Need-same-length-2
 same-length-2 c = search needs
 
 returns-3 : tie.Need-returns-3
 returns-3 c =
-    let plan = c .before .before .before .before .before .before .before .before .before .before .before .before .before .check-plan .ensures in
-    let zero = c .before .before .before .before .before .before .before .before .before .before .before .before .if1 .left in
-    let n = c .before .before .before .before .before .before .before .before .before .before .before .count-adds .ensures _ (plan .1 zero) in
-    let room = space-room _ _ (sym (c .before .before .before .before .before .before .before .before .before .space-number .ensures) ∙ c .before .before .before .before .before .before .before .before .if2 .left) in
-    let p = c .before .before .before .before .before .before .put-first in
-    start-done _ _ _ (sym (plan .0) ∙ zero) _ (start-size _ _ (n .0)) (sym (c .before .before .before .before .before .before .before .before .if2 .left) ∙ c .before .before .before .before .before .before .before .before .before .space-number .ensures) _ _ _ _ (p .ensures) (c .before .before .put-adds .ensures _ (plan .1 zero) (adds-room _ _ _ _ _ _ (n .0) (room .0) (p .ensures) (p .kept .0)))
+    let adds = c .before .before in
+    let first = adds .before .before .before .before in
+    let test = first .before .before in
+    let count = test .before .before .before in
+    let plan = count .before .before .check-plan .ensures in
+    let zero = count .before .if1 .left in
+    let n = count .count-adds .ensures _ (plan .1 zero) in
+    let space = test .before .space-number .ensures in
+    let room = space-room _ _ (sym space ∙ test .if2 .left) in
+    start-done _ _ _ (sym (plan .0) ∙ zero) _ (start-size _ _ (n .0)) (sym (test .if2 .left) ∙ space) _ _ _ _ (first .put-first .ensures)
+    (adds .put-adds .ensures _ (plan .1 zero) (adds-room _ _ _ _ _ _ (n .0) (room .0) (first .put-first .ensures) (first .put-first .kept .0)))
 
 pub start-journal-spec : {M : Type 1} → statement M
 start-journal-spec =

@@ -20,7 +20,9 @@ wide-byte-requires : tie.Need-wide-byte-requires
 wide-byte-requires c κs = search needs
 
 returns-3 : tie.Need-returns-3
-returns-3 c = rw (c .before .number-at .ensures, c .wide-byte .ensures .0) (first-length _ (c .before .before .before .before .if1 .left) (c .before .before .if2 .left))
+returns-3 c =
+    let tag = c .before .before in
+    rw (c .before .number-at .ensures, c .wide-byte .ensures .0) (first-length _ (tag .before .before .if1 .left) (tag .if2 .left))
 
 pub has-first-spec : {M : Type 1} → statement M
 has-first-spec =

@@ -22,7 +22,10 @@ wide-byte-requires : tie.Need-wide-byte-requires
 wide-byte-requires c κs = search needs
 
 returns-2 : tie.Need-returns-2
-returns-2 c = rw (c .before .number-at .ensures, c .wide-byte .ensures .0) (entry-length _ (sym (c .before .before .before .is-entry-tag .ensures) ∙ not-false _ (c .before .before .if1 .left)))
+returns-2 c =
+    let tag = c .before .before in
+    rw (c .before .number-at .ensures, c .wide-byte .ensures .0)
+    (entry-length _ (sym (tag .before .is-entry-tag .ensures) ∙ not-false _ (tag .if1 .left)))
 
 pub is-entry-spec : {M : Type 1} → statement M
 is-entry-spec =

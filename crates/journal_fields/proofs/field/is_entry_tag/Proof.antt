@@ -1,15 +1,15 @@
 -- `is_entry_tag` meets its contract.
 use borrow.Author.Tests.{eq-eqb, ne-eqb}
-use Rattle.journal_fields.specs.Fields.{isEntryTag}
+use Rattle.journal_fields.specs.Fields.{tagOf, isEntryTag}
 use Rattle.journal_fields.proofs.field.is_entry_tag.Statement.{statement}
 use Rattle.journal_fields.proofs.field.is_entry_tag.Tie as tie
 
 returns : tie.Need-returns
-unfolding isEntryTag
+unfolding isEntryTag tagOf
 returns c = rw (eq-eqb _ 43 (c .if1 .taken))
 
 returns-2 : tie.Need-returns-2
-unfolding isEntryTag
+unfolding isEntryTag tagOf
 returns-2 c = rw (ne-eqb _ 43 (c .if1 .left))
 
 pub is-entry-tag-spec : {M : Type 1} → statement M

@@ -14,16 +14,24 @@ is-entry-requires : tie.Need-is-entry-requires
 is-entry-requires c κs = search needs
 
 returns-2 : tie.Need-returns-2
-returns-2 c = field-wrong _ (c .before .before .if1 .left) (sym (c .before .is-entry .ensures) ∙ not-true _ (c .if2 .taken))
+returns-2 c =
+    let entry = c .before in
+    field-wrong _ (entry .before .if1 .left) (sym (entry .is-entry .ensures) ∙ not-true _ (c .if2 .taken))
 
 returns-3 : tie.Need-returns-3
-returns-3 c = field-short _ (c .before .before .before .if1 .left) (sym (c .before .before .is-entry .ensures) ∙ not-false _ (c .before .if2 .left)) (c .if3 .taken)
+returns-3 c =
+    let entry = c .before .before in
+    field-short _ (entry .before .if1 .left) (sym (entry .is-entry .ensures) ∙ not-false _ (c .before .if2 .left)) (c .if3 .taken)
 
 entry-in-requires : tie.Need-entry-in-requires
 entry-in-requires c κs = search needs
 
 returns-4 : tie.Need-returns-4
-returns-4 c = ap Edit (c .entry-in .ensures) ∙ field-entry _ (c .before .before .before .before .if1 .left) (sym (c .before .before .before .is-entry .ensures) ∙ not-false _ (c .before .before .if2 .left)) (c .before .if3 .left)
+returns-4 c =
+    let long = c .before in
+    let entry = long .before .before in
+    ap Edit (c .entry-in .ensures)
+    ∙ field-entry _ (entry .before .if1 .left) (sym (entry .is-entry .ensures) ∙ not-false _ (long .before .if2 .left)) (long .if3 .left)
 
 pub read-field-spec : {M : Type 1} → statement M
 read-field-spec =

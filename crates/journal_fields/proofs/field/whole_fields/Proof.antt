@@ -34,26 +34,34 @@ enum-told : tie.Need-enum-told Inv-loop μ-loop
 enum-told c = search needs
 
 returns : tie.Need-returns Inv-loop μ-loop
-returns c = rest-other _ _ (c .before .before .before .loop-test .taken) _ (c .before .read-field .ensures) (c .match .keys2) ∙ sym (c .before .before .before .before .loop .inv .0)
+returns c =
+    let read = c .before in
+    let test = read .before .before in
+    rest-other _ _ (test .loop-test .taken) _ (read .read-field .ensures) (c .match .keys2) ∙ sym (test .before .loop .inv .0)
 
 add-at : tie.Need-add-at Inv-loop μ-loop
 add-at c =
-    let s = c .before .before .before .before .before .before .before .args .bytes .now in
-    let l = rest-long s _ (c .before .before .before .before .loop-test .taken) _ (c .before .before .read-field .ensures) _ (c .enum-told .given .1) in
+    let read = c .before .before in
+    let test = read .before .before in
+    let s = test .before .before .before .args .bytes .now in
+    let l = rest-long s _ (test .loop-test .taken) _ (read .read-field .ensures) _ (c .enum-told .given .1) in
     omega arith
 
 loop-less : tie.Need-loop-less Inv-loop μ-loop
 loop-less c =
-    let s = c .before .before .before .before .before .before .before .args .bytes .now in
-    let l = rest-long s _ (c .before .before .before .before .loop-test .taken) _ (c .before .before .read-field .ensures) _ (c .enum-told .given .1) in
+    let read = c .before .before in
+    let test = read .before .before in
+    let s = test .before .before .before .args .bytes .now in
+    let l = rest-long s _ (test .loop-test .taken) _ (read .read-field .ensures) _ (c .enum-told .given .1) in
     omega arith
 
 loop-again : tie.Need-loop-again Inv-loop μ-loop
 loop-again c =
-    let s = c .before .before .before .before .before .before .before .args .bytes .now in
-    let l = rest-long s _ (c .before .before .before .before .loop-test .taken) _ (c .before .before .read-field .ensures) _ (c .enum-told .given .1) in
-    let e = rest-entry s _ (c .before .before .before .before .loop-test .taken) _ (c .before .before .read-field .ensures) _ (c .enum-told .given .1) in
-    (c .before .before .before .before .before .loop .inv .0 ∙ e, l)
+    let read = c .before .before in
+    let test = read .before .before in
+    let s = test .before .before .before .args .bytes .now in
+    let l = rest-long s _ (test .loop-test .taken) _ (read .read-field .ensures) _ (c .enum-told .given .1) in
+    (test .before .loop .inv .0 ∙ rest-entry s _ (test .loop-test .taken) _ (read .read-field .ensures) _ (c .enum-told .given .1), l)
 
 returns-2 : tie.Need-returns-2 Inv-loop μ-loop
 returns-2 c = whole-end _ _ (c .loop-test .left) ∙ sym (c .before .loop .inv .0)

@@ -1,5 +1,5 @@
 -- `refuse` meets its contract: number 9 has field 0, any other has field 1.
-use Rattle.journal_replay.specs.Steps.{refusedFirst}
+use Rattle.journal_replay.specs.inner.Steps.{refusedFirst}
 use mathlib.Core.Path.{refl}
 use borrow.Author.Tests.{eq-eqb, ne-eqb}
 use Rattle.journal_replay.proofs.rerun.refuse.Statement.{statement}

@@ -1,6 +1,6 @@
 -- `replay_core` meets its contract: refused by its first bytes or by opening, or replayed from the plan that was opened.
 use mathlib.Core.Path.{sym, _∙_}
-use Rattle.journal_fields.proofs.Numbers.{size-few, size-five}
+use Rattle.journal_fields.proofs.Numbers.{size-few, size-first-field}
 use Rattle.journal_replay.proofs.FirstField.{replay-refused, open-refused, open-replayed, banks-read}
 use borrow.Author.Needs.{needs}
 use native.Mathlib.Omega.{arith}
@@ -14,11 +14,14 @@ refuse-requires : tie.Need-refuse-requires
 refuse-requires c κs = search needs
 
 returns : tie.Need-returns
-returns c = rw (c .refuse .ensures .0, c .refuse .ensures .1) (replay-refused _ _ _ (c .before .before .head-number .ensures) (c .before .if1 .taken))
+returns c =
+    let test = c .before in
+    rw (c .refuse .ensures .0, c .refuse .ensures .1) (replay-refused _ _ _ (test .before .head-number .ensures) (test .if1 .taken))
 
 number-at-requires : tie.Need-number-at-requires
 number-at-requires c κs =
-    let five = size-five _ (c .before .before .before .before .before .before .before .before .before .args .journal .now) (sym (c .before .head-number .ensures) ∙ c .if1 .left) in
+    let head = c .before in
+    let first = size-first-field _ (head .before .before .before .before .before .before .before .before .args .journal .now) (sym (head .head-number .ensures) ∙ c .if1 .left) in
     omega arith
 
 open-all-requires : tie.Need-open-all-requires
@@ -28,16 +31,16 @@ refuse-requires-2 : tie.Need-refuse-requires-2
 refuse-requires-2 c κs = search needs
 
 same-length : tie.Need-same-length
-same-length c = c .before .before .before .before .before .before .before .before .before .before .before .before .open-all .kept .0
+same-length c = search needs
 
 same-length-2 : tie.Need-same-length-2
-same-length-2 c = c .before .before .before .before .before .before .before .before .before .before .before .before .open-all .kept .1 .0
+same-length-2 c = search needs
 
 same-length-3 : tie.Need-same-length-3
-same-length-3 c = c .before .before .before .before .before .before .before .before .before .before .before .before .open-all .kept .1 .1 .0
+same-length-3 c = search needs
 
 same-length-4 : tie.Need-same-length-4
-same-length-4 c = c .before .before .before .before .before .before .before .before .before .before .before .before .open-all .kept .1 .1 .1 .0
+same-length-4 c = search needs
 
 same-length-5 : tie.Need-same-length-5
 same-length-5 c = search needs
@@ -46,35 +49,53 @@ same-length-6 : tie.Need-same-length-6
 same-length-6 c = search needs
 
 returns-2 : tie.Need-returns-2
-returns-2 c = rw (c .refuse2 .ensures .0, c .refuse2 .ensures .1) (open-refused _ _ (sym (c .before .before .before .before .before .before .before .before .before .before .before .before .before .before .before .before .before .before .before .before .before .head-number .ensures) ∙ c .before .before .before .before .before .before .before .before .before .before .before .before .before .before .before .before .before .before .before .before .if1 .left) _ (banks-read _ _ (c .before .before .before .before .before .before .before .before .before .before .before .before .before .before .before .before .before .before .before .number-at .ensures)) _ _ (c .before .before .before .before .before .before .before .before .before .before .before .before .open-all .ensures) (c .before .if2 .taken))
+returns-2 c =
+    let plan = c .before .before .before .before .before .before .before .before .before .before .before .before in
+    let test = plan .before .before .before .before .before .before .before .before in
+    rw (c .refuse2 .ensures .0, c .refuse2 .ensures .1)
+    (open-refused _ _ (sym (test .before .head-number .ensures) ∙ test .if1 .left) _ (banks-read _ _ (plan .before .before .before .before .before .before .before .number-at .ensures)) _ _
+    (plan .open-all .ensures) (c .before .if2 .taken))
 
 enter-fields-requires : tie.Need-enter-fields-requires
 enter-fields-requires c κs =
-    let s = c .before .before .before .before .before .before .before .before .before .before .before .before .before .before .before .before .before .open-all .ensures .opened (c .before .before .before .before .before .before .if2 .left) in
-    let bytes = c .before .before .before .before .before .before .before .before .before .before .before .before .before .before .before .before .before .before .before .before .before .before .before .before .before .before .before .before .before .before .before .before .before .before .args .journal .now in
-    let z = sym (c .before .before .before .before .before .before .before .before .before .before .before .before .before .before .before .before .before .before .before .before .before .before .before .before .before .before .head-number .ensures) ∙ c .before .before .before .before .before .before .before .before .before .before .before .before .before .before .before .before .before .before .before .before .before .before .before .before .before .if1 .left in
-    record { held = (_, s .ready); few = size-few _ bytes z; later = omega arith; inside = size-five _ bytes z }
+    let fine = c .before .before .before .before .before .before in
+    let plan = fine .before .before .before .before .before .before .before .before .before .before .before in
+    let test = plan .before .before .before .before .before .before .before .before in
+    let bytes = test .before .before .before .before .before .before .before .before .before .args .journal .now in
+    let z = sym (test .before .head-number .ensures) ∙ test .if1 .left in
+    record {
+      held = (_, plan .open-all .ensures .opened (fine .if2 .left) .ready);
+      few = size-few _ bytes z;
+      later = omega arith;
+      inside = omega (arith, size-first-field _ bytes z);
+    }
 
 same-length-7 : tie.Need-same-length-7
-same-length-7 c = c .before .before .before .before .before .before .before .before .before .before .before .before .enter-fields .kept .1 .1 .0 ∙ c .before .before .before .before .before .before .before .before .before .before .before .before .before .before .before .before .before .before .before .before .before .before .before .before .before .before .before .before .before .before .open-all .kept .0
+same-length-7 c = search needs
 
 same-length-8 : tie.Need-same-length-8
-same-length-8 c = c .before .before .before .before .before .before .before .before .before .before .before .before .enter-fields .kept .1 .1 .1 .0 ∙ c .before .before .before .before .before .before .before .before .before .before .before .before .before .before .before .before .before .before .before .before .before .before .before .before .before .before .before .before .before .before .open-all .kept .1 .0
+same-length-8 c = search needs
 
 same-length-9 : tie.Need-same-length-9
-same-length-9 c = c .before .before .before .before .before .before .before .before .before .before .before .before .enter-fields .kept .1 .1 .1 .1 .0 ∙ c .before .before .before .before .before .before .before .before .before .before .before .before .before .before .before .before .before .before .before .before .before .before .before .before .before .before .before .before .before .before .open-all .kept .1 .1 .0
+same-length-9 c = search needs
 
 same-length-10 : tie.Need-same-length-10
-same-length-10 c = c .before .before .before .before .before .before .before .before .before .before .before .before .enter-fields .kept .1 .1 .1 .1 .1 .0 ∙ c .before .before .before .before .before .before .before .before .before .before .before .before .before .before .before .before .before .before .before .before .before .before .before .before .before .before .before .before .before .before .open-all .kept .1 .1 .1 .0
+same-length-10 c = search needs
 
 same-length-11 : tie.Need-same-length-11
-same-length-11 c = c .before .before .before .before .before .before .before .before .before .before .before .before .enter-fields .kept .1 .1 .1 .1 .1 .1 .0
+same-length-11 c = search needs
 
 same-length-12 : tie.Need-same-length-12
-same-length-12 c = c .before .before .before .before .before .before .before .before .before .before .before .before .enter-fields .kept .1 .1 .1 .1 .1 .1 .1 .0
+same-length-12 c = search needs
 
 returns-3 : tie.Need-returns-3
-returns-3 c = open-replayed _ _ (sym (c .before .before .before .before .before .before .before .before .before .before .before .before .before .before .before .before .before .before .before .before .before .before .before .before .before .before .before .before .before .before .before .before .before .before .before .before .before .before .before .head-number .ensures) ∙ c .before .before .before .before .before .before .before .before .before .before .before .before .before .before .before .before .before .before .before .before .before .before .before .before .before .before .before .before .before .before .before .before .before .before .before .before .before .before .if1 .left) _ (banks-read _ _ (c .before .before .before .before .before .before .before .before .before .before .before .before .before .before .before .before .before .before .before .before .before .before .before .before .before .before .before .before .before .before .before .before .before .before .before .before .before .number-at .ensures)) _ _ (c .before .before .before .before .before .before .before .before .before .before .before .before .before .before .before .before .before .before .before .before .before .before .before .before .before .before .before .before .before .before .open-all .ensures) (c .before .before .before .before .before .before .before .before .before .before .before .before .before .before .before .before .before .before .before .if2 .left) _ (c .before .before .before .before .before .before .before .before .before .before .before .before .enter-fields .ensures .of)
+returns-3 c =
+    let enter = c .before .before .before .before .before .before .before .before .before .before .before .before in
+    let fine = enter .before .before .before .before .before .before .before in
+    let plan = fine .before .before .before .before .before .before .before .before .before .before .before in
+    let test = plan .before .before .before .before .before .before .before .before in
+    open-replayed _ _ (sym (test .before .head-number .ensures) ∙ test .if1 .left) _ (banks-read _ _ (plan .before .before .before .before .before .before .before .number-at .ensures)) _ _
+    (plan .open-all .ensures) (fine .if2 .left) _ (enter .enter-fields .ensures .of)
 
 pub replay-core-spec : {M : Type 1} → statement M
 replay-core-spec =

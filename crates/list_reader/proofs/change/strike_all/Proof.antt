@@ -1,12 +1,14 @@
 -- `strike_all` meets its contract. The invariant: memory holds a plan in which `left` clashes of b are left, and striking these leads to the same state.
+use borrow.Author.Needs.{needs}
 use mathlib.Core.Path.{refl, ap}
 use Prim.Native.Nat.{_≤_}
 use lib.ListN.{length}
 use borrow.Author.Count.{falls-down}
 use Rattle.rule.specs.Graph.{Graph}
-use Rattle.planner.specs.Calls.{memoryOf}
-use Rattle.planner.specs.Held.{Ready}
-use Rattle.list_reader.proofs.Lengths.{SameLengths, same, then}
+use Rattle.memory.specs.Memory.{memoryOf}
+use Rattle.memory.specs.Plan.{slicesOf}
+use Rattle.memory.specs.Memory.{Ready}
+use Rattle.planner.proofs.Lengths.{SameLengths, same, then}
 use Rattle.list_reader.proofs.Struck.{Left, left-start, left-some, left-turn, left-end}
 use Rattle.list_reader.proofs.Passing.{change-none, change-all}
 use native.Mathlib.Omega.{arith}
@@ -15,8 +17,8 @@ use Rattle.list_reader.proofs.change.strike_all.Tie as tie
 
 abbrev Inv-loop : tie.InvT-loop
 Inv-loop neighbours₀ degrees₀ waves₀ counts₀ trail₀ moved₀ b left₀ last₀ neighbours degrees waves counts trail moved left last =
-    let m₀ = memoryOf neighbours₀ degrees₀ waves₀ counts₀ trail₀ moved₀ (last₀ .tally) in
-    let m = memoryOf neighbours degrees waves counts trail moved (last .tally) in
+    let m₀ = memoryOf (slicesOf neighbours₀ degrees₀ waves₀ counts₀) trail₀ moved₀ (last₀ .tally) in
+    let m = memoryOf (slicesOf neighbours degrees waves counts) trail moved (last .tally) in
     ((G : Graph) → Ready G m₀ → Left G (b .0) m₀ left last m) × SameLengths m₀ m
 
 abbrev μ-loop : tie.MeasureT-loop
@@ -24,72 +26,91 @@ abbrev μ-loop : tie.MeasureT-loop
 
 returns : tie.Need-returns Inv-loop μ-loop
 returns c =
-    let far : c .before .before .before .before .before .before .before .before .before .args .tally .banks ≤ c .before .before .before .before .before .before .before .before .before .args .b .0 = omega (arith, c .if1 .taken) in
+    let at1 = c .before .before .before .before .before .before .before .before .before in
+    let far : at1 .args .tally .banks ≤ at1 .args .b .0 = omega (arith, c .if1 .taken) in
     record { of = λ G h. change-none G _ h _ far }
 
 clashes-held-requires : tie.Need-clashes-held-requires Inv-loop μ-loop
 clashes-held-requires c κs =
-    let p = c .before .before .before .before .before .before .before .before .before .before .before .before .before .pre in
-    ((p .held .0, p .held .1 .plan), c .before .before .before .before .if1 .left)
+    let at1 = c .before .before .before .before in
+    let at2 = at1 .before .before .before .before .before .before .before .before .before in
+    let p = at2 .pre in
+    ((p .held .0, p .held .1 .plan), at1 .if1 .left)
 
 loop-holds : tie.Need-loop-holds Inv-loop μ-loop
 loop-holds c = (λ G h. left-start G _ _ _ _ refl h (c .before .before .before .before .before .if1 .left) (ap length (c .clashes-held .ensures G (h .plan))), same _)
 
 clashes-held-requires-2 : tie.Need-clashes-held-requires-2 Inv-loop μ-loop
 clashes-held-requires-2 c κs =
-    let p = c .before .before .before .before .before .before .before .before .before .before .before .before .before .before .before .before .before .before .before .before .before .pre in
-    let w = c .before .before .before .before .before .before .loop .inv .0 (p .held .0) (p .held .1) in
+    let at1 = c .before .before .before .before .before .before in
+    let at2 = at1 .before .before .before .before .before .before .before .before .before .before .before .before .before .before .before in
+    let p = at2 .pre in
+    let w = at1 .loop .inv .0 (p .held .0) (p .held .1) in
     ((w .graph, w .ready .plan), w .below)
 
 shared-slice-read-t36 : tie.Need-shared-slice-read-t36 Inv-loop μ-loop
 shared-slice-read-t36 c =
-    let p = c .before .before .before .before .before .before .before .before .before .before .before .before .before .before .before .before .before .before .before .before .before .before .before .pre in
-    let w = c .before .before .before .before .before .before .before .before .loop .inv .0 (p .held .0) (p .held .1) in
-    left-some _ _ _ _ _ _ w (c .before .before .before .before .before .before .before .loop-test .taken) _ (c .before .clashes-held2 .ensures (w .graph) (w .ready .plan))
+    let at1 = c .before .before .before .before .before .before .before in
+    let at2 = at1 .before in
+    let at3 = at2 .before .before .before .before .before .before .before .before .before .before .before .before .before .before .before in
+    let p = at3 .pre in
+    let w = at2 .loop .inv .0 (p .held .0) (p .held .1) in
+    left-some _ _ _ _ _ _ w (at1 .loop-test .taken) _ (c .before .clashes-held2 .ensures (w .graph) (w .ready .plan))
 
-strike-held-requires : tie.Need-strike-held-requires Inv-loop μ-loop
-strike-held-requires c κs =
-    let p = c .before .before .before .before .before .before .before .before .before .before .before .before .before .before .before .before .before .before .before .before .before .before .before .before .before .before .before .before .before .pre in
-    let w = c .before .before .before .before .before .before .before .before .before .before .before .before .before .before .loop .inv .0 (p .held .0) (p .held .1) in
+edit-held-requires : tie.Need-edit-held-requires Inv-loop μ-loop
+edit-held-requires c κs =
+    let at1 = c .before .before .before .before .before .before .before .before .before .before .before .before .before .before in
+    let at2 = at1 .before .before .before .before .before .before .before .before .before .before .before .before .before .before .before in
+    let p = at2 .pre in
+    let w = at1 .loop .inv .0 (p .held .0) (p .held .1) in
     (w .graph, w .ready)
 
 sub-left : tie.Need-sub-left Inv-loop μ-loop
-sub-left c = c .before .before .before .before .before .before .before .before .before .before .before .before .before .before .before .before .before .before .before .before .before .before .before .before .before .before .loop-test .taken
+sub-left c =
+    c .before .before .before .before .before .before .before .before .before .before .before .before .before .before .before .before .before .before .before .before .before .before .before .before
+    .before .before .loop-test .taken
 
 loop-less : tie.Need-loop-less Inv-loop μ-loop
-loop-less c = falls-down _ (c .before .before .before .before .before .before .before .before .before .before .before .before .before .before .before .before .before .before .before .before .before .before .before .before .before .before .loop-test .taken)
+loop-less c =
+    falls-down _ (c .before .before .before .before .before .before .before .before .before .before .before .before .before .before .before .before .before .before .before .before .before .before
+    .before .before .before .before .loop-test .taken)
 
 loop-again : tie.Need-loop-again Inv-loop μ-loop
 loop-again c =
-    let i = c .before .before .before .before .before .before .before .before .before .before .before .before .before .before .before .before .before .before .before .before .before .before .before .before .before .before .before .loop .inv in
-    let f = c .before .before .before .before .before .before .before .before .before .before .before .before .strike-held in
-    let k = f .kept in (
-      λ G h. let w = i .0 G h in left-turn G _ _ _ _ _ w (c .before .before .before .before .before .before .before .before .before .before .before .before .before .before .before .before .before .before .before .before .before .before .before .before .before .before .loop-test .taken) _ (c .before .before .before .before .before .before .before .before .before .before .before .before .before .before .before .before .before .before .before .before .clashes-held2 .ensures (w .graph) (w .ready .plan)) _ _ (f .ensures (w .graph) (w .ready)),
+    let at1 = c .before .before .before .before .before .before .before .before .before .before .before .before in
+    let at2 = at1 .before .before .before .before .before .before .before .before in
+    let at3 = at2 .before .before .before .before .before .before in
+    let at4 = at3 .before in
+    let i = at4 .loop .inv in
+    let f = at1 .edit-held in
+    let k = f .kept .1 in (
+      λ G h. let w = i .0 G h in left-turn G _ _ _ _ _ w (at3 .loop-test .taken) _ (at2 .clashes-held2 .ensures (w .graph) (w .ready .plan)) _ _ (f .ensures (w .graph) (w .ready)),
       then _ _ _ (i .1) (record { neighbours = k .0; degrees = k .1 .0; waves = k .1 .1 .0; counts = k .1 .1 .1 .0; trail = k .1 .1 .1 .1 .0; moved = k .1 .1 .1 .1 .1 .0 }),
     )
 
 same-length : tie.Need-same-length Inv-loop μ-loop
-same-length c = c .before .loop .inv .1 .neighbours
+same-length c = search needs
 
 same-length-2 : tie.Need-same-length-2 Inv-loop μ-loop
-same-length-2 c = c .before .loop .inv .1 .degrees
+same-length-2 c = search needs
 
 same-length-3 : tie.Need-same-length-3 Inv-loop μ-loop
-same-length-3 c = c .before .loop .inv .1 .waves
+same-length-3 c = search needs
 
 same-length-4 : tie.Need-same-length-4 Inv-loop μ-loop
-same-length-4 c = c .before .loop .inv .1 .counts
+same-length-4 c = search needs
 
 same-length-5 : tie.Need-same-length-5 Inv-loop μ-loop
-same-length-5 c = c .before .loop .inv .1 .trail
+same-length-5 c = search needs
 
 same-length-6 : tie.Need-same-length-6 Inv-loop μ-loop
-same-length-6 c = c .before .loop .inv .1 .moved
+same-length-6 c = search needs
 
 returns-2 : tie.Need-returns-2 Inv-loop μ-loop
 returns-2 c =
     record {
-      of = λ G h. let w = c .before .loop .inv .0 G h in change-all G _ h _ _ _ (c .before .before .before .before .before .before .before .if1 .left) (w .number) (left-end G _ _ _ _ _ w (c .loop-test .left));
+      of = λ G h. let w = c .before .loop .inv .0 G h in change-all G _ h _ _ _ (c .before .before .before .before .before .before .before .if1 .left) (w .number)
+          (left-end G _ _ _ _ _ w (c .loop-test .left));
     }
 
 pub strike-all-spec : {M : Type 1} → statement M
@@ -103,7 +124,7 @@ strike-all-spec =
     loop-holds
     clashes-held-requires-2
     shared-slice-read-t36
-    strike-held-requires
+    edit-held-requires
     sub-left
     loop-less
     loop-again

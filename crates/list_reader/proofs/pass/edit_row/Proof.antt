@@ -31,28 +31,34 @@ returns : tie.Need-returns
 returns c = edits-none _ _ _ (c .before .before .before .find .ensures) _ _ _ refl refl _ (c .before .read-row .ensures) (c .match .keys2) refl
 
 apply-requires : tie.Need-apply-requires
-apply-requires c κs = record { held = c .before .before .before .before .before .before .before .before .before .before .before .before .before .before .before .before .before .before .before .pre .held }
+apply-requires c κs =
+    record { held = c .before .before .before .before .before .before .before .before .before .before .before .before .before .before .before .before .before .before .before .pre .held }
 
 same-length : tie.Need-same-length
-same-length c = c .before .before .before .before .before .before .before .before .before .before .before .before .before .before .apply .kept .0
+same-length c = search needs
 
 same-length-2 : tie.Need-same-length-2
-same-length-2 c = c .before .before .before .before .before .before .before .before .before .before .before .before .before .before .apply .kept .1 .0
+same-length-2 c = search needs
 
 same-length-3 : tie.Need-same-length-3
-same-length-3 c = c .before .before .before .before .before .before .before .before .before .before .before .before .before .before .apply .kept .1 .1 .0
+same-length-3 c = search needs
 
 same-length-4 : tie.Need-same-length-4
-same-length-4 c = c .before .before .before .before .before .before .before .before .before .before .before .before .before .before .apply .kept .1 .1 .1 .0
+same-length-4 c = search needs
 
 same-length-5 : tie.Need-same-length-5
-same-length-5 c = c .before .before .before .before .before .before .before .before .before .before .before .before .before .before .apply .kept .1 .1 .1 .1 .0
+same-length-5 c = search needs
 
 same-length-6 : tie.Need-same-length-6
-same-length-6 c = c .before .before .before .before .before .before .before .before .before .before .before .before .before .before .apply .kept .1 .1 .1 .1 .1 .0
+same-length-6 c = search needs
 
 returns-2 : tie.Need-returns-2
-returns-2 c = edits-one _ _ _ (c .before .before .before .before .before .before .before .before .before .before .before .before .before .before .before .before .before .before .before .before .before .before .before .before .before .before .find .ensures) _ _ _ refl refl _ (sym (c .before .before .before .before .before .before .before .before .before .before .before .before .before .before .before .before .before .before .before .before .before .before .change .given .1) ∙ c .before .before .before .before .before .before .before .before .before .before .before .before .before .before .before .before .before .before .before .before .before .before .before .before .read-row .ensures) _ _ (c .before .before .before .before .before .before .before .before .before .before .before .before .before .before .apply .ensures) refl
+returns-2 c =
+    let at1 = c .before .before .before .before .before .before .before .before .before .before .before .before .before .before in
+    let at2 = at1 .before .before .before .before .before .before .before .before in
+    let at3 = at2 .before .before in
+    let at4 = at3 .before .before in
+    edits-one _ _ _ (at4 .find .ensures) _ _ _ refl refl _ (sym (at2 .change .given .1) ∙ at3 .read-row .ensures) _ _ (at1 .apply .ensures) refl
 
 pub edit-row-spec : {M : Type 1} → statement M
 edit-row-spec =

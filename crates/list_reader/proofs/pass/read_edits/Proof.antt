@@ -5,9 +5,10 @@ use Prim.Native.Nat.{_+_, _-_, _≤_, _<_}
 use lib.ListN.{length}
 use borrow.Author.Tests.{ltb-true, ltb-false}
 use Rattle.rule.specs.Graph.{Graph}
-use Rattle.planner.specs.Calls.{memoryOf}
-use Rattle.planner.specs.Held.{Ready}
-use Rattle.list_reader.proofs.Lengths.{SameLengths, same, then}
+use Rattle.memory.specs.Memory.{memoryOf}
+use Rattle.memory.specs.Plan.{slicesOf}
+use Rattle.memory.specs.Memory.{Ready}
+use Rattle.planner.proofs.Lengths.{SameLengths, same, then}
 use Rattle.list_reader.proofs.Passing.{Ahead, ahead-start, ahead-turn, ahead-end}
 use borrow.Author.Needs.{needs}
 use native.Mathlib.Omega.{arith}
@@ -16,8 +17,8 @@ use Rattle.list_reader.proofs.pass.read_edits.Tie as tie
 
 abbrev Inv-loop : tie.InvT-loop
 Inv-loop list first neighbours₀ degrees₀ waves₀ counts₀ trail₀ moved₀ last₀ neighbours degrees waves counts trail moved last =
-    let m₀ = memoryOf neighbours₀ degrees₀ waves₀ counts₀ trail₀ moved₀ (last₀ .tally) in
-    let m = memoryOf neighbours degrees waves counts trail moved (last .tally) in
+    let m₀ = memoryOf (slicesOf neighbours₀ degrees₀ waves₀ counts₀) trail₀ moved₀ (last₀ .tally) in
+    let m = memoryOf (slicesOf neighbours degrees waves counts) trail moved (last .tally) in
     ((G : Graph) → Ready G m₀ → Ahead list first G m₀ last m)
     × SameLengths m₀ m
     × (last .next ≤ length list + 1)
@@ -28,19 +29,26 @@ abbrev μ-loop : tie.MeasureT-loop
     length list + 1 - last .next
 
 loop-holds : tie.Need-loop-holds Inv-loop μ-loop
-loop-holds c = (λ G h. ahead-start _ _ G _ h _ refl refl refl, same _, c .before .before .before .before .before .before .before .pre .inside, c .before .before .before .before .before .before .before .pre .later)
+loop-holds c =
+    let at1 = c .before .before .before .before .before .before .before in
+    (λ G h. ahead-start _ _ G _ h _ refl refl refl, same _, at1 .pre .inside, at1 .pre .later)
 
 add-edit-row : tie.Need-add-edit-row Inv-loop μ-loop
 add-edit-row c =
-    let w = c .before .before .before .before .before .loop in
-    let l : w .last .next < length (c .before .before .before .before .before .before .before .before .before .before .before .before .before .args .list .now) = ltb-true _ _ (c .before .if2 .taken) in
-    omega (arith, c .before .before .before .before .before .before .before .before .before .before .before .before .before .pre .few, w .inv .3)
+    let at1 = c .before .before .before .before .before in
+    let at2 = at1 .before .before .before .before .before .before .before .before in
+    let w = at1 .loop in
+    let l : w .last .next < length (at2 .args .list .now) = ltb-true _ _ (c .before .if2 .taken) in
+    omega (arith, at2 .pre .few, w .inv .3)
 
 edit-row-requires : tie.Need-edit-row-requires Inv-loop μ-loop
 edit-row-requires c κs =
-    let p = c .before .before .before .before .before .before .before .before .before .before .before .before .before .before .before .before .before .before .before .pre in
-    let w = c .before .before .before .before .before .before .before .before .before .before .before .loop .inv .0 (p .held .0) (p .held .1) in
-    record { held = (w .graph, w .ready); inside = ltb-true _ _ (c .before .before .before .before .before .before .before .if2 .taken) }
+    let at1 = c .before .before .before .before .before .before .before in
+    let at2 = at1 .before .before .before .before in
+    let at3 = at2 .before .before .before .before .before .before .before .before in
+    let p = at3 .pre in
+    let w = at2 .loop .inv .0 (p .held .0) (p .held .1) in
+    record { held = (w .graph, w .ready); inside = ltb-true _ _ (at1 .if2 .taken) }
 
 loop-less : tie.Need-loop-less Inv-loop μ-loop
 loop-less c =
@@ -49,10 +57,14 @@ loop-less c =
 
 loop-again : tie.Need-loop-again Inv-loop μ-loop
 loop-again c =
-    let i = c .before .before .before .before .before .before .before .before .before .before .before .before .before .before .before .before .before .before .before .before .before .before .before .before .loop .inv in
-    let f = c .before .before .before .before .before .before .before .before .before .before .before .before .edit-row in
+    let at1 = c .before .before .before .before .before .before .before .before .before .before .before .before in
+    let at2 = at1 .before .before .before .before .before .before .before .before in
+    let at3 = at2 .before .before in
+    let at4 = at3 .before .before in
+    let i = at4 .loop .inv in
+    let f = at1 .edit-row in
     let k = f .kept .1 .1 .1 in (
-      λ G h. ahead-turn _ _ G _ _ _ (i .0 G h) (c .before .before .before .before .before .before .before .before .before .before .before .before .before .before .before .before .before .before .before .before .before .before .if1 .taken) (ltb-true _ _ (c .before .before .before .before .before .before .before .before .before .before .before .before .before .before .before .before .before .before .before .before .if2 .taken)) _ _ (f .ensures),
+      λ G h. ahead-turn _ _ G _ _ _ (i .0 G h) (at3 .if1 .taken) (ltb-true _ _ (at2 .if2 .taken)) _ _ (f .ensures),
       then _ _ _ (i .1) (record { neighbours = k .0; degrees = k .1 .0; waves = k .1 .1 .0; counts = k .1 .1 .1 .0; trail = k .1 .1 .1 .1 .0; moved = k .1 .1 .1 .1 .1 .0 }),
       f .ensures .within,
       omega (arith, f .ensures .row, f .ensures .on, i .3),
@@ -62,27 +74,28 @@ ended-requires : tie.Need-ended-requires Inv-loop μ-loop
 ended-requires c κs = search needs
 
 same-length : tie.Need-same-length Inv-loop μ-loop
-same-length c = c .before .before .before .before .loop .inv .1 .neighbours
+same-length c = search needs
 
 same-length-2 : tie.Need-same-length-2 Inv-loop μ-loop
-same-length-2 c = c .before .before .before .before .loop .inv .1 .degrees
+same-length-2 c = search needs
 
 same-length-3 : tie.Need-same-length-3 Inv-loop μ-loop
-same-length-3 c = c .before .before .before .before .loop .inv .1 .waves
+same-length-3 c = search needs
 
 same-length-4 : tie.Need-same-length-4 Inv-loop μ-loop
-same-length-4 c = c .before .before .before .before .loop .inv .1 .counts
+same-length-4 c = search needs
 
 same-length-5 : tie.Need-same-length-5 Inv-loop μ-loop
-same-length-5 c = c .before .before .before .before .loop .inv .1 .trail
+same-length-5 c = search needs
 
 same-length-6 : tie.Need-same-length-6 Inv-loop μ-loop
-same-length-6 c = c .before .before .before .before .loop .inv .1 .moved
+same-length-6 c = search needs
 
 returns : tie.Need-returns Inv-loop μ-loop
 returns c =
     record {
-      of = λ G h. rw (c .ended .ensures) (ahead-end _ _ G _ _ _ (c .before .before .before .before .loop .inv .0 G h) (λ z. ⊎-elim (λ w. ltb-false _ _ (w .2 .left)) (λ w. absurd (w .left z)) (c .before .before .if1 .came)));
+      of = λ G h. rw (c .ended .ensures) (ahead-end _ _ G _ _ _ (c .before .before .before .before .loop .inv .0 G h)
+          (λ z. ⊎-elim (λ w. ltb-false _ _ (w .2 .left)) (λ w. absurd (w .left z)) (c .before .before .if1 .came)));
     }
 
 pub read-edits-spec : {M : Type 1} → statement M

@@ -28,34 +28,46 @@ enum-known-banks : tie.Need-enum-known-banks
 enum-known-banks c = search needs
 
 returns-2 : tie.Need-returns-2
-returns-2 c = first-other _ _ _ (c .before .before .before .before .if1 .left) (c .before .before .before .find .ensures) _ (c .before .read-row .ensures) (c .match .keys2)
+returns-2 c =
+    let at1 = c .before .before .before in
+    let at2 = at1 .before in
+    first-other _ _ _ (at2 .if1 .left) (at1 .find .ensures) _ (c .before .read-row .ensures) (c .match .keys2)
 
 add-next : tie.Need-add-next
 add-next c = omega (arith, c .before .before .before .before .before .find .ensures .high)
 
 begin-requires : tie.Need-begin-requires
-begin-requires c κs = record { few = c .before .before .before .before .before .before .before .before .before .before .before .before .if1 .left; later = omega arith; inside = omega (arith, c .before .before .before .before .before .before .before .before .before .before .before .find .ensures .high) }
+begin-requires c κs =
+    let at1 = c .before .before .before .before .before .before .before .before .before .before .before in
+    let at2 = at1 .before in
+    record { few = at2 .if1 .left; later = omega arith; inside = omega (arith, at1 .find .ensures .high) }
 
 same-length : tie.Need-same-length
-same-length c = c .before .before .before .before .before .before .before .before .before .before .before .before .begin .kept .1 .1 .1 .0
+same-length c = search needs
 
 same-length-2 : tie.Need-same-length-2
-same-length-2 c = c .before .before .before .before .before .before .before .before .before .before .before .before .begin .kept .1 .1 .1 .1 .0
+same-length-2 c = search needs
 
 same-length-3 : tie.Need-same-length-3
-same-length-3 c = c .before .before .before .before .before .before .before .before .before .before .before .before .begin .kept .1 .1 .1 .1 .1 .0
+same-length-3 c = search needs
 
 same-length-4 : tie.Need-same-length-4
-same-length-4 c = c .before .before .before .before .before .before .before .before .before .before .before .before .begin .kept .1 .1 .1 .1 .1 .1 .0
+same-length-4 c = search needs
 
 same-length-5 : tie.Need-same-length-5
-same-length-5 c = c .before .before .before .before .before .before .before .before .before .before .before .before .begin .kept .1 .1 .1 .1 .1 .1 .1 .0
+same-length-5 c = search needs
 
 same-length-6 : tie.Need-same-length-6
-same-length-6 c = c .before .before .before .before .before .before .before .before .before .before .before .before .begin .kept .1 .1 .1 .1 .1 .1 .1 .1 .0
+same-length-6 c = search needs
 
 returns-3 : tie.Need-returns-3
-returns-3 c = c .before .before .before .before .before .before .before .before .before .before .before .before .begin .ensures .is ∙ first-banks _ _ _ (c .before .before .before .before .before .before .before .before .before .before .before .before .before .before .before .before .before .before .before .before .before .before .before .before .before .if1 .left) (c .before .before .before .before .before .before .before .before .before .before .before .before .before .before .before .before .before .before .before .before .before .before .before .before .find .ensures) _ (sym (c .before .before .before .before .before .before .before .before .before .before .before .before .before .before .before .before .before .before .before .before .banks .given .1) ∙ c .before .before .before .before .before .before .before .before .before .before .before .before .before .before .before .before .before .before .before .before .before .before .read-row .ensures)
+returns-3 c =
+    let at1 = c .before .before .before .before .before .before .before .before .before .before .before .before in
+    let at2 = at1 .before .before .before .before .before .before .before .before in
+    let at3 = at2 .before .before in
+    let at4 = at3 .before .before in
+    let at5 = at4 .before in
+    at1 .begin .ensures .is ∙ first-banks _ _ _ (at5 .if1 .left) (at4 .find .ensures) _ (sym (at2 .banks .given .1) ∙ at3 .read-row .ensures)
 
 pub read-list-core-spec : {M : Type 1} → statement M
 read-list-core-spec =

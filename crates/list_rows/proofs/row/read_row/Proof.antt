@@ -40,7 +40,12 @@ read-two-parts-requires : tie.Need-read-two-parts-requires
 read-two-parts-requires c κs = search needs
 
 returns-2 : tie.Need-returns-2
-returns-2 c = c .read-two-parts .ensures ∙ row-two _ _ (c .before .before .before .before .before .before .find .ensures) (c .before .before .before .before .before .if1 .left) _ (c .before .before .before .before .find2 .ensures) (c .before .before .before .if2 .taken)
+returns-2 c =
+    let at1 = c .before .before .before in
+    let at2 = at1 .before in
+    let p = at2 in
+    let q = p .before .before in
+    c .read-two-parts .ensures ∙ row-two _ _ (q .find .ensures) (p .before .if1 .left) _ (p .find2 .ensures) (at1 .if2 .taken)
 
 add-third : tie.Need-add-third
 add-third c = omega arith
@@ -79,10 +84,21 @@ read-three-parts-requires : tie.Need-read-three-parts-requires
 read-three-parts-requires c κs = search needs
 
 returns-3 : tie.Need-returns-3
-returns-3 c = c .read-three-parts .ensures ∙ row-three _ _ (c .before .before .before .before .before .before .before .before .before .find .ensures) (c .before .before .before .before .before .before .before .before .if1 .left) _ (c .before .before .before .before .before .before .before .find2 .ensures) (c .before .before .before .before .before .before .if2 .left) _ (c .before .before .before .before .before .find3 .ensures) (c .before .before .before .before .if3 .taken)
+returns-3 c =
+    let at1 = c .before .before .before .before in
+    let at2 = at1 .before in
+    let p = at2 in
+    let q = p .before .before in
+    let r = q .before .before in
+    c .read-three-parts .ensures
+    ∙ row-three _ _ (r .find .ensures) (q .before .if1 .left) _ (q .find2 .ensures) (p .before .if2 .left) _ (p .find3 .ensures) (at1 .if3 .taken)
 
 returns-4 : tie.Need-returns-4
-returns-4 c = row-more _ _ (c .before .before .before .before .before .find .ensures) (c .before .before .before .before .if1 .left) _ (c .before .before .before .find2 .ensures) (c .before .before .if2 .left) _ (c .before .find3 .ensures) (c .if3 .left)
+returns-4 c =
+    let p = c .before in
+    let q = p .before .before in
+    let r = q .before .before in
+    row-more _ _ (r .find .ensures) (q .before .if1 .left) _ (q .find2 .ensures) (p .before .if2 .left) _ (p .find3 .ensures) (c .if3 .left)
 
 pub read-row-spec : {M : Type 1} → statement M
 read-row-spec =

@@ -28,22 +28,48 @@ enum-told-2 : tie.Need-enum-told-2
 enum-told-2 c = search needs
 
 returns-2 : tie.Need-returns-2
-returns-2 c = three-half _ _ _ _ (sym (c .before .before .before .before .before .before .read-number .ensures) ∙ c .before .before .before .before .a .given .1) (sym (c .before .before .read-number2 .ensures) ∙ c .enum-told2 .given .1)
+returns-2 c =
+    let p = c .before .before .before .before in
+    three-half _ _ _ _ (sym (p .before .before .read-number .ensures) ∙ p .a .given .1)
+    (sym (c .before .before .read-number2 .ensures) ∙ c .enum-told2 .given .1)
 
 returns-3 : tie.Need-returns-3
-returns-3 c = three-wide _ _ _ _ (sym (c .before .before .before .before .before .before .before .before .read-number .ensures) ∙ c .before .before .before .before .before .before .a .given .1) _ (sym (c .before .before .before .before .read-number2 .ensures) ∙ c .before .before .b .given .1) (c .if1 .taken)
+returns-3 c =
+    let p = c .before .before .before .before .before .before in
+    let q = c .before .before in
+    three-wide _ _ _ _ (sym (p .before .before .read-number .ensures) ∙ p .a .given .1) _ (sym (q .before .before .read-number2 .ensures) ∙ q .b .given .1) (c .if1 .taken)
 
-shared-slice-read-kind : tie.Need-shared-slice-read-kind
-shared-slice-read-kind c = omega arith
+shared-slice-read-first : tie.Need-shared-slice-read-first
+shared-slice-read-first c = omega arith
 
 returns-4 : tie.Need-returns-4
-returns-4 c = three-add _ _ _ _ (sym (c .before .before .before .before .before .before .before .before .before .before .read-number .ensures) ∙ c .before .before .before .before .before .before .before .before .a .given .1) _ (sym (c .before .before .before .before .before .before .read-number2 .ensures) ∙ c .before .before .before .before .b .given .1) (c .before .before .if1 .left) (c .if2 .taken)
+returns-4 c =
+    let at1 = c .before .before .before .before in
+    let at2 = at1 .before .before .before .before in
+    let p = at2 in
+    let q = at1 in
+    three-add _ _ _ _ (sym (p .before .before .read-number .ensures) ∙ p .a .given .1) _ (sym (q .before .before .read-number2 .ensures) ∙ q .b .given .1)
+    (c .before .before .if1 .left) (c .if2 .taken)
 
 returns-5 : tie.Need-returns-5
-returns-5 c = three-strike _ _ _ _ (sym (c .before .before .before .before .before .before .before .before .before .before .before .read-number .ensures) ∙ c .before .before .before .before .before .before .before .before .before .a .given .1) _ (sym (c .before .before .before .before .before .before .before .read-number2 .ensures) ∙ c .before .before .before .before .before .b .given .1) (c .before .before .before .if1 .left) (c .if3 .taken)
+returns-5 c =
+    let at1 = c .before .before .before in
+    let at2 = at1 .before .before in
+    let at3 = at2 .before .before .before .before in
+    let p = at3 in
+    let q = at2 in
+    three-strike _ _ _ _ (sym (p .before .before .read-number .ensures) ∙ p .a .given .1) _ (sym (q .before .before .read-number2 .ensures) ∙ q .b .given .1)
+    (at1 .if1 .left) (c .if3 .taken)
 
 returns-6 : tie.Need-returns-6
-returns-6 c = three-other _ _ _ _ (sym (c .before .before .before .before .before .before .before .before .before .before .before .read-number .ensures) ∙ c .before .before .before .before .before .before .before .before .before .a .given .1) _ (sym (c .before .before .before .before .before .before .before .read-number2 .ensures) ∙ c .before .before .before .before .before .b .given .1) (c .before .before .before .if1 .left) (c .before .if2 .left) (c .if3 .left)
+returns-6 c =
+    let at1 = c .before .before .before in
+    let at2 = at1 .before .before in
+    let at3 = at2 .before .before .before .before in
+    let p = at3 in
+    let q = at2 in
+    three-other _ _ _ _ (sym (p .before .before .read-number .ensures) ∙ p .a .given .1) _ (sym (q .before .before .read-number2 .ensures) ∙ q .b .given .1)
+    (at1 .if1 .left) (c .before .if2 .left) (c .if3 .left)
 
 pub read-three-parts-spec : {M : Type 1} → statement M
 read-three-parts-spec =
@@ -58,7 +84,7 @@ read-three-parts-spec =
     enum-told-2
     returns-2
     returns-3
-    shared-slice-read-kind
+    shared-slice-read-first
     returns-4
     returns-5
     returns-6)

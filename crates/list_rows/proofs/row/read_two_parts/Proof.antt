@@ -19,19 +19,31 @@ returns : tie.Need-returns
 returns c = two-none _ _ (sym (c .before .before .read-number .ensures) ∙ c .enum-told .given .1)
 
 returns-2 : tie.Need-returns-2
-returns-2 c = two-wide _ _ _ (sym (c .before .before .before .before .read-number .ensures) ∙ c .before .before .value .given .1) (c .if1 .taken)
+returns-2 c =
+    let p = c .before .before in
+    two-wide _ _ _ (sym (p .before .before .read-number .ensures) ∙ p .value .given .1) (c .if1 .taken)
 
-shared-slice-read-kind : tie.Need-shared-slice-read-kind
-shared-slice-read-kind c = omega arith
+shared-slice-read-first : tie.Need-shared-slice-read-first
+shared-slice-read-first c = omega arith
 
 returns-3 : tie.Need-returns-3
-returns-3 c = two-banks _ _ _ (sym (c .before .before .before .before .before .before .read-number .ensures) ∙ c .before .before .before .before .value .given .1) (c .before .before .if1 .left) (c .if2 .taken)
+returns-3 c =
+    let p = c .before .before .before .before in
+    two-banks _ _ _ (sym (p .before .before .read-number .ensures) ∙ p .value .given .1) (c .before .before .if1 .left) (c .if2 .taken)
 
 returns-4 : tie.Need-returns-4
-returns-4 c = two-all _ _ _ (sym (c .before .before .before .before .before .before .before .read-number .ensures) ∙ c .before .before .before .before .before .value .given .1) (c .before .before .before .if1 .left) (c .if3 .taken)
+returns-4 c =
+    let at1 = c .before .before .before in
+    let at2 = at1 .before .before in
+    let p = at2 in
+    two-all _ _ _ (sym (p .before .before .read-number .ensures) ∙ p .value .given .1) (at1 .if1 .left) (c .if3 .taken)
 
 returns-5 : tie.Need-returns-5
-returns-5 c = two-other _ _ _ (sym (c .before .before .before .before .before .before .before .read-number .ensures) ∙ c .before .before .before .before .before .value .given .1) (c .before .before .before .if1 .left) (c .before .if2 .left) (c .if3 .left)
+returns-5 c =
+    let at1 = c .before .before .before in
+    let at2 = at1 .before .before in
+    let p = at2 in
+    two-other _ _ _ (sym (p .before .before .read-number .ensures) ∙ p .value .given .1) (at1 .if1 .left) (c .before .if2 .left) (c .if3 .left)
 
 pub read-two-parts-spec : {M : Type 1} → statement M
 read-two-parts-spec =
@@ -42,7 +54,7 @@ read-two-parts-spec =
     enum-told
     returns
     returns-2
-    shared-slice-read-kind
+    shared-slice-read-first
     returns-3
     returns-4
     returns-5)

@@ -30,7 +30,8 @@ loop-less : tie.Need-loop-less Inv-loop μ-loop
 loop-less c = search needs
 
 loop-again : tie.Need-loop-again Inv-loop μ-loop
-loop-again c = (search needs, search needs, cleared (c .before .loop .row) (c .before .loop .c) (omega (arith, c .before .before .pre)) (c .before .loop .inv .2))
+loop-again c =
+    (search needs, search needs, cleared (c .before .loop .row) (c .before .loop .c) (omega (arith, c .before .before .pre)) (c .before .loop .inv .2))
 
 same-length : tie.Need-same-length Inv-loop μ-loop
 same-length c = search needs

@@ -4,7 +4,7 @@ use native.Mathlib.Omega.{arith}
 use Prim.Native.Nat.{_*_, _-_, _≤_}
 use mathlib.Core.Path.{_≡_}
 use lib.ListN.{getD, take, drop}
-use Rattle.memory.specs.Counts.{countIn, Tallied}
+use Rattle.memory.specs.inner.Counts.{countIn, Tallied}
 use Rattle.memory.proofs.Tallies.{count-none}
 use Rattle.memory.proofs.count.count_earlier.Statement.{statement}
 use Rattle.memory.proofs.count.count_earlier.Tie as tie
@@ -31,10 +31,16 @@ wide-requires : tie.Need-wide-requires Inv-loop μ-loop
 wide-requires c κs = search needs
 
 loop-holds : tie.Need-loop-holds Inv-loop μ-loop
-loop-holds c = (search needs, count-none (c .before .before .before .before .before .before .before .before .before .before .before .args .degrees .now) (c .before .before .before .before .before .before .before .before .before .before .before .args .waves .now) (c .before .before .before .before .before .before .before .before .before .before .before .args .b .0) (c .before .before .before .before .before .clear .ensures))
+loop-holds c =
+    let at1 = c .before .before .before .before .before in
+    let at2 = at1 .before .before .before .before .before .before in
+    (search needs, count-none (at2 .args .degrees .now) (at2 .args .waves .now) (at2 .args .b .0) (at1 .clear .ensures))
 
 count-one-requires : tie.Need-count-one-requires Inv-loop μ-loop
-count-one-requires c κs = (c .before .before .before .before .before .before .before .before .before .before .before .before .before .before .pre .0, (omega (arith, c .before .before .before .wide .ensures, c .before .loop-test .taken), c .before .before .loop .inv .1))
+count-one-requires c κs =
+    let at1 = c .before .before .before in
+    let at2 = at1 .before .before .before .before .before .before .before .before .before .before .before in
+    (at2 .pre .0, (omega (arith, at1 .wide .ensures, c .before .loop-test .taken), c .before .before .loop .inv .1))
 
 add-i : tie.Need-add-i Inv-loop μ-loop
 add-i c = search needs
@@ -50,7 +56,8 @@ same-length c = search needs
 
 returns : tie.Need-returns Inv-loop μ-loop
 returns c =
-    let e : c .before .loop .i ≡ getD (c .before .before .before .before .before .before .before .before .before .before .before .before .before .args .degrees .now) (c .before .before .before .before .before .before .before .before .before .before .before .before .before .args .b .0) 0 = omega (arith, c .before .before .wide .ensures) in
+    let at1 = c .before .before .before .before .before .before .before .before .before .before .before .before .before in
+    let e : c .before .loop .i ≡ getD (at1 .args .degrees .now) (at1 .args .b .0) 0 = omega (arith, c .before .before .wide .ensures) in
     rw e at (c .before .loop .inv .1)
 
 pub count-earlier-spec : {M : Type 1} → statement M

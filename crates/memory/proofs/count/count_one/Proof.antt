@@ -49,33 +49,47 @@ is-earlier-requires c κs =
 
 mul-row : tie.Need-mul-row
 mul-row c =
-    let p = c .before .before .before .before .before .before .before .before .before .before .before .pre in
-    let w = rw (c .before .before .before .before .wide .ensures) at (c .before .before .wide2 .ensures) in
+    let at1 = c .before .before .before .before in
+    let at2 = at1 .before .before .before .before .before .before .before in
+    let p = at2 .pre in
+    let w = rw (at1 .wide .ensures) at (c .before .before .wide2 .ensures) in
     omega (arith, w, v-small (p .0) (p .1 .0))
 
 slice-read-row : tie.Need-slice-read-row
 slice-read-row c =
-    let p = c .before .before .before .before .before .before .before .before .before .before .before .before .pre in
-    let w = rw (c .before .before .before .before .before .wide .ensures) at (c .before .before .before .wide2 .ensures) in
+    let at1 = c .before .before .before in
+    let at2 = at1 .before .before in
+    let at3 = at2 .before .before .before .before .before .before .before in
+    let p = at3 .pre in
+    let w = rw (at2 .wide .ensures) at (at1 .wide2 .ensures) in
     omega (arith, w, v-small (p .0) (p .1 .0), p .1 .1 .long)
 
 add-row : tie.Need-add-row
 add-row c =
-    let p = c .before .before .before .before .before .before .before .before .before .before .before .before .before .pre in
-    let w = rw (c .before .before .before .before .before .before .wide .ensures) at (c .before .before .before .before .wide2 .ensures) in
+    let at1 = c .before .before .before .before in
+    let at2 = at1 .before .before in
+    let at3 = at2 .before .before .before .before .before .before .before in
+    let p = at3 .pre in
+    let w = rw (at2 .wide .ensures) at (at1 .wide2 .ensures) in
     let more : c .before .before .if1 .more ≤ 1 = ⊎-elim (λ q. omega (arith, q .1)) (λ q. omega (arith, q .1)) (c .before .before .if1 .came) in
-    omega (arith, count-few (p .0) (p .1 .0) (p .1 .1) (c .before .before .before .before .wide2 .result) (omega (arith, w, v-small (p .0) (p .1 .0))))
+    omega (arith, count-few (p .0) (p .1 .0) (p .1 .1) (at1 .wide2 .result) (omega (arith, w, v-small (p .0) (p .1 .0))))
 
 mul-row-2 : tie.Need-mul-row-2
 mul-row-2 c =
-    let p = c .before .before .before .before .before .before .before .before .before .before .before .before .before .pre in
-    let w = rw (c .before .before .before .before .before .before .wide .ensures) at (c .before .before .before .before .wide2 .ensures) in
+    let at1 = c .before .before .before .before in
+    let at2 = at1 .before .before in
+    let at3 = at2 .before .before .before .before .before .before .before in
+    let p = at3 .pre in
+    let w = rw (at2 .wide .ensures) at (at1 .wide2 .ensures) in
     omega (arith, w, v-small (p .0) (p .1 .0))
 
 slice-write-row : tie.Need-slice-write-row
 slice-write-row c =
-    let p = c .before .before .before .before .before .before .before .before .before .before .before .before .before .pre in
-    let w = rw (c .before .before .before .before .before .before .wide .ensures) at (c .before .before .before .before .wide2 .ensures) in
+    let at1 = c .before .before .before .before in
+    let at2 = at1 .before .before in
+    let at3 = at2 .before .before .before .before .before .before .before in
+    let p = at3 .pre in
+    let w = rw (at2 .wide .ensures) at (at1 .wide2 .ensures) in
     omega (arith, w, v-small (p .0) (p .1 .0), p .1 .1 .long)
 
 same-length : tie.Need-same-length
@@ -83,11 +97,15 @@ same-length c = search needs
 
 returns : tie.Need-returns
 returns c =
-    let p = c .before .before .before .before .before .before .before .before .before .before .before .before .before .pre in
-    let w = rw (c .before .before .before .before .before .before .wide .ensures) at (c .before .before .before .before .wide2 .ensures) in
-    let row = c .before .before .before .before .before .before .before .before .before .before .before .before .before .args .row .now in
-    let at = c .before .before .before .before .wide2 .result in
-    let order = sym (c .before .before .before .is-earlier .ensures) in
+    let at1 = c .before .before .before in
+    let at2 = at1 .before in
+    let at3 = at2 .before .before in
+    let at4 = at3 .before .before .before .before .before .before .before in
+    let p = at4 .pre in
+    let w = rw (at3 .wide .ensures) at (at2 .wide2 .ensures) in
+    let row = at4 .args .row .now in
+    let at = at2 .wide2 .result in
+    let order = sym (at1 .is-earlier .ensures) in
     let none : getD row at 0 + 0 ≡ getD row at 0 = omega arith in
     ⊎-elim
     (λ q. rw (q .1) (counted (p .0) (p .1 .0) (p .1 .1) (order ∙ q .0 .taken) w))

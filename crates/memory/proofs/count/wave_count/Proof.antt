@@ -4,7 +4,7 @@ use native.Mathlib.Omega.{arith}
 use Prim.Native.Nat.{_-_, _≤_}
 use mathlib.Core.Logic.{⊎-elim}
 use mathlib.Core.Path.{_≡_, ap, _∙_}
-use Rattle.memory.specs.Counts.{mostOf}
+use Rattle.memory.specs.inner.Counts.{mostOf}
 use Rattle.memory.proofs.Sums.{most-none, most-next}
 use Rattle.memory.proofs.count.wave_count.Statement.{statement}
 use Rattle.memory.proofs.count.wave_count.Tie as tie
@@ -28,7 +28,10 @@ shared-slice-read-w : tie.Need-shared-slice-read-w Inv-loop μ-loop
 shared-slice-read-w c = search needs
 
 add-most : tie.Need-add-most Inv-loop μ-loop
-add-most c = omega (arith, c .before .before .before .before .before .before .pre .1 (c .before .before .before .loop .i) (omega arith))
+add-most c =
+    let at1 = c .before .before .before in
+    let at2 = at1 .before .before .before in
+    omega (arith, at2 .pre .1 (at1 .loop .i) (omega arith))
 
 add-i : tie.Need-add-i Inv-loop μ-loop
 add-i c = search needs
@@ -38,13 +41,16 @@ loop-less c = search needs
 
 loop-again : tie.Need-loop-again Inv-loop μ-loop
 loop-again c =
-    let next = most-next (c .before .before .before .before .before .before .args .waves .now) (c .before .before .before .loop .i) in
+    let at1 = c .before .before .before in
+    let at2 = at1 .before .before .before in
+    let next = most-next (at2 .args .waves .now) (at1 .loop .i) in
     (search needs, ⊎-elim (λ w. omega (arith, w .1, w .0 .taken, next)) (λ w. omega (arith, w .1, w .0 .left, next)) (c .if1 .came))
 
 returns : tie.Need-returns Inv-loop μ-loop
 returns c =
-    let e : c .before .loop .i ≡ c .before .before .before .before .args .banks = omega arith in
-    c .before .loop .inv .1 ∙ ap (mostOf (c .before .before .before .before .args .waves .now)) e
+    let at1 = c .before .before .before .before in
+    let e : c .before .loop .i ≡ at1 .args .banks = omega arith in
+    c .before .loop .inv .1 ∙ ap (mostOf (at1 .args .waves .now)) e
 
 pub wave-count-spec : {M : Type 1} → statement M
 wave-count-spec =

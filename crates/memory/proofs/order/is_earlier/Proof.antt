@@ -1,6 +1,6 @@
 -- `byCells` is `earlierBy` of the two cells.
 use borrow.Author.Needs.{needs}
-use Rattle.memory.specs.Counts.{byCells}
+use Rattle.memory.specs.inner.Counts.{byCells}
 use Rattle.memory.proofs.order.is_earlier.Statement.{statement}
 use Rattle.memory.proofs.order.is_earlier.Tie as tie
 

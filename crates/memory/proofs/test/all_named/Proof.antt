@@ -3,7 +3,7 @@ use borrow.Author.Needs.{needs}
 use native.Mathlib.Omega.{arith}
 use Prim.Native.Nat.{ℕ, _-_, _<_, _≤_}
 use borrow.Author.Count.{below-more}
-use Rattle.memory.specs.Test.{Named}
+use Rattle.memory.specs.inner.Test.{Named}
 use Rattle.memory.proofs.Tested.{granted, denied}
 use Rattle.memory.proofs.test.all_named.Statement.{statement}
 use Rattle.memory.proofs.test.all_named.Tie as tie

@@ -45,8 +45,9 @@ shared-slice-read-t21 c = search needs
 
 part-right-requires : tie.Need-part-right-requires
 part-right-requires c κs =
-    let p = c .before .before .before .before .before .before .before .pre in
-    (search needs, (search needs, p .0 .small (c .before .before .before .before .before .before .before .args .b .0) (p .1 .1 .1)))
+    let at1 = c .before .before .before .before .before .before .before in
+    let p = at1 .pre in
+    (search needs, (search needs, p .0 .small (at1 .args .b .0) (p .1 .1 .1)))
 
 returns : tie.Need-returns
 returns c =

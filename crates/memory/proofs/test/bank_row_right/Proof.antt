@@ -35,7 +35,9 @@ row-right-requires : tie.Need-row-right-requires
 row-right-requires c κs = search needs
 
 returns : tie.Need-returns
-returns c = rw (group-lent 23 (c .before .before .before .before .before .before .args .neighbours .now) (c .before .before .before .before .before .before .args .b .0)) at (c .row-right .ensures)
+returns c =
+    let at1 = c .before .before .before .before .before .before in
+    rw (group-lent 23 (at1 .args .neighbours .now) (at1 .args .b .0)) at (c .row-right .ensures)
 
 pub bank-row-right-spec : {M : Type 1} → statement M
 bank-row-right-spec =

@@ -2,7 +2,7 @@
 use borrow.Author.Needs.{needs}
 use native.Mathlib.Omega.{arith}
 use Prim.Native.Nat.{_-_, _≤_}
-use Rattle.memory.specs.Walk.{Seen}
+use Rattle.memory.specs.inner.Walk.{Seen}
 use Rattle.memory.proofs.Cursors.{seen-start, seen-end, goes-on, is-not}
 use Rattle.memory.proofs.test.clashes_right.Statement.{statement}
 use Rattle.memory.proofs.test.clashes_right.Tie as tie
@@ -14,7 +14,9 @@ abbrev μ-loop : tie.MeasureT-loop
 μ-loop neighbours degrees waves counts banks cursors₀ cells₀ b₀ cursors cells b = banks - b
 
 loop-holds : tie.Need-loop-holds Inv-loop μ-loop
-loop-holds c = (search needs, seen-start (c .before .before .before .before .pre .0) (c .before .before .before .before .pre .1 .0))
+loop-holds c =
+    let at1 = c .before .before .before .before in
+    (search needs, seen-start (at1 .pre .0) (at1 .pre .1 .0))
 
 row-matched-requires : tie.Need-row-matched-requires Inv-loop μ-loop
 row-matched-requires c κs = (c .before .before .before .loop .inv .1, omega arith)
@@ -40,7 +42,10 @@ counts-right-requires c κs =
     (p .1 .0, (omega (arith, p .0 .most, c .before .before .loop .inv .1 .ground .long-cells), p .1 .1))
 
 returns-2 : tie.Need-returns-2 Inv-loop μ-loop
-returns-2 c = seen-end (omega arith) (c .before .before .before .loop .inv .1) (c .before .before .before .before .before .before .before .before .args .counts .now) (c .counts-right .result) (c .counts-right .ensures)
+returns-2 c =
+    let at1 = c .before .before .before in
+    let at2 = at1 .before .before .before .before .before in
+    seen-end (omega arith) (at1 .loop .inv .1) (at2 .args .counts .now) (c .counts-right .result) (c .counts-right .ensures)
 
 pub clashes-right-spec : {M : Type 1} → statement M
 clashes-right-spec =

@@ -4,7 +4,7 @@ use native.Mathlib.Omega.{arith}
 use Prim.Native.Nat.{ℕ, _-_, _<_, _≤_}
 use borrow.Author.Count.{below-more}
 use lib.ListN.{getD}
-use Rattle.memory.specs.Test.{part, PartRight}
+use Rattle.memory.specs.inner.Test.{part, PartRight}
 use Rattle.memory.proofs.Tested.{granted, denied}
 use Rattle.memory.proofs.test.counts_right.Statement.{statement}
 use Rattle.memory.proofs.test.counts_right.Tie as tie

@@ -3,7 +3,7 @@ use borrow.Author.Needs.{needs}
 use native.Mathlib.Omega.{arith}
 use Prim.Native.Nat.{_-_, _≤_}
 use mathlib.Core.Path.{_≡_, ap, _∙_}
-use Rattle.memory.specs.Test.{sum}
+use Rattle.memory.specs.inner.Test.{sum}
 use Rattle.memory.proofs.Sums.{sum-none, sum-next, sum-below}
 use Rattle.memory.proofs.test.degree_sum.Statement.{statement}
 use Rattle.memory.proofs.test.degree_sum.Tie as tie
@@ -25,8 +25,9 @@ shared-slice-read-total c = search needs
 
 add-total : tie.Need-add-total Inv-loop μ-loop
 add-total c =
-    let p = c .before .before .before .pre in
-    omega (arith, sum-below (c .before .before .before .args .degrees .now) (c .before .before .loop .i) (c .before .before .before .args .banks) (omega arith) (p .1 .1), p .1 .1 (c .before .before .loop .i) (omega arith))
+    let at1 = c .before .before .before in
+    let p = at1 .pre in
+    omega (arith, sum-below (at1 .args .degrees .now) (c .before .before .loop .i) (at1 .args .banks) (omega arith) (p .1 .1), p .1 .1 (c .before .before .loop .i) (omega arith))
 
 add-i : tie.Need-add-i Inv-loop μ-loop
 add-i c = search needs

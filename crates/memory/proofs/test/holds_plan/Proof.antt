@@ -28,9 +28,11 @@ returns-2 c =
 
 clashes-right-requires : tie.Need-clashes-right-requires
 clashes-right-requires c κs =
-    let p = c .before .before .before .before .before .before .before .before .pre in
+    let at1 = c .before .before .before in
+    let at2 = at1 .before .before .before .before .before in
+    let p = at2 .pre in
     let l = long _ _ (p .1) in
-    let right = granted _ (c .before .before .before .rows-right .result) (c .before .before .before .rows-right .ensures) (c .before .before .if1 .left) in
+    let right = granted _ (at1 .rows-right .result) (at1 .rows-right .ensures) (c .before .before .if1 .left) in
     let small = granted _ (c .before .waves-small .result) (c .before .waves-small .ensures) (c .if2 .left) in
     (rows-of (p .0) l right, (record { long = l .waves; small = small }, l .counts))
 
@@ -41,9 +43,12 @@ returns-3 c =
 
 degree-sum-requires : tie.Need-degree-sum-requires
 degree-sum-requires c κs =
-    let p = c .before .before .before .before .before .before .before .before .before .before .pre in
+    let at1 = c .before .before .before .before in
+    let at2 = at1 .before in
+    let at3 = at2 .before .before .before .before .before in
+    let p = at3 .pre in
     let l = long _ _ (p .1) in
-    let right = granted _ (c .before .before .before .before .before .rows-right .result) (c .before .before .before .before .before .rows-right .ensures) (c .before .before .before .before .if1 .left) in
+    let right = granted _ (at2 .rows-right .result) (at2 .rows-right .ensures) (at1 .if1 .left) in
     (p .0, (l .degrees, λ b h. omega (arith, right b h .few)))
 
 returns-4 : tie.Need-returns-4
@@ -52,7 +57,11 @@ returns-4 c =
     refuses _ _ (p .0) (p .1) (λ h. c .if4 .taken (h .clashes ∙ ap (λ (z : ℕ). z / 2) (sym (c .before .before .degree-sum .ensures))))
 
 wave-count-requires : tie.Need-wave-count-requires
-wave-count-requires c κs = (long _ _ (c .before .before .before .before .before .before .before .before .before .before .before .before .before .pre .1) .waves, granted _ (c .before .before .before .before .before .before .waves-small .result) (c .before .before .before .before .before .before .waves-small .ensures) (c .before .before .before .before .before .if2 .left))
+wave-count-requires c κs =
+    let at1 = c .before .before .before .before .before in
+    let at2 = at1 .before in
+    let at3 = at2 .before .before .before .before .before .before .before in
+    (long _ _ (at3 .pre .1) .waves, granted _ (at2 .waves-small .result) (at2 .waves-small .ensures) (at1 .if2 .left))
 
 returns-5 : tie.Need-returns-5
 returns-5 c =
@@ -61,14 +70,23 @@ returns-5 c =
 
 returns-6 : tie.Need-returns-6
 returns-6 c =
-    let p = c .before .before .before .before .before .before .before .before .before .before .before .before .before .before .before .before .pre in
-    let met = granted _ (c .before .before .before .before .before .before .before .clashes-right .result) (c .before .before .before .before .before .before .before .clashes-right .ensures) (c .before .before .before .before .before .before .if3 .left) in
+    let at1 = c .before .before .before in
+    let at2 = at1 .before .before in
+    let at3 = at2 .before in
+    let at4 = at3 .before in
+    let at5 = at4 .before in
+    let at6 = at5 .before in
+    let at7 = at6 .before in
+    let at8 = at7 .before in
+    let at9 = at8 .before .before .before .before .before in
+    let p = at9 .pre in
+    let met = granted _ (at4 .clashes-right .result) (at4 .clashes-right .ensures) (at3 .if3 .left) in
     accepts _ _ (p .0) (p .1) (record {
-      rows = granted _ (c .before .before .before .before .before .before .before .before .before .before .before .rows-right .result) (c .before .before .before .before .before .before .before .before .before .before .before .rows-right .ensures) (c .before .before .before .before .before .before .before .before .before .before .if1 .left);
+      rows = granted _ (at8 .rows-right .result) (at8 .rows-right .ensures) (at7 .if1 .left);
       symmetric = met .0;
-      small = granted _ (c .before .before .before .before .before .before .before .before .before .waves-small .result) (c .before .before .before .before .before .before .before .before .before .waves-small .ensures) (c .before .before .before .before .before .before .before .before .if2 .left);
+      small = granted _ (at6 .waves-small .result) (at6 .waves-small .ensures) (at5 .if2 .left);
       counts = met .1;
-      clashes = c .before .before .before .if4 .left ∙ ap (λ (z : ℕ). z / 2) (c .before .before .before .before .before .degree-sum .ensures);
+      clashes = at1 .if4 .left ∙ ap (λ (z : ℕ). z / 2) (at2 .degree-sum .ensures);
       waves = c .if5 .left ∙ c .before .before .wave-count .ensures;
     })
 

@@ -27,7 +27,10 @@ shared-slice-read-if1 : tie.Need-shared-slice-read-if1 Inv-loop μ-loop
 shared-slice-read-if1 c = search needs
 
 returns : tie.Need-returns Inv-loop μ-loop
-returns c = λ p. p .below (c .before .before .before .loop .c) (omega (arith, c .before .before .before .before .wide .ensures)) (c .if1 .taken)
+returns c =
+    let at1 = c .before .before .before in
+    let at2 = at1 .before in
+    λ p. p .below (at1 .loop .c) (omega (arith, at2 .wide .ensures)) (c .if1 .taken)
 
 add-c : tie.Need-add-c Inv-loop μ-loop
 add-c c = search needs
@@ -48,7 +51,10 @@ returns-2 : tie.Need-returns-2 Inv-loop μ-loop
 returns-2 c = λ p. c .if2 .taken (rw (c .before .before .before .before .wide .ensures) (p .at))
 
 returns-3 : tie.Need-returns-3 Inv-loop μ-loop
-returns-3 c = record { below = λ k l. c .before .before .before .loop .inv .1 k (omega (arith, c .before .before .before .before .wide .ensures)); at = rw (c .before .before .before .before .wide .ensures) at (c .if2 .left) }
+returns-3 c =
+    let at1 = c .before .before .before in
+    let at2 = at1 .before in
+    record { below = λ k l. at1 .loop .inv .1 k (omega (arith, at2 .wide .ensures)); at = rw (at2 .wide .ensures) at (c .if2 .left) }
 
 pub is-lowest-spec : {M : Type 1} → statement M
 is-lowest-spec =

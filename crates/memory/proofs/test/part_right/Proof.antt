@@ -17,7 +17,13 @@ returns-2 : tie.Need-returns-2
 returns-2 c = λ p. denied _ (c .before .is-lowest .result) (c .before .is-lowest .ensures) (c .if2 .taken) (p .lowest)
 
 returns-3 : tie.Need-returns-3
-returns-3 c = record { same = granted _ (c .before .before .before .cells-equal .result) (c .before .before .before .cells-equal .ensures) (c .before .before .if1 .left); lowest = granted _ (c .before .is-lowest .result) (c .before .is-lowest .ensures) (c .if2 .left) }
+returns-3 c =
+    let at1 = c .before .before .before in
+    record {
+      same = granted _ (at1 .cells-equal .result) (at1 .cells-equal .ensures) (c .before .before .if1 .left);
+      lowest = granted _ (c .before .is-lowest .result) (c .before .is-lowest .ensures)
+          (c .if2 .left);
+    }
 
 pub part-right-spec : {M : Type 1} → statement M
 part-right-spec =

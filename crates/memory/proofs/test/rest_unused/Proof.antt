@@ -33,9 +33,11 @@ loop-less c = search needs
 
 loop-again : tie.Need-loop-again Inv-loop μ-loop
 loop-again c =
-    let a = c .before .before .before .before .before .args in
-    let free = c .before .before .before .before .before .pre .1 .1 in
-    let at = c .before .before .before .loop in (
+    let at1 = c .before .before .before in
+    let at2 = at1 .before .before in
+    let a = at2 .args in
+    let free = at2 .pre .1 .1 in
+    let at = at1 .loop in (
       search needs,
       ⊎-elim
           (λ w. rw (w .1) (unused-next (a .row .now) (a .named) (at .i) (at .unused) free (at .inv .1) (w .0 .taken)))

@@ -16,18 +16,21 @@ returns-2 c = λ p. denied _ (c .before .all-named .result) (c .before .all-name
 
 rest-unused-requires : tie.Need-rest-unused-requires
 rest-unused-requires c κs =
+    let at1 = c .before .before .before .before in
     let named = granted _ (c .before .all-named .result) (c .before .all-named .ensures) (c .if2 .left) in
-    (c .before .before .before .before .pre, (omega arith, λ i l e. omega (arith, named i l .bank, c .before .before .before .before .fits .banks)))
+    (at1 .pre, (omega arith, λ i l e. omega (arith, named i l .bank, at1 .fits .banks)))
 
 returns-3 : tie.Need-returns-3
 returns-3 c = λ p. denied _ (c .before .rest-unused .result) (c .before .rest-unused .ensures) (c .if3 .taken) (p .rest)
 
 returns-4 : tie.Need-returns-4
-returns-4 c = record {
-  few = omega arith;
-  named = granted _ (c .before .before .before .all-named .result) (c .before .before .before .all-named .ensures) (c .before .before .if2 .left);
-  rest = granted _ (c .before .rest-unused .result) (c .before .rest-unused .ensures) (c .if3 .left);
-}
+returns-4 c =
+    let at1 = c .before .before .before in
+    record {
+      few = omega arith;
+      named = granted _ (at1 .all-named .result) (at1 .all-named .ensures) (c .before .before .if2 .left);
+      rest = granted _ (c .before .rest-unused .result) (c .before .rest-unused .ensures) (c .if3 .left);
+    }
 
 pub row-right-spec : {M : Type 1} → statement M
 row-right-spec =

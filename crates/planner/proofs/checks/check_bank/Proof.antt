@@ -14,11 +14,16 @@ returns c =
     (sym (bank-refused _ _ _ _ (sym (c .before .check-plan .ensures .0)) (c .if1 .taken)), λ z. absurd (c .if1 .taken z))
 
 returns-2 : tie.Need-returns-2
-returns-2 c = (sym (bank-far _ _ _ (sym (c .before .before .before .before .check-plan .ensures .0) ∙ c .before .before .before .if1 .left) (c .if2 .taken)), λ z. absurd (omega (arith, z)))
+returns-2 c =
+    let at1 = c .before .before .before in
+    let at2 = at1 .before in
+    (sym (bank-far _ _ _ (sym (at2 .check-plan .ensures .0) ∙ at1 .if1 .left) (c .if2 .taken)), λ z. absurd (omega (arith, z)))
 
 returns-3 : tie.Need-returns-3
 returns-3 c =
-    (sym (bank-fine _ _ _ (sym (c .before .before .before .before .check-plan .ensures .0) ∙ c .before .before .before .if1 .left) (c .if2 .left)), λ z. (c .before .before .before .before .check-plan .ensures .1 (c .before .before .before .if1 .left), c .if2 .left))
+    let at1 = c .before .before .before in
+    let at2 = at1 .before in
+    (sym (bank-fine _ _ _ (sym (at2 .check-plan .ensures .0) ∙ at1 .if1 .left) (c .if2 .left)), λ z. (at2 .check-plan .ensures .1 (at1 .if1 .left), c .if2 .left))
 
 pub check-bank-spec : {M : Type 1} → statement M
 check-bank-spec = tie.close (tie.spec check-plan-requires returns returns-2 returns-3)

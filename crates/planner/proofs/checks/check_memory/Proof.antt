@@ -2,7 +2,7 @@
 use borrow.Author.Needs.{needs}
 use mathlib.Core.Path.{sym, _∙_}
 use native.Mathlib.Omega.{arith}
-use Rattle.planner.specs.Calls.{memoryOf}
+use Rattle.memory.specs.Lent.{given}
 use Rattle.planner.proofs.Numbers.{memory-many, trail-short, moved-short, memory-plan, number-ready}
 use Rattle.planner.proofs.checks.check_memory.Statement.{statement}
 use Rattle.planner.proofs.checks.check_memory.Tie as tie
@@ -13,19 +13,19 @@ wide-requires c κs = search needs
 returns : tie.Need-returns
 returns c =
     let a = c .before .before .before .before .before .before .before .before .args in
-    let m = memoryOf (a .neighbours .now) (a .degrees .now) (a .waves .now) (a .counts .now) (a .trail .now) (a .moved .now) (a .tally) in
+    let m = given (a .neighbours) (a .degrees) (a .waves) (a .counts) (a .trail) (a .moved) (a .tally) in
     (sym (memory-many m (omega arith)), λ z. absurd (omega (arith, z)))
 
 returns-2 : tie.Need-returns-2
 returns-2 c =
     let a = c .before .before .before .before .before .before .before .before .before .args in
-    let m = memoryOf (a .neighbours .now) (a .degrees .now) (a .waves .now) (a .counts .now) (a .trail .now) (a .moved .now) (a .tally) in
+    let m = given (a .neighbours) (a .degrees) (a .waves) (a .counts) (a .trail) (a .moved) (a .tally) in
     (sym (trail-short m (omega arith) (omega arith)), λ z. absurd (omega (arith, z)))
 
 returns-3 : tie.Need-returns-3
 returns-3 c =
     let a = c .before .before .before .before .before .before .before .before .before .before .args in
-    let m = memoryOf (a .neighbours .now) (a .degrees .now) (a .waves .now) (a .counts .now) (a .trail .now) (a .moved .now) (a .tally) in
+    let m = given (a .neighbours) (a .degrees) (a .waves) (a .counts) (a .trail) (a .moved) (a .tally) in
     (sym (moved-short m (omega arith) (omega arith) (omega arith)), λ z. absurd (omega (arith, z)))
 
 check-plan-requires : tie.Need-check-plan-requires
@@ -34,7 +34,7 @@ check-plan-requires c κs = search needs
 returns-4 : tie.Need-returns-4
 returns-4 c =
     let a = c .before .before .before .before .before .before .before .before .before .before .before .args in
-    let m = memoryOf (a .neighbours .now) (a .degrees .now) (a .waves .now) (a .counts .now) (a .trail .now) (a .moved .now) (a .tally) in (
+    let m = given (a .neighbours) (a .degrees) (a .waves) (a .counts) (a .trail) (a .moved) (a .tally) in (
       c .check-plan .ensures .0 ∙ sym (memory-plan m (omega arith) (omega arith)),
       λ z. number-ready m (omega arith) (omega arith) (sym (c .check-plan .ensures .0) ∙ z),
     )

@@ -27,7 +27,10 @@ shared-slice-read-if1 : tie.Need-shared-slice-read-if1 Inv-loop μ-loop
 shared-slice-read-if1 c = search needs
 
 returns : tie.Need-returns Inv-loop μ-loop
-returns c = here _ (c .before .before .before .before .loop .i) (c .before .before .before .before .before .args .row .now) (omega arith) (c .if1 .taken)
+returns c =
+    let at1 = c .before .before .before .before in
+    let at2 = at1 .before in
+    here _ (at1 .loop .i) (at2 .args .row .now) (omega arith) (c .if1 .taken)
 
 add-i : tie.Need-add-i Inv-loop μ-loop
 add-i c = search needs
@@ -37,10 +40,13 @@ loop-less c = search needs
 
 loop-again : tie.Need-loop-again Inv-loop μ-loop
 loop-again c =
-    (search needs, not-here _ (c .before .before .before .before .loop .i) (c .before .before .before .before .before .args .row .now) (omega arith) (c .before .before .before .before .loop .inv .1) (c .if1 .left))
+    let at1 = c .before .before .before .before in
+    let at2 = at1 .before in
+    (search needs, not-here _ (at1 .loop .i) (at2 .args .row .now) (omega arith) (at1 .loop .inv .1) (c .if1 .left))
 
 returns-2 : tie.Need-returns-2 Inv-loop μ-loop
-returns-2 c = sym (ap (memb (c .before .before .args .v .0)) (sym (take-all (c .before .loop .i) (c .before .before .args .row .now) (omega arith))) ∙ c .before .loop .inv .1)
+returns-2 c =
+    sym (ap (memb (c .before .before .args .v .0)) (sym (take-all (c .before .loop .i) (c .before .before .args .row .now) (omega arith))) ∙ c .before .loop .inv .1)
 
 pub names-spec : {M : Type 1} → statement M
 names-spec =

@@ -56,7 +56,16 @@ abbrev spells : (κs : Lfts 5) → Spells (typesAt (thin.signature .params) κs)
 spells κs = (slice-vals, (slice-vals, (slice-vals, (slice-vals, (uint-vals w16, (ptr-vals, tt))))))
 
 tellss : (κs : Lfts 5) → Tellss (typesAt (thin.signature .params) κs) (Ises (typesAt (thin.signature .params) κs)) (spells κs)
-tellss κs = (mut-slice-tells (named 0) (κs .0) u16, (mut-slice-tells (named 1) (κs .1 .0) u16, (mut-slice-tells (named 2) (κs .1 .1 .0) u16, (mut-slice-tells (named 3) (κs .1 .1 .1 .0) u16, (uint-tells w16, (mut-tells (named 4) (κs .1 .1 .1 .1 .0) T.the-row, tt))))))
+tellss κs = (
+  mut-slice-tells (named 0) (κs .0) u16,
+  (
+    mut-slice-tells (named 1) (κs .1 .0) u16,
+    (
+      mut-slice-tells (named 2) (κs .1 .1 .0) u16,
+      (mut-slice-tells (named 3) (κs .1 .1 .1 .0) u16, (uint-tells w16, (mut-tells (named 4) (κs .1 .1 .1 .1 .0) T.the-row, tt))),
+    ),
+  ),
+)
 
 module _ {M : Type 1} (𝓤 : URA M) (H : Heap 𝓤) (A : Atoms 𝓤) (mem : Memory → SProp 𝓤) (run : Routine → Fun 𝓤) where
   -- the two contracts
@@ -92,45 +101,67 @@ module _ {M : Type 1} (𝓤 : URA M) (H : Heap 𝓤) (A : Atoms 𝓤) (mem : Mem
     asks = id⊢ 𝓤 _
 
     same : (r : Opened) (ws : Lasts core.ended (y′ .0 .0) (y′ .0 .3))
-        → ent 𝓤 (core.clauses 𝓤 H A mem run (y′ .0 .0) (y′ .0 .3) .ensures tt r (atExit core.ended (y′ .0 .0) (y′ .0 .3) ws)) (thin.clauses 𝓤 H A mem run κs a .ensures tt (r .number) (atExit thin.ended κs a (last-in Rs T.the-row (named 4) (κs .1 .1 .1 .1 .0) Ls a (x .now) ws (r .tally))))
+        → ent 𝓤 (core.clauses 𝓤 H A mem run (y′ .0 .0) (y′ .0 .3) .ensures tt r (atExit core.ended (y′ .0 .0) (y′ .0 .3) ws))
+        (thin.clauses 𝓤 H A mem run κs a .ensures tt (r .number) (atExit thin.ended κs a (last-in Rs T.the-row (named 4) (κs .1 .1 .1 .1 .0) Ls a (x .now) ws (r .tally))))
     same r ws = id⊢ 𝓤 _
 
-    module _ (C : Calls 𝓤 H) (Λ : Loops 𝓤 H) (fm : FmC 𝓤 H (W .laws) C) (known : Triple 𝓤 (C #core) Core) (are : Are (typesAt (thin.signature .params) κs) (Ises (typesAt (thin.signature .params) κs)) a (y .0 .4)) where
+    module _ (C : Calls 𝓤 H) (Λ : Loops 𝓤 H) (fm : FmC 𝓤 H (W .laws) C) (known : Triple 𝓤 (C #core) Core)
+        (are : Are (typesAt (thin.signature .params) κs) (Ises (typesAt (thin.signature .params) κs)) a (y .0 .4)) where
       walk : ent 𝓤 (Thin .pre y) (WpFn 𝓤 H C Λ code.function (Thin .args y) (Thin .post y))
       walk =
-          qed W (raw (Thin .pre y) ∷ []) ∵ enter ! C Λ code.function (Thin .args y) _ $ alloc-all ! (code.function .locals) (λ l₀ l₁ l₂ l₃ l₄ l₅ l₆ l₇ l₈ l₉ l₁₀ l₁₁ l₁₂ l₁₃ l₁₄ l₁₅ l₁₆. params1 ! $
+          qed W (raw (Thin .pre y) ∷ []) ∵ enter ! C Λ code.function (Thin .args y) _ $ alloc-all ! (code.function .locals)
+          (λ l₀ l₁ l₂ l₃ l₄ l₅ l₆ l₇ l₈ l₉ l₁₀ l₁₁ l₁₂ l₁₃ l₁₄ l₁₅ l₁₆. params1 ! $
           pass1 ! (init ! 30 refl (tt, (tt, (record { fits = are .0 .0 .1 .0 }, tt)))) $
           pass1 ! (init ! 28 refl (tt, (tt, (record { fits = are .1 .0 .0 .1 .0 }, tt)))) $
           pass1 ! (init ! 26 refl (tt, (tt, (record { fits = are .1 .1 .0 .0 .1 .0 }, tt)))) $
           pass1 ! (init ! 24 refl (tt, (tt, (record { fits = are .1 .1 .1 .0 .0 .1 .0 }, tt)))) $
           pass1 ! (init ! 22 refl (tt, record { fits = are .1 .1 .1 .1 .0 .1 })) $
           pass1 ! (init ! 20 refl (tt, tt)) $
-          pass0 ! $ move ! (34 ∷ []) $ starts ! tt 4 4 κs qs Ls Rs T.the-type T′.the-laws (named 4) a (y .0 .4) (thin.clauses 𝓤 H A mem run κs a .requires tt) (core.clauses 𝓤 H A mem run (y′ .0 .0) (y′ .0 .3) .requires tt) asks (x .ptr .0) (x .ptr .1) (x .name) (x .now) refl (λ is-h.
+          pass0 ! $ move ! (34 ∷ []) $ starts ! tt 4 4 κs qs Ls Rs T.the-type T′.the-laws (named 4) a (y .0 .4) (thin.clauses 𝓤 H A mem run κs a .requires tt)
+          (core.clauses 𝓤 H A mem run (y′ .0 .0) (y′ .0 .3) .requires tt) asks (x .ptr .0) (x .ptr .1) (x .name) (x .now) refl (λ is-h.
           -- [what `opening::open_core` asks; the record's cell; the open borrow; obs; auth; _16; …; _0; …]
-          assigns ! (of-opd ! (load ! (from ! (hop ! (look ! 25 refl) (stop !))) (look-raw ! 1 refl))) (from ! (stop !)) (init ! 23 refl (LL.lawful T.the-type T′.the-laws 𝓤 H A W .typed (x .now) _ is-h .0)) $
+          assigns ! (of-opd ! (load ! (from ! (hop ! (look ! 25 refl) (stop !))) (look-raw ! 1 refl))) (from ! (stop !))
+          (init ! 23 refl (LL.lawful T.the-type T′.the-laws 𝓤 H A W .typed (x .now) _ is-h .0)) $
           assigns ! (addr ! (from ! (fld ! refl (hop ! (look-in ! 35 (sub ! 0 refl (whole !))) (stop !))))) (from ! (stop !)) (init ! 19 refl (tt, tt)) $
-          assigns ! (agg ! (and-then ! (load ! (from ! (stop !)) (look ! 19 refl)) (and-then ! (load ! (from ! (fld ! refl (stop !))) (look-in ! 35 (sub ! 1 refl (whole !)))) (no-more !)))) (from ! (stop !)) (init ! 17 refl (tt, (tt, (record { fits = are .0 .0 .1 .0 }, tt)))) $
+          assigns ! (agg ! (and-then ! (load ! (from ! (stop !)) (look ! 19 refl)) (and-then ! (load ! (from ! (fld ! refl (stop !))) (look-in ! 35 (sub ! 1 refl (whole !)))) (no-more !))))
+          (from ! (stop !)) (init ! 17 refl (tt, (tt, (record { fits = are .0 .0 .1 .0 }, tt)))) $
           assigns ! (addr ! (from ! (fld ! refl (hop ! (look-in ! 33 (sub ! 0 refl (whole !))) (stop !))))) (from ! (stop !)) (init ! 15 refl (tt, tt)) $
-          assigns ! (agg ! (and-then ! (load ! (from ! (stop !)) (look ! 15 refl)) (and-then ! (load ! (from ! (fld ! refl (stop !))) (look-in ! 33 (sub ! 1 refl (whole !)))) (no-more !)))) (from ! (stop !)) (init ! 13 refl (tt, (tt, (record { fits = are .1 .0 .0 .1 .0 }, tt)))) $
+          assigns ! (agg ! (and-then ! (load ! (from ! (stop !)) (look ! 15 refl)) (and-then ! (load ! (from ! (fld ! refl (stop !))) (look-in ! 33 (sub ! 1 refl (whole !)))) (no-more !))))
+          (from ! (stop !)) (init ! 13 refl (tt, (tt, (record { fits = are .1 .0 .0 .1 .0 }, tt)))) $
           assigns ! (addr ! (from ! (fld ! refl (hop ! (look-in ! 31 (sub ! 0 refl (whole !))) (stop !))))) (from ! (stop !)) (init ! 11 refl (tt, tt)) $
-          assigns ! (agg ! (and-then ! (load ! (from ! (stop !)) (look ! 11 refl)) (and-then ! (load ! (from ! (fld ! refl (stop !))) (look-in ! 31 (sub ! 1 refl (whole !)))) (no-more !)))) (from ! (stop !)) (init ! 9 refl (tt, (tt, (record { fits = are .1 .1 .0 .0 .1 .0 }, tt)))) $
+          assigns ! (agg ! (and-then ! (load ! (from ! (stop !)) (look ! 11 refl)) (and-then ! (load ! (from ! (fld ! refl (stop !))) (look-in ! 31 (sub ! 1 refl (whole !)))) (no-more !))))
+          (from ! (stop !)) (init ! 9 refl (tt, (tt, (record { fits = are .1 .1 .0 .0 .1 .0 }, tt)))) $
           assigns ! (addr ! (from ! (fld ! refl (hop ! (look-in ! 29 (sub ! 0 refl (whole !))) (stop !))))) (from ! (stop !)) (init ! 7 refl (tt, tt)) $
-          assigns ! (agg ! (and-then ! (load ! (from ! (stop !)) (look ! 7 refl)) (and-then ! (load ! (from ! (fld ! refl (stop !))) (look-in ! 29 (sub ! 1 refl (whole !)))) (no-more !)))) (from ! (stop !)) (init ! 5 refl (tt, (tt, (record { fits = are .1 .1 .1 .0 .0 .1 .0 }, tt)))) $
-          calls-at ! fm Core known y′ (and-then ! (load ! (from ! (stop !)) (look ! 17 refl)) (and-then ! (load ! (from ! (stop !)) (look ! 13 refl)) (and-then ! (load ! (from ! (stop !)) (look ! 9 refl)) (and-then ! (load ! (from ! (stop !)) (look ! 5 refl)) (and-then ! (load ! (from ! (stop !)) (look ! 27 refl)) (and-then ! (load ! (from ! (stop !)) (look ! 23 refl)) (no-more !))))))) (λ w.
+          assigns ! (agg ! (and-then ! (load ! (from ! (stop !)) (look ! 7 refl)) (and-then ! (load ! (from ! (fld ! refl (stop !))) (look-in ! 29 (sub ! 1 refl (whole !)))) (no-more !))))
+          (from ! (stop !)) (init ! 5 refl (tt, (tt, (record { fits = are .1 .1 .1 .0 .0 .1 .0 }, tt)))) $
+          calls-at ! fm Core known y′ (and-then ! (load ! (from ! (stop !)) (look ! 17 refl))
+          (and-then ! (load ! (from ! (stop !)) (look ! 13 refl)) (and-then ! (load ! (from ! (stop !)) (look ! 9 refl))
+          (and-then ! (load ! (from ! (stop !)) (look ! 5 refl)) (and-then ! (load ! (from ! (stop !)) (look ! 27 refl)) (and-then ! (load ! (from ! (stop !)) (look ! 23 refl)) (no-more !)))))))
+          (λ w.
           hands ! tt core.signature (core.spec 𝓤 H A mem run) y′ w (λ r is.
           -- [what `opening::open_core` said; the record's cell; the open borrow; obs; auth; _16; …; _0; …]
-          land ! (from ! (stop !)) (init ! 21 refl (LL.lawful E.the-type E′.the-laws 𝓤 H A W .typed r _ is .0)) $ rewrite ! 21 (λ (u : Val). ‵ (fat fullShare E′.mir l₈ 0 u)) (ap only (LL.tells E.the-type E′.the-laws r _ is)) refl $
-          assigns ! (of-opd ! (load ! (from ! (fld ! refl (stop !))) (look-in ! 21 (sub ! 1 refl (whole !))))) (from ! (hop ! (look ! 25 refl) (stop !))) (store-raw ! 1 refl (LL.lawful T.the-type T′.the-laws 𝓤 H A W .typed (r .tally) _ (LL.owed E.the-type E′.the-laws r _ is .1 .0) .0)) $
-          assigns ! (of-opd ! (load ! (from ! (fld ! refl (stop !))) (look-in ! 21 (sub ! 0 refl (whole !))))) (from ! (stop !)) (init ! 37 refl (uint-lawful 𝓤 H A W w16 .typed (r .number) _ (LL.owed E.the-type E′.the-laws r _ is .0) .0)) $
-          owned ! T.the-row (Is T.the-row) (LL.makes T.the-type T′.the-plain 𝓤 H A) (r .tally) _ (LL.owed E.the-type E′.the-laws r _ is .1 .0) $ move ! (2 ∷ 0 ∷ 3 ∷ 4 ∷ 5 ∷ []) $ closes ! tt T.the-row (r .tally) (T′.lowered (r .tally) ∷ []) (x .ptr .0) (x .ptr .1) $
+          land ! (from ! (stop !)) (init ! 21 refl (LL.lawful E.the-type E′.the-laws 𝓤 H A W .typed r _ is .0)) $ rewrite ! 21 (λ (u : Val). ‵ (fat fullShare E′.mir l₈ 0 u))
+          (ap only (LL.tells E.the-type E′.the-laws r _ is)) refl $
+          assigns ! (of-opd ! (load ! (from ! (fld ! refl (stop !))) (look-in ! 21 (sub ! 1 refl (whole !))))) (from ! (hop ! (look ! 25 refl) (stop !)))
+          (store-raw ! 1 refl (LL.lawful T.the-type T′.the-laws 𝓤 H A W .typed (r .tally) _ (LL.owed E.the-type E′.the-laws r _ is .1 .0) .0)) $
+          assigns ! (of-opd ! (load ! (from ! (fld ! refl (stop !))) (look-in ! 21 (sub ! 0 refl (whole !))))) (from ! (stop !))
+          (init ! 37 refl (uint-lawful 𝓤 H A W w16 .typed (r .number) _ (LL.owed E.the-type E′.the-laws r _ is .0) .0)) $
+          owned ! T.the-row (Is T.the-row) (LL.makes T.the-type T′.the-plain 𝓤 H A) (r .tally) _ (LL.owed E.the-type E′.the-laws r _ is .1 .0) $ move ! (2 ∷ 0 ∷ 3 ∷ 4 ∷ 5 ∷ []) $
+          closes ! tt T.the-row
+          (r .tally) (T′.lowered (r .tally) ∷ []) (x .ptr .0) (x .ptr .1) $
           -- [obs; the borrow; its token; what `opening::open_core` said; _16; …; _0; …]
-          returns ! (look ! 36 refl) $ free-at ! 36 refl refl $ free-at ! 34 refl refl $ free-at ! 32 refl refl $ free-at ! 30 refl refl $ free-at ! 28 refl refl $ free-at ! 26 refl refl $ free-at ! 24 refl refl $ free-at ! 22 refl refl $ free-at ! 20 refl refl $ free-at ! 18 refl refl $ free-at ! 16 refl refl $ free-at ! 14 refl refl $ free-at ! 12 refl refl $ free-at ! 10 refl refl $ free-at ! 8 refl refl $ free-at ! 6 refl refl $ free-at ! 4 refl refl $ free0 ! $
+          returns ! (look ! 36 refl) $ free-at ! 36 refl refl $ free-at ! 34 refl refl $ free-at ! 32 refl refl $ free-at ! 30 refl refl $ free-at ! 28 refl refl $ free-at ! 26 refl refl $ free-at !
+          24 refl refl $ free-at ! 22 refl refl $ free-at ! 20 refl refl $ free-at ! 18 refl refl $ free-at ! 16 refl refl $ free-at ! 14 refl refl $ free-at ! 12 refl refl $ free-at ! 10 refl refl $
+          free-at ! 8 refl refl $ free-at ! 6 refl refl $ free-at ! 4 refl refl $ free0 ! $
           by ! (leaves 𝓤 H A W 4 4 κs qs Ls Rs T.the-row u16 (named 4) a (x .ptr .0) (x .ptr .1) (x .now) (r .tally) (vint w16 (r .number)) (r .number)
-          (λ ws. core.clauses 𝓤 H A mem run (y′ .0 .0) (y′ .0 .3) .ensures tt r (atExit core.ended (y′ .0 .0) (y′ .0 .3) ws)) (λ u ws. thin.clauses 𝓤 H A mem run κs a .ensures tt u (atExit thin.ended κs a ws))
+          (λ ws. core.clauses 𝓤 H A mem run (y′ .0 .0) (y′ .0 .3) .ensures tt r (atExit core.ended (y′ .0 .0) (y′ .0 .3) ws))
+          (λ u ws. thin.clauses 𝓤 H A mem run κs a .ensures tt u (atExit thin.ended κs a ws))
           (same r) (uint-makes 𝓤 H A W w16 (r .number) _ (LL.owed E.the-type E′.the-laws r _ is .0)))))))
 
   meets : Given 𝓤 H A → (𝓣 : Tables 𝓤 H) → Triple 𝓤 (𝓣 .C #core) Core → Meets 𝓤 H A thin.signature (WpFn 𝓤 H (𝓣 .C) (𝓣 .Λ) code.function) (thin.spec 𝓤 H A mem run)
-  meets W 𝓣 known = meets-at 𝓤 H A W thin.signature (thin.spec 𝓤 H A mem run) (WpFn 𝓤 H (𝓣 .C) (𝓣 .Λ) code.function) spells tellss (λ κs qs bounds a g are. walk W κs qs bounds a (𝓣 .C) (𝓣 .Λ) (fmOf 𝓤 H (W .laws) 𝓣) known are)
+  meets W 𝓣 known =
+      meets-at 𝓤 H A W thin.signature (thin.spec 𝓤 H A mem run) (WpFn 𝓤 H (𝓣 .C) (𝓣 .Λ) code.function) spells tellss
+      (λ κs qs bounds a g are. walk W κs qs bounds a (𝓣 .C) (𝓣 .Λ) (fmOf 𝓤 H (W .laws) 𝓣) known are)
 
 pub open-spec : {M : Type 1} → stated.statement M
 unfolding code.routine tablesOf

@@ -38,20 +38,27 @@ mul-fill c = search needs
 
 fill-requires : tie.Need-fill-requires
 fill-requires c κs =
-    let a = c .before .before .before .before .before .before .before .before .before .before .before .before .before .args in
+    let at1 = c .before .before .before .before .before .before .before .before .before .before .before .before .before in
+    let a = at1 .args in
     let l = long (a .banks) (slicesOf (a .neighbours .now) (a .degrees .now) (a .waves .now) (a .counts .now)) (sym (c .before .before .long-enough .ensures) ∙ not-false _ (c .before .if2 .left)) in
     omega (arith, l .neighbours)
 
 fill-requires-2 : tie.Need-fill-requires-2
 fill-requires-2 c κs =
-    let a = c .before .before .before .before .before .before .before .before .before .before .before .before .before .before .before .before .before .args in
-    let l = long (a .banks) (slicesOf (a .neighbours .now) (a .degrees .now) (a .waves .now) (a .counts .now)) (sym (c .before .before .before .before .before .before .long-enough .ensures) ∙ not-false _ (c .before .before .before .before .before .if2 .left)) in
+    let at1 = c .before .before .before .before .before in
+    let at2 = at1 .before in
+    let at3 = at2 .before .before .before .before .before .before .before .before .before .before .before in
+    let a = at3 .args in
+    let l = long (a .banks) (slicesOf (a .neighbours .now) (a .degrees .now) (a .waves .now) (a .counts .now)) (sym (at2 .long-enough .ensures) ∙ not-false _ (at1 .if2 .left)) in
     omega (arith, l .degrees)
 
 fill-requires-3 : tie.Need-fill-requires-3
 fill-requires-3 c κs =
-    let a = c .before .before .before .before .before .before .before .before .before .before .before .before .before .before .before .before .before .before .before .before .before .args in
-    let l = long (a .banks) (slicesOf (a .neighbours .now) (a .degrees .now) (a .waves .now) (a .counts .now)) (sym (c .before .before .before .before .before .before .before .before .before .before .long-enough .ensures) ∙ not-false _ (c .before .before .before .before .before .before .before .before .before .if2 .left)) in
+    let at1 = c .before .before .before .before .before .before .before .before .before in
+    let at2 = at1 .before in
+    let at3 = at2 .before .before .before .before .before .before .before .before .before .before .before in
+    let a = at3 .args in
+    let l = long (a .banks) (slicesOf (a .neighbours .now) (a .degrees .now) (a .waves .now) (a .counts .now)) (sym (at2 .long-enough .ensures) ∙ not-false _ (at1 .if2 .left)) in
     omega (arith, l .waves)
 
 mul-fill-2 : tie.Need-mul-fill-2
@@ -59,8 +66,11 @@ mul-fill-2 c = search needs
 
 fill-requires-4 : tie.Need-fill-requires-4
 fill-requires-4 c κs =
-    let a = c .before .before .before .before .before .before .before .before .before .before .before .before .before .before .before .before .before .before .before .before .before .before .before .before .before .args in
-    let l = long (a .banks) (slicesOf (a .neighbours .now) (a .degrees .now) (a .waves .now) (a .counts .now)) (sym (c .before .before .before .before .before .before .before .before .before .before .before .before .before .before .long-enough .ensures) ∙ not-false _ (c .before .before .before .before .before .before .before .before .before .before .before .before .before .if2 .left)) in
+    let at1 = c .before .before .before .before .before .before .before .before .before .before .before .before .before in
+    let at2 = at1 .before in
+    let at3 = at2 .before .before .before .before .before .before .before .before .before .before .before in
+    let a = at3 .args in
+    let l = long (a .banks) (slicesOf (a .neighbours .now) (a .degrees .now) (a .waves .now) (a .counts .now)) (sym (at2 .long-enough .ensures) ∙ not-false _ (at1 .if2 .left)) in
     omega (arith, l .counts)
 
 first-waves-requires : tie.Need-first-waves-requires
@@ -80,9 +90,18 @@ same-length-8 c = search needs
 
 returns-3 : tie.Need-returns-3
 returns-3 c =
-    let a = c .before .before .before .before .before .before .before .before .before .before .before .before .before .before .before .before .before .before .before .before .before .before .before .before .before .before .before .before .before .args in
-    opened-filled (a .banks) (c .before .before .before .before .before .before .before .before .before .before .before .before .before .before .before .before .before .before .before .before .before .before .before .before .wide .result) (a .neighbours .now) (a .degrees .now) (a .waves .now) (a .counts .now) (a .tally) (c .before .before .before .before .before .before .before .before .before .before .before .before .before .before .before .before .before .before .before .before .before .before .before .before .wide .ensures) (omega arith)
-    (sym (c .before .before .before .before .before .before .before .before .before .before .before .before .before .before .before .before .before .before .long-enough .ensures) ∙ not-false _ (c .before .before .before .before .before .before .before .before .before .before .before .before .before .before .before .before .before .if2 .left)) (c .before .before .before .before .before .before .before .before .before .before .before .before .before .before .before .fill .ensures) (c .before .before .before .before .before .before .before .before .before .before .before .fill2 .ensures) (c .before .before .before .before .before .before .before .fill3 .ensures) (c .before .before .before .fill4 .ensures) (c .first-waves .ensures)
+    let a = c .before .before .before .before .before .before .before .before .before .before .before .before .before .before .before .before .before .before .before .before .before .before .before
+    .before .before .before .before .before .before .args in
+    opened-filled (a .banks)
+    (c .before .before .before .before .before .before .before .before .before .before .before .before .before .before .before .before .before .before .before .before .before .before .before
+    .before .wide .result) (a .neighbours .now) (a .degrees .now) (a .waves .now) (a .counts .now) (a .tally)
+    (c .before .before .before .before .before .before .before .before .before .before .before .before .before .before .before .before .before .before .before .before .before .before .before
+    .before .wide .ensures) (omega arith)
+    (sym (c .before .before .before .before .before .before .before .before .before .before .before .before .before .before .before .before .before .before .long-enough .ensures) ∙ not-false _
+    (c .before .before .before .before .before .before .before .before .before .before .before .before .before .before .before .before .before .if2 .left))
+    (c .before .before .before .before .before .before .before .before .before .before .before .before .before .before .before .fill .ensures)
+    (c .before .before .before .before .before .before .before .before .before .before .before .fill2 .ensures) (c .before .before .before .before .before .before .before .fill3 .ensures)
+    (c .before .before .before .fill4 .ensures) (c .first-waves .ensures)
 
 pub open-core-spec : {M : Type 1} → statement M
 open-core-spec =

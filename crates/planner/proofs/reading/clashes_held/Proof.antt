@@ -18,15 +18,18 @@ mul-wide : tie.Need-mul-wide
 mul-wide c = search needs
 
 shared-slice-read-wide : tie.Need-shared-slice-read-wide
-shared-slice-read-wide c = omega (arith, degree-cell (c .before .before .before .before .before .before .pre .0 .1) (c .before .before .before .before .before .before .pre .1), c .before .wide .ensures)
+shared-slice-read-wide c =
+    let at1 = c .before .before .before .before .before .before in
+    omega (arith, degree-cell (at1 .pre .0 .1) (at1 .pre .1), c .before .wide .ensures)
 
 wide-requires-2 : tie.Need-wide-requires-2
 wide-requires-2 c κs = search needs
 
 add-end : tie.Need-add-end
 add-end c =
-    let d = ap (λ (k : ℕ). getD (c .before .before .before .before .before .before .before .args .degrees .now) k 0) (c .before .before .wide .ensures) in
-    omega (arith, few-cells (c .before .before .before .before .before .before .before .pre .0 .1) (c .before .before .before .before .before .before .before .pre .1), c .wide2 .ensures)
+    let at1 = c .before .before .before .before .before .before .before in
+    let d = ap (λ (k : ℕ). getD (at1 .args .degrees .now) k 0) (c .before .before .wide .ensures) in
+    omega (arith, few-cells (at1 .pre .0 .1) (at1 .pre .1), c .wide2 .ensures)
 
 mul-result : tie.Need-mul-result
 mul-result c = search needs
@@ -39,13 +42,17 @@ part-result-start c = search needs
 
 part-result-end : tie.Need-part-result-end
 part-result-end c =
-    let d = ap (λ (k : ℕ). getD (c .before .before .before .before .before .before .before .args .degrees .now) k 0) (c .before .before .wide .ensures) in
-    omega (arith, few-cells (c .before .before .before .before .before .before .before .pre .0 .1) (c .before .before .before .before .before .before .before .pre .1), row-cells (c .before .before .before .before .before .before .before .pre .0 .1) (c .before .before .before .before .before .before .before .pre .1), c .wide2 .ensures, c .before .before .wide .ensures)
+    let at1 = c .before .before .before .before .before .before .before in
+    let d = ap (λ (k : ℕ). getD (at1 .args .degrees .now) k 0) (c .before .before .wide .ensures) in
+    omega (arith, few-cells (at1 .pre .0 .1) (at1 .pre .1), row-cells (at1 .pre .0 .1) (at1 .pre .1), c .wide2 .ensures, c .before .before .wide .ensures)
 
 returns : tie.Need-returns
-returns c = λ G p.
-    row-part p (c .before .before .before .before .before .before .before .before .pre .1) (c .before .before .before .wide .result) (c .before .wide2 .result) (c .before .before .before .wide .ensures)
-    (c .before .wide2 .ensures ∙ ap (λ (k : ℕ). getD (c .before .before .before .before .before .before .before .before .args .degrees .now) k 0) (c .before .before .before .wide .ensures))
+returns c =
+    let at1 = c .before .before .before in
+    let at2 = at1 .before .before .before .before .before in
+    λ G p.
+    row-part p (at2 .pre .1) (at1 .wide .result) (c .before .wide2 .result) (at1 .wide .ensures)
+    (c .before .wide2 .ensures ∙ ap (λ (k : ℕ). getD (at2 .args .degrees .now) k 0) (at1 .wide .ensures))
 
 pub clashes-held-spec : {M : Type 1} → statement M
 clashes-held-spec =

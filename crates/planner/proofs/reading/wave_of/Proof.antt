@@ -22,13 +22,16 @@ mul-t11 c = search needs
 
 shared-slice-read-t13 : tie.Need-shared-slice-read-t13
 shared-slice-read-t13 c =
-    let h = c .before .before .before .check-bank .ensures .1 (c .before .before .if1 .left) in omega (arith, wave-cell (h .0) (h .1), c .before .wide .ensures)
+    let at1 = c .before .before .before in
+    let h = at1 .check-bank .ensures .1 (c .before .before .if1 .left) in omega (arith, wave-cell (h .0) (h .1), c .before .wide .ensures)
 
 returns-2 : tie.Need-returns-2
 returns-2 c =
-    let z = sym (c .before .before .if1 .left) ∙ c .before .before .before .check-bank .ensures .0 in
-    let h = c .before .before .before .check-bank .ensures .1 (c .before .before .if1 .left) in
-    (z, ap (λ (k : ℕ). getD (c .before .before .before .before .before .before .before .before .args .waves .now) k 0) (c .before .wide .ensures) ∙ plan-wave (h .0) (h .1) ∙ wave-found _ _ _ z)
+    let at1 = c .before .before .before in
+    let at2 = at1 .before .before .before .before .before in
+    let z = sym (c .before .before .if1 .left) ∙ at1 .check-bank .ensures .0 in
+    let h = at1 .check-bank .ensures .1 (c .before .before .if1 .left) in
+    (z, ap (λ (k : ℕ). getD (at2 .args .waves .now) k 0) (c .before .wide .ensures) ∙ plan-wave (h .0) (h .1) ∙ wave-found _ _ _ z)
 
 pub wave-of-spec : {M : Type 1} → statement M
 wave-of-spec =

@@ -7,9 +7,9 @@ use mathlib.Core.Path.{_≡_, refl, _∙_}
 use lib.ListN.{length, getD, take}
 use lib.Seq.{take-all}
 use Rattle.memory.proofs.Fronts.{in-cell}
-use Rattle.sheet_writer.specs.Sheet.{joined}
-use Rattle.sheet_writer.specs.Put.{Puts}
-use Rattle.sheet_writer.proofs.Putting.{puts-none, puts-then}
+use Rattle.text.specs.Text.{joined}
+use Rattle.text.specs.Places.{Puts}
+use Rattle.text.proofs.Putting.{puts-none, puts-then}
 use Rattle.poster_writer.specs.Poster.{rightAligned}
 use Rattle.poster_writer.proofs.Columns.{no-columns, columns-next, columns-before, length-aligned}
 use Rattle.poster_writer.proofs.lines.put_banks.Statement.{statement}
@@ -33,10 +33,16 @@ shared-slice-read-t11 c = search needs
 
 put-aligned-requires : tie.Need-put-aligned-requires Inv-loop μ-loop
 put-aligned-requires c κs =
-    let w = c .before .before .before .loop in
-    let banks = c .before .before .before .before .before .before .args .banks .now in
-    let small = c .before .before .before .before .before .before .pre .0 in
-    (small _ (in-cell (w .i) banks (c .before .before .loop-test .taken)), omega (arith, columns-before banks small (w .i) (w .inv .1), w .inv .0 .next, w .inv .2, c .before .before .loop-test .taken, c .before .before .before .before .before .before .pre .1))
+    let at1 = c .before .before .before in
+    let at2 = at1 .before .before .before in
+    let w = at1 .loop in
+    let test = c .before .before .loop-test .taken in
+    let start = at2 in
+    let banks = start .args .banks .now in
+    let small = start .pre .0 in (
+      small _ (in-cell (w .i) banks test),
+      omega (arith, columns-before banks small (w .i) (w .inv .1), w .inv .0 .next, w .inv .2, test, start .pre .1),
+    )
 
 add-i : tie.Need-add-i Inv-loop μ-loop
 add-i c = search needs
@@ -46,21 +52,31 @@ loop-less c = search needs
 
 loop-again : tie.Need-loop-again Inv-loop μ-loop
 loop-again c =
-    let a = c .before .before .before .before .before .before .before .before .before .args in
-    let w = c .before .before .before .before .before .before .loop in
+    let at1 = c .before .before .before .before .before in
+    let at2 = at1 .before in
+    let p = at2 in
+    let w = p .loop in
+    let start = p .before .before .before in
+    let a = start .args in
     let banks = a .banks .now in
-    let small = c .before .before .before .before .before .before .before .before .before .pre .0 in
-    let test = c .before .before .before .before .before .loop-test .taken in (
-      rw (columns-next banks (w .i) test) (puts-then (joined (map rightAligned (take (w .i) banks))) (rightAligned (getD banks (w .i) 0)) (a .at) (a .out .now) (omega (arith, columns-before banks small (w .i) (w .inv .1), length-aligned (getD banks (w .i) 0) (small _ (in-cell (w .i) banks test)), test, c .before .before .before .before .before .before .before .before .before .pre .1)) _ _ _ _ (w .inv .0) (c .before .before .put-aligned .ensures)),
-      omega arith,
-      c .before .before .put-aligned .kept .0 ∙ w .inv .2,
-    )
+    let small = start .pre .0 in
+    let room = start .pre .1 in
+    let test = at1 .loop-test .taken in
+    let columns = joined (map rightAligned (take (w .i) banks)) in
+    let bank = getD banks (w .i) 0 in
+    let long = columns-before banks small (w .i) (w .inv .1) in
+    let five = length-aligned bank (small _ (in-cell (w .i) banks test)) in
+    let one = c .before .before .put-aligned in
+    let more = puts-then columns (rightAligned bank) (a .at) (a .out .now) (omega arith) _ _ _ _ (w .inv .0) (one .ensures) in
+    (rw (columns-next banks (w .i) test) more, omega arith, one .kept .0 ∙ w .inv .2)
 
 same-length : tie.Need-same-length Inv-loop μ-loop
 same-length c = search needs
 
 returns : tie.Need-returns Inv-loop μ-loop
-returns c = rw (take-all (c .before .loop .i) (c .before .before .before .before .args .banks .now) (omega arith)) at (c .before .loop .inv .0)
+returns c =
+    let w = c .before .loop in
+    rw (take-all (w .i) (c .before .before .before .before .args .banks .now) (omega arith)) at (w .inv .0)
 
 pub put-banks-spec : {M : Type 1} → statement M
 put-banks-spec =

@@ -5,9 +5,9 @@ use Prim.Native.Nat.{_-_, _≤_}
 use mathlib.Core.List.{[]}
 use mathlib.Core.Path.{_≡_, refl, _∙_}
 use lib.ListN.{length, replicate}
-use Rattle.sheet_writer.specs.Sheet.{joined}
-use Rattle.sheet_writer.specs.Put.{Puts}
-use Rattle.sheet_writer.proofs.Putting.{puts-none, puts-then}
+use Rattle.text.specs.Text.{joined}
+use Rattle.text.specs.Places.{Puts}
+use Rattle.text.proofs.Putting.{puts-none, puts-then}
 use Rattle.poster_writer.specs.Poster.{padded}
 use Rattle.poster_writer.proofs.Columns.{no-blanks, blanks-next, length-blanks, blank-is, length-blank}
 use Rattle.poster_writer.proofs.lines.put_blank_lines.Statement.{statement}
@@ -25,8 +25,9 @@ loop-holds c = (rw no-blanks (puts-none _ _), omega arith, refl)
 
 put-end-requires : tie.Need-put-end-requires Inv-loop μ-loop
 put-end-requires c κs =
+    let at1 = c .before .before .before .before in
     let w = c .before .before .loop in
-    (omega arith, omega (arith, length-blanks (w .i), w .inv .0 .next, w .inv .2, c .before .loop-test .taken, c .before .before .before .before .pre))
+    (omega arith, omega (arith, length-blanks (w .i), w .inv .0 .next, w .inv .2, c .before .loop-test .taken, at1 .pre))
 
 add-i : tie.Need-add-i Inv-loop μ-loop
 add-i c = search needs
@@ -36,12 +37,20 @@ loop-less c = search needs
 
 loop-again : tie.Need-loop-again Inv-loop μ-loop
 loop-again c =
-    let a = c .before .before .before .before .before .before .before .args in
-    let w = c .before .before .before .before .before .loop in (
-      rw (blanks-next (w .i) (padded [])) (puts-then (joined (replicate (w .i) (padded []))) (padded []) (a .at) (a .out .now) (omega (arith, length-blanks (w .i), length-blank, c .before .before .before .before .loop-test .taken, c .before .before .before .before .before .before .before .pre)) _ _ _ _ (w .inv .0) (rw (← blank-is) at (c .before .before .put-end .ensures))),
-      omega arith,
-      c .before .before .put-end .kept .0 ∙ w .inv .2,
-    )
+    let at1 = c .before .before .before .before in
+    let at2 = at1 .before in
+    let p = at2 in
+    let w = p .loop in
+    let start = p .before .before in
+    let a = start .args in
+    let long = length-blanks (w .i) in
+    let test = at1 .loop-test .taken in
+    let room = start .pre in
+    let one = c .before .before .put-end in
+    let lines = joined (replicate (w .i) (padded [])) in
+    let size = length-blank in
+    let more = puts-then lines (padded []) (a .at) (a .out .now) (omega arith) _ _ _ _ (w .inv .0) (rw (← blank-is) at (one .ensures)) in
+    (rw (blanks-next (w .i) (padded [])) more, omega arith, one .kept .0 ∙ w .inv .2)
 
 same-length : tie.Need-same-length Inv-loop μ-loop
 same-length c = search needs

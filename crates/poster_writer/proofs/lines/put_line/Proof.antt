@@ -13,29 +13,57 @@ put-byte-requires-2 c κs = search needs
 
 put-banks-requires : tie.Need-put-banks-requires
 put-banks-requires c κs =
-    let p = c .before .before .before .before .before .before .before .put-byte in
-    let q = c .before .before .before .put-byte2 in
-    (c .before .before .before .before .before .before .before .before .before .before .before .pre .0, omega (arith, p .ensures .next, p .kept .0, q .ensures .next, q .kept .0, c .before .before .before .before .before .before .before .before .before .before .before .pre .1, c .before .before .before .before .before .before .before .before .before .before .before .pre .2))
+    let at1 = c .before .before .before in
+    let at2 = at1 .before .before .before .before in
+    let at3 = at2 .before .before .before .before in
+    let q = at1 .put-byte2 in
+    let p = at2 .put-byte in
+    let start = at3 in
+    (start .pre .0, omega (arith, p .ensures .next, p .kept .0, q .ensures .next, q .kept .0, start .pre .1, start .pre .2))
 
 sub-put-end : tie.Need-sub-put-end
 sub-put-end c =
-    omega (arith, c .before .before .before .before .before .before .before .before .before .before .before .put-byte .ensures .next, c .before .before .before .before .before .before .before .put-byte2 .ensures .next, c .before .before .before .put-banks .ensures .next)
+    let at1 = c .before .before .before in
+    let at2 = at1 .before .before .before .before in
+    let at3 = at2 .before .before .before .before in
+    let s = at1 .put-banks in
+    let q = at2 .put-byte2 in
+    let p = at3 .put-byte in
+    omega (arith, p .ensures .next, q .ensures .next, s .ensures .next)
 
 put-end-requires : tie.Need-put-end-requires
 put-end-requires c κs =
-    let p = c .before .before .before .before .before .before .before .before .before .before .before .put-byte in
-    let q = c .before .before .before .before .before .before .before .put-byte2 in
-    let s = c .before .before .before .put-banks in
-    let long = length-columns (c .before .before .before .before .before .before .before .before .before .before .before .before .before .before .before .args .banks .now) (c .before .before .before .before .before .before .before .before .before .before .before .before .before .before .before .pre .0) in
-    (omega (arith, long, p .ensures .next, q .ensures .next, s .ensures .next, c .before .before .before .before .before .before .before .before .before .before .before .before .before .before .before .pre .1), omega (arith, long, p .ensures .next, p .kept .0, q .ensures .next, q .kept .0, s .ensures .next, s .kept .0, c .before .before .before .before .before .before .before .before .before .before .before .before .before .before .before .pre .1, c .before .before .before .before .before .before .before .before .before .before .before .before .before .before .before .pre .2))
+    let at1 = c .before .before .before in
+    let at2 = at1 .before .before .before .before in
+    let at3 = at2 .before .before .before .before in
+    let at4 = at3 .before .before .before .before in
+    let s = at1 .put-banks in
+    let q = at2 .put-byte2 in
+    let p = at3 .put-byte in
+    let start = at4 in
+    let long = length-columns (start .args .banks .now) (start .pre .0) in
+    let few = start .pre .1 in
+    let room = start .pre .2 in (
+      omega (arith, p .ensures .next, q .ensures .next, s .ensures .next),
+      omega (arith, p .ensures .next, p .kept .0, q .ensures .next, q .kept .0, s .ensures .next, s .kept .0),
+    )
 
 same-length : tie.Need-same-length
 same-length c = search needs
 
 returns : tie.Need-returns
 returns c =
-    let a = c .before .before .before .before .before .before .before .before .before .before .before .before .before .before .before .before .before .before .args in
-    puts-line (a .mark) (a .banks .now) (c .before .before .before .before .before .before .before .before .before .before .before .before .before .before .before .before .before .before .pre .0) (c .before .before .before .before .before .before .before .before .before .before .before .before .before .before .before .before .before .before .pre .1) (a .at) (a .out .now) (c .before .before .before .before .before .before .before .before .before .before .before .before .before .before .before .before .before .before .pre .2) _ _ _ _ _ _ _ _ (c .before .before .before .before .before .before .before .before .before .before .before .before .before .before .put-byte .kept .0) (c .before .before .before .before .before .before .before .before .before .before .before .before .before .before .put-byte .ensures) (c .before .before .before .before .before .before .before .before .before .before .put-byte2 .ensures) (c .before .before .before .before .before .before .put-banks .ensures) (c .before .before .put-end .ensures)
+    let at1 = c .before .before .before .before .before .before in
+    let at2 = at1 .before .before .before .before in
+    let at3 = at2 .before .before .before .before in
+    let s = at1 .put-banks in
+    let q = at2 .put-byte2 in
+    let p = at3 in
+    let start = p .before .before .before .before in
+    let a = start .args in
+    let pre = start .pre in
+    puts-line (a .mark) (a .banks .now) (pre .0) (pre .1) (a .at) (a .out .now) (pre .2) _ _ _ _ _ _ _ _ (p .put-byte .kept .0)
+    (p .put-byte .ensures) (q .ensures) (s .ensures) (c .before .before .put-end .ensures)
 
 pub put-line-spec : {M : Type 1} → statement M
 put-line-spec =

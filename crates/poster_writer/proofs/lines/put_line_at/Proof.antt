@@ -27,17 +27,24 @@ part-put-line-end c = search needs
 
 put-line-requires : tie.Need-put-line-requires
 put-line-requires c κs =
-    let fits = part-fits (c .before .before .before .before .before .before .args .banks .now) _ _ (c .before .before .before .before .before .before .pre .1) (c .before .before .before .line-end .ensures) in
-    (fits .0, fits .1, c .before .before .before .before .before .before .pre .4)
+    let p = c .before .before .before in
+    let start = p .before .before .before in
+    let fits = part-fits (start .args .banks .now) _ _ (start .pre .1) (p .line-end .ensures) in
+    (fits .0, fits .1, start .pre .4)
 
 same-length : tie.Need-same-length
 same-length c = search needs
 
 returns : tie.Need-returns
 returns c =
-    let a = c .before .before .before .before .before .before .before .before .before .args in
-    let p = c .before .before .put-line .ensures in
-    rw (line-at (a .c .0) (a .banks .now) (a .i) (c .before .before .before .before .before .before .before .before .before .pre .3), part-at (a .banks .now) (a .i) _ (c .before .before .before .before .before .before .line-end .ensures), ← c .before .before .before .before .mark-of .ensures) p
+    let at1 = c .before .before .before .before in
+    let at2 = at1 .before .before in
+    let mark = at1 .mark-of .ensures in
+    let p = at2 in
+    let start = p .before .before .before in
+    let a = start .args in
+    let banks = a .banks .now in
+    rw (line-at (a .c .0) banks (a .i) (start .pre .3), part-at banks (a .i) _ (p .line-end .ensures), ← mark) (c .before .before .put-line .ensures)
 
 pub put-line-at-spec : {M : Type 1} → statement M
 put-line-at-spec =

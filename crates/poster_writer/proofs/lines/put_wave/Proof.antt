@@ -6,10 +6,10 @@ use mathlib.Core.List.{[]}
 use mathlib.Core.Path.{_≡_, refl, _∙_}
 use lib.ListN.{length, getD, take}
 use lib.Seq.{take-all}
-use Rattle.sheet_writer.specs.Sheet.{joined}
-use Rattle.sheet_writer.specs.Put.{Puts}
-use Rattle.sheet_writer.proofs.Putting.{puts-none, puts-then}
-use Rattle.poster_writer.specs.Put.{linesWith}
+use Rattle.text.specs.Text.{joined}
+use Rattle.text.specs.Places.{Puts}
+use Rattle.text.proofs.Putting.{puts-none, puts-then}
+use Rattle.poster_writer.specs.inner.Cells.{linesWith}
 use Rattle.poster_writer.proofs.Columns.{no-lines, lines-next, lines-room}
 use Rattle.poster_writer.proofs.Pieces.{length-lines, wave-rows}
 use Rattle.poster_writer.proofs.lines.put_wave.Statement.{statement}
@@ -26,24 +26,25 @@ lines-for-requires : tie.Need-lines-for-requires Inv-loop μ-loop
 lines-for-requires c κs = search needs
 
 loop-holds : tie.Need-loop-holds Inv-loop μ-loop
-loop-holds c = (rw (no-lines (linesWith (c .before .before .before .args .c .0) (c .before .before .before .args .banks .now))) (puts-none _ _), omega arith, refl)
+loop-holds c =
+    let a = c .before .before .before .args in
+    (rw (no-lines (linesWith (a .c .0) (a .banks .now))) (puts-none _ _), omega arith, refl)
 
 put-line-at-requires : tie.Need-put-line-at-requires Inv-loop μ-loop
 put-line-at-requires c κs =
-    let a = c .before .before .before .before .before .before .args in
+    let at1 = c .before .before .before in
+    let at2 = at1 .before .before .before in
     let w = c .before .before .loop in
+    let start = at2 in
+    let a = start .args in
+    let pre = start .pre in
     let banks = a .banks .now in
-    let pre = c .before .before .before .before .before .before .pre in
     let ls = linesWith (a .c .0) banks in
-    let long = length-lines (a .c .0) banks in
     let test = c .before .loop-test .taken in
-    let below = c .before .before .before .lines-for .ensures in (
-      pre .0,
-      pre .1,
-      pre .2,
-      omega (arith, below, test),
-      omega (arith, lines-room ls (w .i) (omega (arith, long, below, test)) (wave-rows (a .c .0) banks (pre .1)), w .inv .0 .next, w .inv .2, pre .3),
-    )
+    let count = at1 .lines-for .ensures in
+    let at-line : w .i < length ls = omega (arith, length-lines (a .c .0) banks, count, test) in
+    let room = lines-room ls (w .i) at-line (wave-rows (a .c .0) banks (pre .1)) in
+    (pre .0, pre .1, pre .2, omega (arith, count, test), omega (arith, w .inv .0 .next, w .inv .2, pre .3))
 
 add-i : tie.Need-add-i Inv-loop μ-loop
 add-i c = search needs
@@ -53,26 +54,34 @@ loop-less c = search needs
 
 loop-again : tie.Need-loop-again Inv-loop μ-loop
 loop-again c =
-    let a = c .before .before .before .before .before .before .before .before .before .args in
-    let w = c .before .before .before .before .before .loop in
+    let at1 = c .before .before .before .before in
+    let at2 = at1 .before in
+    let p = at2 in
+    let w = p .loop in
+    let start = p .before .before .before .before in
+    let a = start .args in
+    let pre = start .pre in
     let banks = a .banks .now in
-    let pre = c .before .before .before .before .before .before .before .before .before .pre in
     let ls = linesWith (a .c .0) banks in
-    let at-line : w .i < length ls = omega (arith, length-lines (a .c .0) banks, c .before .before .before .before .before .before .lines-for .ensures, c .before .before .before .before .loop-test .taken) in (
-      rw (lines-next ls (w .i) at-line) (puts-then (joined (take (w .i) ls)) (getD ls (w .i) []) (a .at) (a .out .now) (omega (arith, lines-room ls (w .i) at-line (wave-rows (a .c .0) banks (pre .1)), pre .3)) _ _ _ _ (w .inv .0) (c .before .before .put-line-at .ensures)),
-      omega (arith, at-line),
-      c .before .before .put-line-at .kept .0 ∙ w .inv .2,
-    )
+    let test = at1 .loop-test .taken in
+    let at-line : w .i < length ls = omega (arith, length-lines (a .c .0) banks, p .before .lines-for .ensures, test) in
+    let room = lines-room ls (w .i) at-line (wave-rows (a .c .0) banks (pre .1)) in
+    let fits = pre .3 in
+    let one = c .before .before .put-line-at in
+    let more = puts-then (joined (take (w .i) ls)) (getD ls (w .i) []) (a .at) (a .out .now) (omega arith) _ _ _ _ (w .inv .0) (one .ensures) in
+    (rw (lines-next ls (w .i) at-line) more, omega (arith, at-line), one .kept .0 ∙ w .inv .2)
 
 same-length : tie.Need-same-length Inv-loop μ-loop
 same-length c = search needs
 
 returns : tie.Need-returns Inv-loop μ-loop
 returns c =
-    let a = c .before .before .before .before .before .args in
+    let at1 = c .before .before .before .before .before in
+    let a = at1 .args in
     let w = c .before .loop in
     let ls = linesWith (a .c .0) (a .banks .now) in
-    rw (take-all (w .i) ls (omega (arith, length-lines (a .c .0) (a .banks .now), c .before .before .lines-for .ensures, c .loop-test .left))) at (w .inv .0)
+    let all : length ls ≤ w .i = omega (arith, length-lines (a .c .0) (a .banks .now), c .before .before .lines-for .ensures, c .loop-test .left) in
+    rw (take-all (w .i) ls all) at (w .inv .0)
 
 pub put-wave-spec : {M : Type 1} → statement M
 put-wave-spec =

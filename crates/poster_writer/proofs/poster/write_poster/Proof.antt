@@ -2,8 +2,8 @@
 use borrow.Author.Needs.{needs}
 use native.Mathlib.Omega.{arith}
 use mathlib.Core.Path.{sym, _∙_}
-use Rattle.sheet_writer.proofs.Plans.{plan-room, plan-most, plan-few}
-use Rattle.sheet_writer.proofs.Writing.{text-refused, text-short, text-done}
+use Rattle.wave_lines.proofs.Plans.{plan-room, plan-most, plan-few}
+use Rattle.wave_lines.proofs.Writing.{text-refused, text-short, text-done}
 use Rattle.poster_writer.specs.Poster.{poster}
 use Rattle.poster_writer.proofs.Plans.{plan-bytes, plan-text, poster-written}
 use Rattle.poster_writer.proofs.poster.write_poster.Statement.{statement}
@@ -31,13 +31,16 @@ mul-length c = search needs
 
 returns-2 : tie.Need-returns-2
 returns-2 c =
-    let checked = c .before .before .before .check-plan .ensures in
+    let at1 = c .before .before .before in
+    let checked = at1 .check-plan .ensures in
     let zero = c .before .before .if1 .left in
     text-short poster _ _ _ (sym zero ∙ checked .0) (omega (arith, plan-bytes _ _ _ (checked .1 zero), c .before .count-lines .ensures .0, c .if2 .taken))
 
 put-waves-requires : tie.Need-put-waves-requires
 put-waves-requires c κs =
-    let plan = c .before .before .before .before .check-plan .ensures .1 (c .before .before .before .if1 .left) in (
+    let at1 = c .before .before .before in
+    let at2 = at1 .before in
+    let plan = at2 .check-plan .ensures .1 (at1 .if1 .left) in (
       plan-most _ _ _ plan,
       plan-few _ _ _ plan,
       plan-room _ _ _ plan,
@@ -45,28 +48,43 @@ put-waves-requires c κs =
     )
 
 mul-put-blank-lines : tie.Need-mul-put-blank-lines
-mul-put-blank-lines c = omega (arith, c .before .before .before .before .before .before .count-lines .ensures .1, plan-few _ _ _ (c .before .before .before .before .before .before .before .before .check-plan .ensures .1 (c .before .before .before .before .before .before .before .if1 .left)))
+mul-put-blank-lines c =
+    let p = c .before .before .before .before .before .before in
+    let plan = p .before .before .check-plan .ensures .1 (p .before .if1 .left) in
+    omega (arith, p .count-lines .ensures .1, plan-few _ _ _ plan)
 
 sub-put-blank-lines : tie.Need-sub-put-blank-lines
 sub-put-blank-lines c = omega (arith, c .before .before .before .before .before .before .count-lines .ensures .1)
 
 put-blank-lines-requires : tie.Need-put-blank-lines-requires
 put-blank-lines-requires c κs =
-    let plan = c .before .before .before .before .before .before .before .before .check-plan .ensures .1 (c .before .before .before .before .before .before .before .if1 .left) in
-    let p = c .before .before .before .put-waves in
-    omega (arith, plan-text _ _ _ plan, c .before .before .before .before .before .before .count-lines .ensures .0, c .before .before .before .before .before .if2 .left, p .ensures .next, p .kept .0)
+    let at1 = c .before .before .before in
+    let at2 = at1 .before .before in
+    let at3 = at2 .before in
+    let waves = at1 .put-waves in
+    let room = at2 .if2 .left in
+    let p = at3 in
+    let plan = p .before .before .check-plan .ensures .1 (p .before .if1 .left) in
+    omega (arith, plan-text _ _ _ plan, p .count-lines .ensures .0, room, waves .ensures .next, waves .kept .0)
 
 same-length : tie.Need-same-length
 same-length c = search needs
 
 returns-3 : tie.Need-returns-3
 returns-3 c =
-    let checked = c .before .before .before .before .before .before .before .before .before .before .before .check-plan .ensures in
-    let zero = c .before .before .before .before .before .before .before .before .before .before .if1 .left in
+    let at1 = c .before .before .before .before .before .before in
+    let at2 = at1 .before .before in
+    let at3 = at2 .before in
+    let waves = at1 .put-waves .ensures in
+    let room = at2 .if2 .left in
+    let p = at3 in
+    let lines = p .count-lines .ensures .0 in
+    let zero = p .before .if1 .left in
+    let checked = p .before .before .check-plan .ensures in
     let plan = checked .1 zero in
-    let lines = c .before .before .before .before .before .before .before .before .before .count-lines .ensures .0 in
     let bytes = plan-bytes _ _ _ plan in
-    text-done poster _ _ _ (sym zero ∙ checked .0) (omega (arith, bytes, lines, c .before .before .before .before .before .before .before .before .if2 .left)) _ _ (omega (arith, bytes, lines)) (poster-written _ _ _ plan _ (omega (arith, bytes, lines, c .before .before .before .before .before .before .before .before .if2 .left)) _ lines _ _ _ _ (c .before .before .before .before .before .before .put-waves .ensures) (c .before .before .put-blank-lines .ensures))
+    let written = poster-written _ _ _ plan _ (omega (arith, bytes, lines, room)) _ lines _ _ _ _ waves (c .before .before .put-blank-lines .ensures) in
+    text-done poster _ _ _ (sym zero ∙ checked .0) (omega (arith, bytes, lines, room)) _ _ (omega (arith, bytes, lines)) written
 
 pub write-poster-spec : {M : Type 1} → statement M
 write-poster-spec =

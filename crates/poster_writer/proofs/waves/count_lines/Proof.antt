@@ -4,7 +4,7 @@ use native.Mathlib.Omega.{arith}
 use Prim.Native.Nat.{_*_, _-_, _≤_}
 use mathlib.Core.Path.{_≡_, sym}
 use lib.ListN.{length}
-use Rattle.poster_writer.specs.Put.{cellLines}
+use Rattle.poster_writer.specs.inner.Cells.{cellLines}
 use Rattle.poster_writer.proofs.Cells.{count-none, count-next}
 use Rattle.poster_writer.proofs.waves.count_lines.Statement.{statement}
 use Rattle.poster_writer.proofs.waves.count_lines.Tie as tie

@@ -1,8 +1,8 @@
 -- `count_wave` meets its contract: the wave's banks take a line for each 7 of them.
 use borrow.Author.Needs.{needs}
 use native.Mathlib.Omega.{arith}
-use Rattle.poster_writer.specs.Put.{membersOf}
-use Rattle.poster_writer.proofs.Members.{members-few}
+use Rattle.wave_lines.specs.inner.Cells.{membersOf}
+use Rattle.wave_lines.proofs.Members.{members-few}
 use Rattle.poster_writer.proofs.Pieces.{length-lines}
 use Rattle.poster_writer.proofs.waves.count_wave.Statement.{statement}
 use Rattle.poster_writer.proofs.waves.count_wave.Tie as tie
@@ -15,16 +15,19 @@ gather-requires c κs = search needs
 
 lines-for-requires : tie.Need-lines-for-requires
 lines-for-requires c κs =
-    let a = c .before .before .before .before .args in
-    omega (arith, members-few (a .waves .now) (a .c .0) (a .n), c .before .gather .ensures .next, c .before .before .before .before .pre .0)
+    let at1 = c .before .before .before .before in
+    let a = at1 .args in
+    omega (arith, members-few (a .waves .now) (a .c .0) (a .n), c .before .gather .ensures .next, at1 .pre .0)
 
 returns : tie.Need-returns
 returns c =
-    let a = c .before .before .before .before .before .args in
-    let members = membersOf (a .waves .now) (a .c .0) (a .n) in
     let found = c .before .before .gather .ensures .next in
+    let start = c .before .before .before .before .before in
+    let a = start .args in
+    let members = membersOf (a .waves .now) (a .c .0) (a .n) in
+    let few = members-few (a .waves .now) (a .c .0) (a .n) in
     let lines = c .lines-for .ensures in
-    (omega (arith, length-lines (a .c .0) members, found, lines), omega (arith, members-few (a .waves .now) (a .c .0) (a .n), found, lines, c .before .before .before .before .before .pre .0))
+    (omega (arith, length-lines (a .c .0) members), omega (arith, start .pre .0))
 
 pub count-wave-spec : {M : Type 1} → statement M
 count-wave-spec = tie.close (tie.spec slice-aggregate-gather gather-requires lines-for-requires returns)

@@ -7,10 +7,11 @@ use mathlib.Core.List.{[], _∷_}
 use mathlib.Core.Path.{_≡_, refl, _∙_}
 use lib.Dec.{eqb}
 use lib.ListN.{length, getD}
-use Rattle.sheet_writer.specs.Put.{Puts}
-use Rattle.sheet_writer.proofs.Putting.{puts-none, puts-then}
-use Rattle.poster_writer.specs.Put.{membersOf}
-use Rattle.poster_writer.proofs.Members.{members-none, members-next, members-few, member-short}
+use Rattle.text.specs.Places.{Puts}
+use Rattle.text.proofs.Putting.{puts-none, puts-then}
+use Rattle.wave_lines.specs.inner.Cells.{membersOf}
+use Rattle.wave_lines.proofs.Members.{members-none, members-next, members-few}
+use Rattle.poster_writer.proofs.Members.{member-short}
 use Rattle.poster_writer.proofs.waves.gather.Statement.{statement}
 use Rattle.poster_writer.proofs.waves.gather.Tie as tie
 
@@ -22,7 +23,9 @@ abbrev μ-loop : tie.MeasureT-loop
 μ-loop banks₀ waves n c next₀ b₀ banks next b = n - b
 
 loop-holds : tie.Need-loop-holds Inv-loop μ-loop
-loop-holds c = (rw (members-none (c .before .before .args .waves .now) (c .before .before .args .c .0)) (puts-none _ _), omega arith, refl)
+loop-holds c =
+    let a = c .before .before .args in
+    (rw (members-none (a .waves .now) (a .c .0)) (puts-none _ _), omega arith, refl)
 
 cast-i : tie.Need-cast-i Inv-loop μ-loop
 cast-i c = search needs
@@ -35,9 +38,13 @@ shared-slice-read-t13 c = search needs
 
 put-member-requires : tie.Need-put-member-requires Inv-loop μ-loop
 put-member-requires c κs =
-    let a = c .before .before .before .before .before .before .args in
-    let w = c .before .before .before .loop in
-    omega (arith, members-few (a .waves .now) (a .c .0) (w .b), w .inv .0 .next, w .inv .2, c .before .before .loop-test .taken, c .before .before .before .before .before .before .pre .1)
+    let at1 = c .before .before .before in
+    let at2 = at1 .before .before .before in
+    let w = at1 .loop in
+    let test = c .before .before .loop-test .taken in
+    let start = at2 in
+    let a = start .args in
+    omega (arith, members-few (a .waves .now) (a .c .0) (w .b), w .inv .0 .next, w .inv .2, test, start .pre .1)
 
 add-b : tie.Need-add-b Inv-loop μ-loop
 add-b c = search needs
@@ -47,14 +54,21 @@ loop-less c = search needs
 
 loop-again : tie.Need-loop-again Inv-loop μ-loop
 loop-again c =
-    let a = c .before .before .before .before .before .before .before .before .before .args in
-    let w = c .before .before .before .before .before .before .loop in
+    let at1 = c .before .before .before .before .before in
+    let at2 = at1 .before in
+    let p = at2 in
+    let w = p .loop in
+    let start = p .before .before .before in
+    let a = start .args in
     let ws = a .waves .now in
-    let one = cond (eqb (getD ws (w .b) 0) (a .c .0)) (w .b ∷ []) [] in (
-      rw (members-next ws (a .c .0) (w .b)) (puts-then (membersOf ws (a .c .0) (w .b)) one 0 (a .banks .now) (omega (arith, members-few ws (a .c .0) (w .b), member-short (getD ws (w .b) 0) (a .c .0) (w .b), c .before .before .before .before .before .loop-test .taken, c .before .before .before .before .before .before .before .before .before .pre .1)) _ _ _ _ (w .inv .0) (c .before .before .put-member .ensures)),
-      omega arith,
-      c .before .before .put-member .kept .0 ∙ w .inv .2,
-    )
+    let new = cond (eqb (getD ws (w .b) 0) (a .c .0)) (w .b ∷ []) [] in
+    let few = members-few ws (a .c .0) (w .b) in
+    let short = member-short (getD ws (w .b) 0) (a .c .0) (w .b) in
+    let test = at1 .loop-test .taken in
+    let room = start .pre .1 in
+    let one = c .before .before .put-member in
+    let more = puts-then (membersOf ws (a .c .0) (w .b)) new 0 (a .banks .now) (omega arith) _ _ _ _ (w .inv .0) (one .ensures) in
+    (rw (members-next ws (a .c .0) (w .b)) more, omega arith, one .kept .0 ∙ w .inv .2)
 
 same-length : tie.Need-same-length Inv-loop μ-loop
 same-length c = search needs

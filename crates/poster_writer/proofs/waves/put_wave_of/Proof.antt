@@ -1,8 +1,9 @@
 -- `put_wave_of` meets its contract: the banks that were gathered are those of the wave.
 use borrow.Author.Needs.{needs}
 use native.Mathlib.Omega.{arith}
-use Rattle.poster_writer.specs.Put.{waveText}
-use Rattle.poster_writer.proofs.Members.{members-few, members-small, gathered}
+use Rattle.wave_lines.proofs.Members.{members-few}
+use Rattle.poster_writer.specs.inner.Cells.{posterWave}
+use Rattle.poster_writer.proofs.Members.{members-small, gathered}
 use Rattle.poster_writer.proofs.waves.put_wave_of.Statement.{statement}
 use Rattle.poster_writer.proofs.waves.put_wave_of.Tie as tie
 
@@ -20,29 +21,30 @@ part-put-wave-start c = search needs
 
 part-put-wave-end : tie.Need-part-put-wave-end
 part-put-wave-end c =
-    let a = c .before .before .before .before .before .before .before .args in
-    omega (arith, members-few (a .waves .now) (a .c .0) (a .n), c .before .before .before .gather .ensures .next, c .before .before .before .before .before .before .before .pre .1)
+    let p = c .before .before .before in
+    let start = p .before .before .before .before in
+    let a = start .args in
+    omega (arith, members-few (a .waves .now) (a .c .0) (a .n), p .gather .ensures .next, start .pre .1)
 
 put-wave-requires : tie.Need-put-wave-requires
-unfolding waveText
+unfolding posterWave
 put-wave-requires c κs =
-    let a = c .before .before .before .before .before .before .before .before .args in
+    let p = c .before .before .before .before in
+    let start = p .before .before .before .before in
+    let a = start .args in
     let ws = a .waves .now in
     let few = members-few ws (a .c .0) (a .n) in
-    let pre = c .before .before .before .before .before .before .before .before .pre in
-    rw (gathered _ _ _ _ (c .before .before .before .before .gather .ensures)) (
-      pre .0,
-      members-small ws (a .c .0) (a .n) (pre .1),
-      omega (arith, few, pre .1),
-      pre .3,
-    )
+    let pre = start .pre in
+    rw (gathered _ _ _ _ (p .gather .ensures)) (pre .0, members-small ws (a .c .0) (a .n) (pre .1), omega (arith, pre .1), pre .3)
 
 same-length : tie.Need-same-length
 same-length c = search needs
 
 returns : tie.Need-returns
-unfolding waveText
-returns c = rw (gathered _ _ _ _ (c .before .before .before .before .before .before .before .gather .ensures)) at (c .before .before .put-wave .ensures)
+unfolding posterWave
+returns c =
+    let p = c .before .before .before .before .before .before .before in
+    rw (gathered _ _ _ _ (p .gather .ensures)) at (c .before .before .put-wave .ensures)
 
 pub put-wave-of-spec : {M : Type 1} → statement M
 put-wave-of-spec =

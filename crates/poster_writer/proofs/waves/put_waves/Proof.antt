@@ -4,33 +4,34 @@ use native.Mathlib.Omega.{arith}
 use Prim.Native.Nat.{_-_, _≤_}
 use mathlib.Core.Path.{_≡_, refl, _∙_}
 use lib.ListN.{length}
-use Rattle.sheet_writer.specs.Put.{Puts}
-use Rattle.sheet_writer.proofs.Putting.{puts-none, puts-then}
-use Rattle.poster_writer.specs.Put.{waveText, wavesText}
+use Rattle.text.specs.Places.{Puts}
+use Rattle.text.proofs.Putting.{puts-none, puts-then}
+use Rattle.poster_writer.specs.inner.Cells.{posterWave, posterWaves}
 use Rattle.poster_writer.proofs.Cells.{waves-none, waves-next, waves-room}
 use Rattle.poster_writer.proofs.waves.put_waves.Statement.{statement}
 use Rattle.poster_writer.proofs.waves.put_waves.Tie as tie
 
 abbrev Inv-loop : tie.InvT-loop
 Inv-loop out₀ waves n k next₀ c₀ out next c =
-    Puts (wavesText waves n c) 0 out₀ next out × (c ≤ k) × (length out ≡ length out₀)
+    Puts (posterWaves waves n c) 0 out₀ next out × (c ≤ k) × (length out ≡ length out₀)
 
 abbrev μ-loop : tie.MeasureT-loop
 μ-loop out₀ waves n k next₀ c₀ out next c = k - c
 
 loop-holds : tie.Need-loop-holds Inv-loop μ-loop
-loop-holds c = (rw (waves-none (c .before .before .args .waves .now) (c .before .before .args .n)) (puts-none _ _), omega arith, refl)
+loop-holds c =
+    let a = c .before .before .args in
+    (rw (waves-none (a .waves .now) (a .n)) (puts-none _ _), omega arith, refl)
 
 put-wave-of-requires : tie.Need-put-wave-of-requires Inv-loop μ-loop
 put-wave-of-requires c κs =
-    let a = c .before .before .before .before .before .args in
+    let at1 = c .before .before .before .before .before in
     let w = c .before .before .loop in
-    let pre = c .before .before .before .before .before .pre in (
-      omega (arith, pre .1),
-      pre .0,
-      pre .2,
-      omega (arith, waves-room (a .waves .now) (a .n) (w .c) (a .k) (c .before .loop-test .taken), w .inv .0 .next, w .inv .2, pre .3),
-    )
+    let start = at1 in
+    let a = start .args in
+    let pre = start .pre in
+    let room = waves-room (a .waves .now) (a .n) (w .c) (a .k) (c .before .loop-test .taken) in
+    (omega (arith, pre .1), pre .0, pre .2, omega (arith, w .inv .0 .next, w .inv .2, pre .3))
 
 add-c : tie.Need-add-c Inv-loop μ-loop
 add-c c = search needs
@@ -40,14 +41,19 @@ loop-less c = search needs
 
 loop-again : tie.Need-loop-again Inv-loop μ-loop
 loop-again c =
-    let a = c .before .before .before .before .before .before .before .before .args in
-    let w = c .before .before .before .before .before .loop in
+    let at1 = c .before .before .before .before in
+    let at2 = at1 .before in
+    let p = at2 in
+    let w = p .loop in
+    let start = p .before .before .before in
+    let a = start .args in
     let ws = a .waves .now in
-    let room = waves-room ws (a .n) (w .c) (a .k) (c .before .before .before .before .loop-test .taken) in (
-      rw (waves-next ws (a .n) (w .c)) (puts-then (wavesText ws (a .n) (w .c)) (waveText ws (a .n) (w .c)) 0 (a .out .now) (omega (arith, room, c .before .before .before .before .before .before .before .before .pre .3)) _ _ _ _ (w .inv .0) (c .before .before .put-wave-of .ensures)),
-      omega arith,
-      c .before .before .put-wave-of .kept .0 ∙ w .inv .2,
-    )
+    let room = waves-room ws (a .n) (w .c) (a .k) (at1 .loop-test .taken) in
+    let fits = start .pre .3 in
+    let one = c .before .before .put-wave-of in
+    let more =
+    puts-then (posterWaves ws (a .n) (w .c)) (posterWave ws (a .n) (w .c)) 0 (a .out .now) (omega arith) _ _ _ _ (w .inv .0) (one .ensures) in
+    (rw (waves-next ws (a .n) (w .c)) more, omega arith, one .kept .0 ∙ w .inv .2)
 
 same-length : tie.Need-same-length Inv-loop μ-loop
 same-length c = search needs

@@ -4,30 +4,33 @@ use native.Mathlib.Omega.{arith}
 use Prim.Native.Nat.{_-_, _≤_}
 use mathlib.Core.Path.{_≡_, refl, _∙_}
 use lib.ListN.{length}
-use Rattle.sheet_writer.specs.Put.{Puts, waveText, wavesText}
+use Rattle.text.specs.Places.{Puts}
+use Rattle.text.proofs.Putting.{puts-none, puts-then}
+use Rattle.sheet_writer.specs.inner.Cells.{sheetWave, sheetWaves}
 use Rattle.sheet_writer.proofs.Texts.{waves-none, waves-next, waves-room}
-use Rattle.sheet_writer.proofs.Putting.{puts-none, puts-then}
 use Rattle.sheet_writer.proofs.lines.put_lines.Statement.{statement}
 use Rattle.sheet_writer.proofs.lines.put_lines.Tie as tie
 
 abbrev Inv-loop : tie.InvT-loop
 Inv-loop out₀ at waves n k next₀ c₀ out next c =
-    Puts (wavesText waves n c) at out₀ next out × (c ≤ k) × (length out ≡ length out₀)
+    Puts (sheetWaves waves n c) at out₀ next out × (c ≤ k) × (length out ≡ length out₀)
 
 abbrev μ-loop : tie.MeasureT-loop
 μ-loop out₀ at waves n k next₀ c₀ out next c = k - c
 
 loop-holds : tie.Need-loop-holds Inv-loop μ-loop
-loop-holds c = (rw (waves-none (c .before .before .args .waves .now) (c .before .before .args .n)) (puts-none _ _), omega arith, refl)
+loop-holds c =
+    let a = c .before .before .args in
+    (rw (waves-none (a .waves .now) (a .n)) (puts-none _ _), omega arith, refl)
 
 put-line-requires : tie.Need-put-line-requires Inv-loop μ-loop
 put-line-requires c κs =
-    let a = c .before .before .before .before .before .args in
-    let w = c .before .before .loop in (
-      omega (arith, c .before .before .before .before .before .pre .0),
-      c .before .before .before .before .before .pre .1,
-      omega (arith, waves-room (a .waves .now) (a .n) (w .c) (a .k) (c .before .loop-test .taken), w .inv .0 .next, w .inv .2, c .before .before .before .before .before .pre .2),
-    )
+    let at1 = c .before .before .before .before .before in
+    let w = c .before .before .loop in
+    let start = at1 in
+    let a = start .args in
+    let room = waves-room (a .waves .now) (a .n) (w .c) (a .k) (c .before .loop-test .taken) in
+    (omega (arith, start .pre .0), start .pre .1, omega (arith, w .inv .0 .next, w .inv .2, start .pre .2))
 
 add-c : tie.Need-add-c Inv-loop μ-loop
 add-c c = search needs
@@ -37,14 +40,19 @@ loop-less c = search needs
 
 loop-again : tie.Need-loop-again Inv-loop μ-loop
 loop-again c =
-    let a = c .before .before .before .before .before .before .before .before .args in
-    let w = c .before .before .before .before .before .loop in
+    let at1 = c .before .before .before .before in
+    let at2 = at1 .before in
+    let p = at2 in
+    let w = p .loop in
+    let start = p .before .before .before in
+    let a = start .args in
     let ws = a .waves .now in
-    let room = waves-room ws (a .n) (w .c) (a .k) (c .before .before .before .before .loop-test .taken) in (
-      rw (waves-next ws (a .n) (w .c)) (puts-then (wavesText ws (a .n) (w .c)) (waveText ws (a .n) (w .c)) (a .at) (a .out .now) (omega (arith, room, c .before .before .before .before .before .before .before .before .pre .2)) _ _ _ _ (w .inv .0) (c .before .before .put-line .ensures)),
-      omega arith,
-      c .before .before .put-line .kept .0 ∙ w .inv .2,
-    )
+    let room = waves-room ws (a .n) (w .c) (a .k) (at1 .loop-test .taken) in
+    let fits = start .pre .2 in
+    let one = c .before .before .put-line in
+    let more =
+    puts-then (sheetWaves ws (a .n) (w .c)) (sheetWave ws (a .n) (w .c)) (a .at) (a .out .now) (omega arith) _ _ _ _ (w .inv .0) (one .ensures) in
+    (rw (waves-next ws (a .n) (w .c)) more, omega arith, one .kept .0 ∙ w .inv .2)
 
 same-length : tie.Need-same-length Inv-loop μ-loop
 same-length c = search needs

@@ -4,9 +4,9 @@ use native.Mathlib.Omega.{arith}
 use mathlib.Core.List.{[], _∷_}
 use mathlib.Core.Path.{ap}
 use lib.ListN.{length}
-use Rattle.sheet_writer.specs.Sheet.{decimal}
+use Rattle.text.specs.Numbers.{decimal}
+use Rattle.text.proofs.Putting.{puts-none, puts-then}
 use Rattle.sheet_writer.proofs.Texts.{member-same, member-other}
-use Rattle.sheet_writer.proofs.Putting.{puts-none, puts-then}
 use Rattle.sheet_writer.proofs.lines.put_member.Statement.{statement}
 use Rattle.sheet_writer.proofs.lines.put_member.Tie as tie
 
@@ -17,23 +17,38 @@ returns c =
 
 put-byte-requires : tie.Need-put-byte-requires
 put-byte-requires c κs =
-    let a = c .before .before .before .before .before .args in
-    omega (arith, ap length (member-same (a .w .0) (a .c .0) (a .b .0) (omega (arith, c .before .if1 .left))), c .before .before .before .before .before .pre)
+    let start = c .before .before .before .before .before in
+    let a = start .args in
+    omega (arith, ap length (member-same (a .w .0) (a .c .0) (a .b .0) (omega (arith, c .before .if1 .left))), start .pre)
 
 put-number-requires : tie.Need-put-number-requires
 put-number-requires c κs =
-    let a = c .before .before .before .before .before .before .before .before .before .args in
-    let p = c .before .before .before .put-byte in
-    omega (arith, ap length (member-same (a .w .0) (a .c .0) (a .b .0) (omega (arith, c .before .before .before .before .before .if1 .left))), c .before .before .before .before .before .before .before .before .before .pre, p .ensures .next, p .kept .0)
+    let at1 = c .before .before .before in
+    let at2 = at1 .before .before in
+    let at3 = at2 .before .before .before .before in
+    let p = at1 .put-byte in
+    let test = at2 .if1 .left in
+    let start = at3 in
+    let a = start .args in
+    omega (arith, ap length (member-same (a .w .0) (a .c .0) (a .b .0) (omega arith)), start .pre, p .ensures .next, p .kept .0)
 
 same-length : tie.Need-same-length
 same-length c = search needs
 
 returns-2 : tie.Need-returns-2
 returns-2 c =
-    let a = c .before .before .before .before .before .before .before .before .before .before .before .before .args in
-    let e = member-same (a .w .0) (a .c .0) (a .b .0) (omega (arith, c .before .before .before .before .before .before .before .before .if1 .left)) in
-    rw e (puts-then (32 ∷ []) (decimal (a .b .0)) (a .at) (a .out .now) (omega (arith, ap length e, c .before .before .before .before .before .before .before .before .before .before .before .before .pre)) _ _ _ _ (c .before .before .before .before .before .before .put-byte .ensures) (c .before .before .put-number .ensures))
+    let at1 = c .before .before .before .before .before .before in
+    let at2 = at1 .before .before in
+    let at3 = at2 .before .before .before .before in
+    let p = at1 .put-byte in
+    let test = at2 .if1 .left in
+    let start = at3 in
+    let a = start .args in
+    let fits = start .pre in
+    let e = member-same (a .w .0) (a .c .0) (a .b .0) (omega arith) in
+    let long = ap length e in
+    rw e
+    (puts-then (32 ∷ []) (decimal (a .b .0)) (a .at) (a .out .now) (omega arith) _ _ _ _ (p .ensures) (c .before .before .put-number .ensures))
 
 pub put-member-spec : {M : Type 1} → statement M
 put-member-spec =

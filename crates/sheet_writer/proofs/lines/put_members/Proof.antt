@@ -4,9 +4,10 @@ use native.Mathlib.Omega.{arith}
 use Prim.Native.Nat.{_-_, _≤_}
 use mathlib.Core.Path.{_≡_, refl, _∙_}
 use lib.ListN.{length, getD}
-use Rattle.sheet_writer.specs.Put.{Puts, memberText, membersText}
+use Rattle.text.specs.Places.{Puts}
+use Rattle.text.proofs.Putting.{puts-none, puts-then}
+use Rattle.sheet_writer.specs.inner.Cells.{memberText, membersText}
 use Rattle.sheet_writer.proofs.Texts.{members-none, members-next, members-room}
-use Rattle.sheet_writer.proofs.Putting.{puts-none, puts-then}
 use Rattle.sheet_writer.proofs.lines.put_members.Statement.{statement}
 use Rattle.sheet_writer.proofs.lines.put_members.Tie as tie
 
@@ -18,7 +19,9 @@ abbrev μ-loop : tie.MeasureT-loop
 μ-loop out₀ at waves n c next₀ b₀ out next b = n - b
 
 loop-holds : tie.Need-loop-holds Inv-loop μ-loop
-loop-holds c = (rw (members-none (c .before .before .args .waves .now) (c .before .before .args .c .0)) (puts-none _ _), omega arith, refl)
+loop-holds c =
+    let a = c .before .before .args in
+    (rw (members-none (a .waves .now) (a .c .0)) (puts-none _ _), omega arith, refl)
 
 cast-i : tie.Need-cast-i Inv-loop μ-loop
 cast-i c = search needs
@@ -31,9 +34,13 @@ shared-slice-read-t14 c = search needs
 
 put-member-requires : tie.Need-put-member-requires Inv-loop μ-loop
 put-member-requires c κs =
-    let a = c .before .before .before .before .before .before .args in
-    let w = c .before .before .before .loop in
-    omega (arith, members-room (a .waves .now) (a .c .0) (w .b) (a .n) (c .before .before .loop-test .taken), w .inv .0 .next, w .inv .2, c .before .before .before .before .before .before .pre .1)
+    let at1 = c .before .before .before in
+    let at2 = at1 .before .before .before in
+    let w = at1 .loop in
+    let start = at2 in
+    let a = start .args in
+    let room = members-room (a .waves .now) (a .c .0) (w .b) (a .n) (c .before .before .loop-test .taken) in
+    omega (arith, w .inv .0 .next, w .inv .2, start .pre .1)
 
 add-b : tie.Need-add-b Inv-loop μ-loop
 add-b c = search needs
@@ -43,14 +50,19 @@ loop-less c = search needs
 
 loop-again : tie.Need-loop-again Inv-loop μ-loop
 loop-again c =
-    let a = c .before .before .before .before .before .before .before .before .before .args in
-    let w = c .before .before .before .before .before .before .loop in
+    let at1 = c .before .before .before .before .before in
+    let at2 = at1 .before in
+    let p = at2 in
+    let w = p .loop in
+    let start = p .before .before .before in
+    let a = start .args in
     let ws = a .waves .now in
-    let room = members-room ws (a .c .0) (w .b) (a .n) (c .before .before .before .before .before .loop-test .taken) in (
-      rw (members-next ws (a .c .0) (w .b)) (puts-then (membersText ws (a .c .0) (w .b)) (memberText (getD ws (w .b) 0) (a .c .0) (w .b)) (a .at) (a .out .now) (omega (arith, room, c .before .before .before .before .before .before .before .before .before .pre .1)) _ _ _ _ (w .inv .0) (c .before .before .put-member .ensures)),
-      omega arith,
-      c .before .before .put-member .kept .0 ∙ w .inv .2,
-    )
+    let room = members-room ws (a .c .0) (w .b) (a .n) (at1 .loop-test .taken) in
+    let fits = start .pre .1 in
+    let one = c .before .before .put-member in
+    let more =
+    puts-then (membersText ws (a .c .0) (w .b)) (memberText (getD ws (w .b) 0) (a .c .0) (w .b)) (a .at) (a .out .now) (omega arith) _ _ _ _ (w .inv .0) (one .ensures) in
+    (rw (members-next ws (a .c .0) (w .b)) more, omega arith, one .kept .0 ∙ w .inv .2)
 
 same-length : tie.Need-same-length Inv-loop μ-loop
 same-length c = search needs

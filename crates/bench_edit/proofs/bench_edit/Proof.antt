@@ -1,0 +1,69 @@
+-- `bench_edit` meets its contract: the edit of memory that holds a plan, on the lent cells.
+use borrow.Author.Needs.{needs}
+use native.Mathlib.Omega.{arith}
+use Rattle.bench_edit.proofs.HeldCalls.{held, held-done}
+use Rattle.bench_edit.proofs.bench_edit.Statement.{statement}
+use Rattle.bench_edit.proofs.bench_edit.Tie as tie
+
+tally-in-requires : tie.Need-tally-in-requires
+tally-in-requires c κs = search needs
+
+edit-held-requires : tie.Need-edit-held-requires
+edit-held-requires c κs =
+    let read = c .before .before .before .before .before .before in
+    held _ _ (read .tally-in .ensures) (read .before .before .before .before .before .before .before .before .before .before .pre .1)
+
+slice-aggregate-put-answer : tie.Need-slice-aggregate-put-answer
+slice-aggregate-put-answer c = search needs
+
+put-answer-requires : tie.Need-put-answer-requires
+put-answer-requires c κs = omega (arith, c .before .before .before .before .before .before .before .before .before .before .before .before .before .before .before .before)
+
+same-length : tie.Need-same-length
+same-length c = search needs
+
+same-length-2 : tie.Need-same-length-2
+same-length-2 c = search needs
+
+same-length-3 : tie.Need-same-length-3
+same-length-3 c = search needs
+
+same-length-4 : tie.Need-same-length-4
+same-length-4 c = search needs
+
+same-length-5 : tie.Need-same-length-5
+same-length-5 c = search needs
+
+same-length-6 : tie.Need-same-length-6
+same-length-6 c = search needs
+
+same-length-7 : tie.Need-same-length-7
+same-length-7 c = search needs
+
+same-length-8 : tie.Need-same-length-8
+same-length-8 c = search needs
+
+returns : tie.Need-returns
+returns c G ready =
+    let put = c .before .before .before .before in
+    let core = put .before .before .before .before .before .before .before .before .before .before .before .before .before .before .before .before in
+    let at = core .before .before .before .before .before .before .before .tally-in .ensures in
+    held-done _ _ at _ G _ _ _ _ _ _ _ _ (core .edit-held .ensures) ready (put .put-answer .ensures .0) (put .put-answer .ensures .1)
+
+pub bench-edit-spec : {M : Type 1} → statement M
+bench-edit-spec =
+    tie.close
+    (tie.spec
+    tally-in-requires
+    edit-held-requires
+    slice-aggregate-put-answer
+    put-answer-requires
+    same-length
+    same-length-2
+    same-length-3
+    same-length-4
+    same-length-5
+    same-length-6
+    same-length-7
+    same-length-8
+    returns)

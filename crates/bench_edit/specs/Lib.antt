@@ -1,0 +1,2 @@
+-- For the benchmarks: nothing that a reader of the library must believe.
+pub mod inner

@@ -1,0 +1,2 @@
+-- Inner vocabulary: for functions of the benchmarks.
+pub mod HeldCall

@@ -1,0 +1,72 @@
+-- `make_edit`: what it hands to `propagate` is as `Changed` says, for whichever clashes memory holds the plan of.
+use borrow.Author.Needs.{needs}
+use mathlib.Core.Path.{_∙_}
+use Rattle.rule.specs.declared.Kind.{Kind}
+use Rattle.rule.specs.Graph.{Graph}
+use Rattle.memory.specs.Lent.{given}
+use Rattle.edits.proofs.ClashCounts.{number-fits, clashes-after}
+use Rattle.edits.proofs.Propagating.{originOf, rowed-before, changed-from}
+use Rattle.edits.proofs.edit.make_edit.Statement.{statement}
+use Rattle.edits.proofs.edit.make_edit.Tie as tie
+
+count-after-requires : tie.Need-count-after-requires
+count-after-requires c κs = number-fits (c .before .before .before .before .before .before .pre .1)
+
+change-clash-requires : tie.Need-change-clash-requires
+change-clash-requires c κs =
+    let p = c .before .before .before .before .before .before .before .before .before .pre in
+    (p .0, rowed-before (p .1), p .1 .acceptable)
+
+propagate-requires : tie.Need-propagate-requires
+propagate-requires c κs =
+    let at = c .before .before .before .before .before .before .before .before .before .before in
+    let start = at .before .before .before .before .before .before .before .before .before .before in
+    let a = start .args in
+    let ed = start .pre .1 in
+    let rows = at .change-clash .ensures (start .pre .0) (rowed-before ed) (ed .acceptable) in (
+      originOf _ _ (given (a .neighbours) (a .degrees) (a .waves) (a .counts) (a .trail) (a .moved) (a .tally)),
+      changed-from ed rows (at .before .before .before .count-after .ensures ∙ clashes-after ed),
+    )
+
+same-length : tie.Need-same-length
+same-length c = search needs
+
+same-length-2 : tie.Need-same-length-2
+same-length-2 c = search needs
+
+same-length-3 : tie.Need-same-length-3
+same-length-3 c = search needs
+
+same-length-4 : tie.Need-same-length-4
+same-length-4 c = search needs
+
+same-length-5 : tie.Need-same-length-5
+same-length-5 c = search needs
+
+same-length-6 : tie.Need-same-length-6
+same-length-6 c = search needs
+
+returns : tie.Need-returns
+returns c =
+    let done = c .before .before .before .before .before .before .before .before in
+    let at = done .before .before .before .before .before .before .before .before .before .before .before in
+    let a = at .before .before .before .before .before .before .before .before .before .before .args in
+    λ G ed.
+    done .propagate .ensures
+    (originOf _ G (given (a .neighbours) (a .degrees) (a .waves) (a .counts) (a .trail) (a .moved) (a .tally)))
+    (changed-from ed (at .change-clash .ensures G (rowed-before ed) (ed .acceptable)) (at .before .before .before .count-after .ensures ∙ clashes-after ed))
+
+pub make-edit-spec : {M : Type 1} → statement M
+make-edit-spec =
+    tie.close
+    (tie.spec
+    count-after-requires
+    change-clash-requires
+    propagate-requires
+    same-length
+    same-length-2
+    same-length-3
+    same-length-4
+    same-length-5
+    same-length-6
+    returns)

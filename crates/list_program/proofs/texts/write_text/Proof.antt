@@ -1,0 +1,44 @@
+-- `write_text` meets its contract, text by text.
+use borrow.Author.Needs.{needs}
+use Rattle.list_program.specs.Answers.{textOf}
+use Rattle.list_program.proofs.texts.write_text.Statement.{statement}
+use Rattle.list_program.proofs.texts.write_text.Tie as tie
+
+enum-told : tie.Need-enum-told
+enum-told c = search needs
+
+write-sheet-requires : tie.Need-write-sheet-requires
+write-sheet-requires c κs = search needs
+
+enum-told-2 : tie.Need-enum-told-2
+enum-told-2 c = search needs
+
+write-poster-requires : tie.Need-write-poster-requires
+write-poster-requires c κs = search needs
+
+same-length : tie.Need-same-length
+same-length c = search needs
+
+returns : tie.Need-returns
+unfolding textOf
+returns c = let made = c .before .before in rw (made .before .before .enum-told .given .1) (made .write-sheet .ensures)
+
+same-length-2 : tie.Need-same-length-2
+same-length-2 c = search needs
+
+returns-2 : tie.Need-returns-2
+unfolding textOf
+returns-2 c = let made = c .before .before in rw (made .before .before .enum-told2 .given .1) (made .write-poster .ensures)
+
+pub write-text-spec : {M : Type 1} → statement M
+write-text-spec =
+    tie.close
+    (tie.spec
+    enum-told
+    write-sheet-requires
+    enum-told-2
+    write-poster-requires
+    same-length
+    returns
+    same-length-2
+    returns-2)

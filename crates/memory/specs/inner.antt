@@ -1,0 +1,5 @@
+-- What functions below the public calls promise each other.
+pub mod Counts
+pub mod View
+pub mod Test
+pub mod Walk

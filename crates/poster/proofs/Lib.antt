@@ -1,2 +1,0 @@
--- Theorems: what to cite.
-pub mod Theorems

@@ -1,0 +1,2 @@
+-- Inner vocabulary: for the functions under `write_poster`.
+pub mod Cells

@@ -1,0 +1,109 @@
+-- The bits of a queue against the banks that wait, and the order of its words against the rule order.
+use mathlib.Core.Bool.{Bool, _&&_, not}
+use mathlib.Core.List.{List}
+use mathlib.Core.Logic.{_⊎_, inl, inr, _≢_}
+use mathlib.Core.Path.{_≡_, sym, ap, _∙_}
+use Prim.Native.Nat.{ℕ, _+_, _*_, _-_, _/_, _%_, _<_}
+use native.Mathlib.Decide.{ℕ-discrete}
+use native.Mathlib.Omega.{arith}
+use lib.Dec.{T, ltb, eqb, eqb→eq, ltb→lt}
+use lib.ListN.{getD}
+use Rattle.rule.specs.Order.{earlierBy}
+use Rattle.rule.specs.Graph.{Graph, degree, earlier}
+use Rattle.rule.proofs.Booleans.{and-l, and-r, or-cases, T-along, lt-or-ge}
+use Rattle.queue.specs.Queue.{testBit, wordOf, waits, Queue, Keyed}
+use Rattle.queue.specs.inner.Words.{HasBit, Written}
+use Rattle.queue.proofs.Bits.{bit-none}
+
+-- 0 has no bit
+pub zero-bit : {a : ℕ} (k : ℕ) → a ≡ 0 → T (testBit a k) → ⊥
+zero-bit k e t = T-along (ap (λ (x : ℕ). testBit x k) e ∙ bit-none k) t
+
+-- ---- the order
+
+-- an earlier bank stands in an earlier word, or at a lower bit of the same
+pub earlier-words : {G : Graph} → Keyed G → (x y : ℕ) → x < G .banks → y < G .banks → T (earlier G x y) → (wordOf G x < wordOf G y) ⊎ ((wordOf G x ≡ wordOf G y) × (x % 64 < y % 64))
+unfolding earlier earlierBy
+earlier-words {G} keyed x y lx ly t =
+    let dx = degree G x in
+    let dy = degree G y in
+    let sx = keyed .small x lx in
+    let sy = keyed .small y ly in
+    let few = keyed .few in
+    elim (or-cases (ltb dy dx) (eqb dx dy && ltb x y) t) [
+      | inl u ↦ inl (omega (arith, ltb→lt dy dx u))
+      | inr u ↦
+          let e = eqb→eq dx dy (and-l (eqb dx dy) (ltb x y) u) in
+          let l = ltb→lt x y (and-r (eqb dx dy) (ltb x y) u) in
+          elim (lt-or-ge (x / 64) (y / 64)) [ inl k ↦ inl (omega arith) | inr k ↦ inr (omega arith, omega arith) ]
+    ]
+
+-- distinct banks have distinct bits
+same-bank : {G : Graph} → Keyed G → (x y : ℕ) → x < G .banks → y < G .banks → wordOf G x ≡ wordOf G y → x % 64 ≡ y % 64 → x ≡ y
+same-bank keyed x y lx ly e d = omega (arith, keyed .few)
+
+-- the word of a bank is one of the first 384
+pub word-inside : {G : Graph} → Keyed G → (x : ℕ) → x < G .banks → wordOf G x < 384
+word-inside keyed x lx = omega (arith, keyed .few)
+
+-- ---- the bit of v, and that of its word in the summary, written
+
+module _ {G : Graph} {q q₁ q₂ : List ℕ} {v w k : ℕ} {value mark : Bool} (keyed : Keyed G) (queue : Queue G q) (bank : v < G .banks) (own-word : w ≡ wordOf G v) (own-bit : k ≡ v % 64)
+    (one : Written q q₁ w k value) (two : Written q₁ q₂ (384 + w / 64) (w % 64) mark) where
+  inside : w < 384
+  inside = omega (arith, word-inside keyed v bank)
+
+  -- the first 384 words are as the first step left them
+  after-one : (i : ℕ) → i < 384 → getD q₂ i 0 ≡ getD q₁ i 0
+  after-one i l = two .elsewhere i (λ e. omega arith)
+
+  -- no bit changed but that of v
+  kept : (i m : ℕ) → i < 384 → (i ≡ w → m ≡ k → ⊥) → testBit (getD q₂ i 0) m ≡ testBit (getD q i 0) m
+  kept i m l n =
+      ap (λ (a : ℕ). testBit a m) (after-one i l)
+      ∙ elim (ℕ-discrete i w) [ yes e ↦ rw e (one .others m (n e)) | no d ↦ ap (λ (a : ℕ). testBit a m) (one .elsewhere i d) ]
+
+  written-names : (i m : ℕ) → i < 384 → m < 64 → T (testBit (getD q₂ i 0) m) → (i % 16 * 64 + m < G .banks) × (i ≡ wordOf G (i % 16 * 64 + m))
+  written-names i m l s t = go (ℕ-discrete i w) (ℕ-discrete m k)
+    where
+      go : Dec (i ≡ w) → Dec (m ≡ k) → (i % 16 * 64 + m < G .banks) × (i ≡ wordOf G (i % 16 * 64 + m))
+      go (yes e) (yes f) = let own : i % 16 * 64 + m ≡ v = omega (arith, keyed .few) in rw own (bank, e ∙ own-word)
+      go (no n) d = queue .names i m l s (T-along (kept i m l (λ e f. n e)) t)
+      go (yes e) (no n) = queue .names i m l s (T-along (kept i m l (λ e f. n f)) t)
+
+  -- of the summary no bit changed but that of w
+  kept-summary : (i : ℕ) → i < 384 → i ≢ w → testBit (getD q₂ (384 + i / 64) 0) (i % 64) ≡ testBit (getD q (384 + i / 64) 0) (i % 64)
+  kept-summary i l n =
+      elim (ℕ-discrete (i / 64) (w / 64)) [
+        | yes e ↦ rw e (two .others (i % 64) (λ f. n (omega arith)))
+        | no d ↦ ap (λ (a : ℕ). testBit a (i % 64)) (two .elsewhere (384 + i / 64) (λ e. d (omega arith)))
+      ]
+      ∙ ap (λ (a : ℕ). testBit a (i % 64)) (one .elsewhere (384 + i / 64) (λ e. omega (arith, inside)))
+
+  -- it is a queue if the summary is right
+  pub written-queue : mark ≡ not (eqb (getD q₁ w 0) 0) → Queue G q₂
+  written-queue right = record {
+    long = two .long;
+    fits = two .fits;
+    names = written-names;
+    summary = λ i l. rw (after-one i l) (elim (ℕ-discrete i w) [
+      | yes e ↦ rw e (two .own ∙ right)
+      | no n ↦ kept-summary i l n ∙ queue .summary i l ∙ ap (λ (a : ℕ). not (eqb a 0)) (sym (one .elsewhere i n))
+    ]);
+  }
+
+  -- of the members only v can have changed
+  pub written-own : waits G q₂ v ≡ value
+  unfolding waits
+  written-own = rw (← own-word, ← own-bit, after-one w inside) (one .own)
+
+  pub written-other : (x : ℕ) → x < G .banks → x ≢ v → waits G q₂ x ≡ waits G q x
+  unfolding waits
+  written-other x lx n = kept (wordOf G x) (x % 64) (word-inside keyed x lx) (λ e f. n (same-bank keyed x v lx bank (e ∙ own-word) (f ∙ own-bit)))
+
+-- what the two steps ask of the words
+pub word-bits : {G : Graph} {q : List ℕ} {w k : ℕ} → Queue G q → w < 384 → k < 64 → HasBit q w k
+word-bits queue l m = record { word = omega arith; place = m; long = queue .long; fits = queue .fits }
+
+pub summary-bits : {q q₁ : List ℕ} {w k : ℕ} {value : Bool} → w < 384 → Written q q₁ w k value → HasBit q₁ (384 + w / 64) (w % 64)
+summary-bits l one = record { word = omega arith; place = omega arith; long = one .long; fits = one .fits }

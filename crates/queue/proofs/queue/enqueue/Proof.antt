@@ -1,0 +1,57 @@
+-- `enqueue`: the bit of v, and that of its word.
+use borrow.Author.Needs.{needs}
+use native.Mathlib.Omega.{arith}
+use Rattle.queue.proofs.Putting.{enqueued}
+use Rattle.queue.proofs.queue.enqueue.Statement.{statement}
+use Rattle.queue.proofs.queue.enqueue.Tie as tie
+
+cast-at : tie.Need-cast-at
+cast-at c = search needs
+
+mul-degree : tie.Need-mul-degree
+mul-degree c = search needs
+
+shared-slice-read-degree : tie.Need-shared-slice-read-degree
+shared-slice-read-degree c = search needs
+
+sub-word : tie.Need-sub-word
+sub-word c =
+    let line = c .before .before .before .pre .1 in
+    omega (arith, line .own-degree, line .keyed .small (c .before .before .before .args .v .0) (line .bank))
+
+cast-word : tie.Need-cast-word
+cast-word c = search needs
+
+mul-word : tie.Need-mul-word
+mul-word c = search needs
+
+add-word : tie.Need-add-word
+add-word c = search needs
+
+set-bit-requires : tie.Need-set-bit-requires
+set-bit-requires c κs = search needs
+
+add-set-bit : tie.Need-add-set-bit
+add-set-bit c = search needs
+
+set-bit-requires-2 : tie.Need-set-bit-requires-2
+set-bit-requires-2 c κs = search needs
+
+returns : tie.Need-returns
+returns c = λ G line. enqueued line (c .before .before .before .before .before .before .before .args .put) (c .before .before .set-bit .ensures) (c .set-bit2 .ensures)
+
+pub enqueue-spec : {M : Type 1} → statement M
+enqueue-spec =
+    tie.close
+    (tie.spec
+    cast-at
+    mul-degree
+    shared-slice-read-degree
+    sub-word
+    cast-word
+    mul-word
+    add-word
+    set-bit-requires
+    add-set-bit
+    set-bit-requires-2
+    returns)

@@ -1,2 +1,0 @@
--- Examples tests what the program writes for a list (list_program/Answers).
-pub mod Examples

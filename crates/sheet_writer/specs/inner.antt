@@ -1,0 +1,2 @@
+-- Inner vocabulary: for the functions under `write_sheet`.
+pub mod Cells

@@ -1,0 +1,91 @@
+-- `notify_colours`: after i turns the first i neighbours are notified.
+use borrow.Author.Needs.{needs}
+use borrow.Author.Tests.{not-true, not-false}
+use native.Mathlib.Omega.{arith}
+use Prim.Native.Nat.{_-_, _≤_}
+use mathlib.Core.Path.{_≡_, refl, _∙_}
+use lib.ListN.{length, getD}
+use Rattle.steps.specs.inner.Notices.{Notice, Notifying}
+use Rattle.steps.proofs.Notices.{few-neighbours, noticeOf, none-notified, start-notifying, all-notified}
+use Rattle.steps.proofs.notify.notify_colours.Statement.{statement}
+use Rattle.steps.proofs.notify.notify_colours.Tie as tie
+
+abbrev Inv-loop : tie.InvT-loop
+Inv-loop neighbours degrees counts₀ queue₀ b changed old new at degree i₀ counts queue i =
+    (i ≤ degree)
+    × (length counts ≡ length counts₀)
+    × ((s : Notice)
+    → Notifying s neighbours degrees counts₀ queue₀ (b .0) (old .0) (new .0) 0
+    → Notifying s neighbours degrees counts queue (b .0) (old .0) (new .0) i)
+
+abbrev μ-loop : tie.MeasureT-loop
+μ-loop neighbours degrees counts₀ queue₀ b changed old new at degree i₀ counts queue i = degree - i
+
+returns : tie.Need-returns Inv-loop μ-loop
+returns c = λ G nf. none-notified nf _ (λ x. rw (not-true (c .before .before .before .before .args .changed) (c .if1 .taken)) refl)
+
+cast-at : tie.Need-cast-at Inv-loop μ-loop
+cast-at c = search needs
+
+mul-degree : tie.Need-mul-degree Inv-loop μ-loop
+mul-degree c = let nf = c .before .before .before .before .before .pre .1 in omega (arith, nf .bank, nf .shown .few)
+
+shared-slice-read-degree : tie.Need-shared-slice-read-degree Inv-loop μ-loop
+shared-slice-read-degree c = let nf = c .before .before .before .before .before .before .pre .1 in omega (arith, nf .bank, nf .shown .wide-degrees)
+
+cast-degree : tie.Need-cast-degree Inv-loop μ-loop
+cast-degree c = omega (arith, few-neighbours (c .before .before .before .before .before .before .pre .1))
+
+loop-holds : tie.Need-loop-holds Inv-loop μ-loop
+loop-holds c = (omega arith, refl, λ s nt. nt)
+
+notify-one-requires : tie.Need-notify-one-requires Inv-loop μ-loop
+notify-one-requires c κs =
+    let loop = c .before .before .before in
+    let at = loop .before .before .before in
+    let start = start-notifying (not-false _ (at .if1 .left)) (at .before .before .before .before .pre .1) in
+    ((_, loop .loop .inv .2 _ start), c .before .before .loop-test .taken)
+
+add-i : tie.Need-add-i Inv-loop μ-loop
+add-i c = let test = c .before .before .before .before .before in omega (arith, few-neighbours (test .before .before .before .before .before .before .before .before .pre .1), test .loop-test .taken)
+
+loop-less : tie.Need-loop-less Inv-loop μ-loop
+loop-less c = omega arith
+
+loop-again : tie.Need-loop-again Inv-loop μ-loop
+loop-again c =
+    let one = c .before .before .notify-one in
+    let inv = c .before .before .before .before .before .before .loop .inv in
+    (omega arith, one .kept .1 .1 .0 ∙ inv .1, λ s nt. one .ensures s (inv .2 s nt))
+
+same-length : tie.Need-same-length Inv-loop μ-loop
+same-length c = c .before .loop .inv .1
+
+returns-2 : tie.Need-returns-2 Inv-loop μ-loop
+returns-2 c =
+    let loop = c .before .loop in
+    let at = c .before .before .before .before in
+    let a = at .before .before .before .before .args in
+    let e : loop .i ≡ getD (a .degrees .now) (a .b .0) 0 = omega (arith, loop .inv .0, c .loop-test .left) in
+    λ G nf.
+    let said = not-false _ (at .if1 .left) in
+    all-notified said (rw e at (loop .inv .2 (noticeOf G _ _) (start-notifying said nf)))
+
+pub notify-colours-spec : {M : Type 1} → statement M
+notify-colours-spec =
+    tie.close
+    (tie.spec
+    Inv-loop
+    μ-loop
+    returns
+    cast-at
+    mul-degree
+    shared-slice-read-degree
+    cast-degree
+    loop-holds
+    notify-one-requires
+    add-i
+    loop-less
+    loop-again
+    same-length
+    returns-2)

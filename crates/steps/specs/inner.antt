@@ -1,0 +1,3 @@
+-- What the contracts of the functions speak of: Notices in this crate alone, Work in the edit above too.
+pub mod Notices
+pub mod Work

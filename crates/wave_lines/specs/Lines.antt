@@ -1,0 +1,39 @@
+-- The waves of a plan as lines (01, "The sheet"): a letter and its banks.
+use mathlib.Core.Bool.{_||_, not}
+use mathlib.Core.List.{List, map}
+use Prim.Native.Nat.{ℕ, _+_}
+use lib.Dec.{eqb}
+use lib.ListN.{length, getD}
+use Rattle.rule.specs.Lists.{upto, filter}
+use Rattle.rule.specs.Graph.{Graph}
+use Rattle.rule.specs.Wave.{wave, waveCount}
+use Rattle.text.specs.Text.{joined}
+
+-- the wave letters: A to Z without I and O
+unfoldable pub letters : List ℕ
+letters = filter (λ x. not (eqb x 73 || eqb x 79)) (map (λ i. 65 + i) (upto 26))
+
+-- a wave's line: its letter and its banks
+pub record Line : Type 0 where
+  pub letter : ℕ
+  pub banks : List ℕ
+
+-- the banks of wave c, ascending
+unfoldable pub banksOf : Graph → ℕ → List ℕ
+banksOf G c = filter (λ b. eqb (wave G b) c) (upto (G .banks))
+
+-- the line of wave c
+abbrev pub lineOf : Graph → ℕ → Line
+lineOf G c = record { letter = getD letters c 0; banks = banksOf G c }
+
+-- a line for each wave from 0
+unfoldable pub linesOf : Graph → List Line
+linesOf G = map (lineOf G) (upto (waveCount G))
+
+-- the banks on the lines, in the order in which they stand there
+unfoldable pub banksShown : Graph → List ℕ
+banksShown G = joined (map (λ (l : Line). l .banks) (linesOf G))
+
+-- how often x stands in the list
+unfoldable pub times : ℕ → List ℕ → ℕ
+times x xs = length (filter (eqb x) xs)

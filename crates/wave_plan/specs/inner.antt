@@ -1,0 +1,3 @@
+-- Inner vocabulary: for functions that no other crate calls.
+pub mod Sources
+pub mod Texts

@@ -1,0 +1,434 @@
+/* Calls every function of wave_plan.h, with input that is accepted and with input that is refused, and holds what it answers and leaves to
+ * what it should be. Each slice is a piece of memory of its own and has the cells that are asked for and no more. */
+#include <stdio.h>
+#include <stdlib.h>
+#include <string.h>
+
+#include "wave_plan.h"
+
+enum { ROW = WAVE_PLAN_ROW_CELLS, COUNT = WAVE_PLAN_COUNT_CELLS, TALLY = WAVE_PLAN_TALLY_CELLS, NUMBERS = 16 };
+
+/* A plan's slices: a caller may lend them shorter than they are, by the numbers of cells. */
+typedef struct {
+    uint16_t *neighbours, *degrees, *waves, *counts, *trail, *moved, *tally, *result;
+    size_t neighbours_cells, degrees_cells, waves_cells, counts_cells, trail_cells, moved_cells, tally_cells, result_cells;
+} Plan;
+
+#define SLICE(p, name) (p).name, (p).name##_cells
+#define PLAN(p) SLICE(p, neighbours), SLICE(p, degrees), SLICE(p, waves), SLICE(p, counts)
+#define LISTS(p) SLICE(p, trail), SLICE(p, moved)
+#define TALLY_OF(p) SLICE(p, tally)
+#define RESULT_OF(p) SLICE(p, result)
+
+static int answers;           /* how many answers of this call were right */
+static int given[NUMBERS];    /* how often each number was given */
+
+static void right(int line, long got, long wanted) {
+    if (got != wanted) {
+        printf("tests/c/every_call.c:%d: %ld, and it should be %ld\n", line, got, wanted);
+        exit(1);
+    }
+    answers++;
+}
+#define IS(got, wanted) right(__LINE__, (long)(got), (long)(wanted))
+
+/* The number that a call gives. */
+static void number(int line, uint16_t got, uint16_t wanted) {
+    right(line, got, wanted);
+    given[wanted]++;
+}
+#define GIVES(wanted, call) number(__LINE__, call, wanted)
+
+static uint16_t *cells(size_t count) {
+    uint16_t *slice = malloc(count ? count * sizeof *slice : 1);
+    if (!slice) exit(2);
+    for (size_t i = 0; i < count; i++) slice[i] = 7;
+    return slice;
+}
+
+/* Memory for n banks, with so many result cells, all of it 7. */
+static Plan memory(size_t n, size_t results) {
+    Plan p = {cells(ROW * n), cells(n), cells(n), cells(COUNT * n), cells(n), cells(n), cells(TALLY), cells(results),
+              ROW * n, n, n, COUNT * n, n, n, TALLY, results};
+    return p;
+}
+
+static void gone(Plan p) {
+    uint16_t *slices[] = {p.neighbours, p.degrees, p.waves, p.counts, p.trail, p.moved, p.tally, p.result};
+    for (size_t i = 0; i < sizeof slices / sizeof *slices; i++) free(slices[i]);
+}
+
+/* A plan of n banks without a clash. */
+static Plan opened(uint16_t n, size_t results) {
+    Plan p = memory(n, results);
+    GIVES(0, wave_plan_open(PLAN(p), TALLY_OF(p), n));
+    return p;
+}
+
+/* The plan of the four banks of the paper: 0-1, 1-2, 2-3, 0-3. */
+static const char four[] = "N 4\n+ 0 1\n+ 1 2\n+ 2 3\n+ 0 3";
+static uint16_t read_list(Plan p, const char *list) {
+    return wave_plan_read_list((const uint8_t *)list, strlen(list), PLAN(p), LISTS(p), TALLY_OF(p), RESULT_OF(p));
+}
+static Plan four_banks(size_t results) {
+    Plan p = memory(4, results);
+    GIVES(0, read_list(p, four));
+    return p;
+}
+
+/* A result slice that is one cell short gets 2, whatever the rest is. */
+#define SHORT_RESULT(p, call) ((p).result_cells--, GIVES(2, call), (p).result_cells++)
+#define SHORT_TALLY(p, call) ((p).tally_cells--, GIVES(2, call), (p).tally_cells++)
+
+static void of_open(void) {
+    Plan p = memory(4, 0);
+    GIVES(1, wave_plan_open(PLAN(p), TALLY_OF(p), WAVE_PLAN_MOST_BANKS + 1));
+    GIVES(2, wave_plan_open(PLAN(p), TALLY_OF(p), 5));
+    SHORT_TALLY(p, wave_plan_open(PLAN(p), TALLY_OF(p), 4));
+    IS(p.neighbours[0], 7);
+    GIVES(0, wave_plan_open(PLAN(p), TALLY_OF(p), 4));
+    IS(p.tally[0], 4);
+    IS(p.tally[1], 0);
+    IS(p.tally[2], 1);
+    for (int i = 0; i < ROW * 4; i++) IS(p.neighbours[i], WAVE_PLAN_UNUSED);
+    for (int i = 0; i < COUNT * 4; i++) IS(p.counts[i], 0);
+    for (int b = 0; b < 4; b++) IS(p.degrees[b] + p.waves[b], 0);
+    GIVES(0, wave_plan_open(PLAN(p), TALLY_OF(p), 0));
+    IS(p.tally[2], 0);
+    gone(p);
+}
+
+#define ADD(a, b) wave_plan_add(PLAN(p), LISTS(p), TALLY_OF(p), RESULT_OF(p), a, b)
+#define STRIKE(a, b) wave_plan_strike(PLAN(p), LISTS(p), TALLY_OF(p), RESULT_OF(p), a, b)
+
+static void of_add(void) {
+    Plan p = opened(4, WAVE_PLAN_EDIT_RESULTS);
+    GIVES(0, ADD(1, 0));
+    IS(p.result[0], 1);
+    IS(p.result[1], 2);
+    IS(p.trail[0], 0);
+    IS(p.trail[1], 1);
+    IS(p.trail[2], 7);
+    IS(p.moved[0], 1);
+    IS(p.moved[1], 7);
+    IS(p.tally[1], 1);
+    GIVES(4, ADD(0, 4));
+    IS(p.result[0] + p.result[1], 0);
+    GIVES(5, ADD(2, 2));
+    GIVES(6, ADD(0, 1));
+    SHORT_RESULT(p, ADD(2, 3));
+    SHORT_TALLY(p, ADD(2, 3));
+    p.trail_cells = 3;
+    GIVES(2, ADD(2, 3));
+    p.trail_cells = 4;
+    p.waves[3] = 9;
+    GIVES(3, ADD(2, 3));
+    p.tally[0] = WAVE_PLAN_MOST_BANKS + 1;
+    GIVES(1, ADD(2, 3));
+    gone(p);
+    p = opened(25, WAVE_PLAN_EDIT_RESULTS);
+    for (uint16_t b = 1; b <= ROW; b++) GIVES(0, ADD(0, b));
+    GIVES(8, ADD(24, 0));
+    IS(p.degrees[0], 23);
+    gone(p);
+}
+
+static void of_strike(void) {
+    Plan p = four_banks(WAVE_PLAN_EDIT_RESULTS);
+    GIVES(0, STRIKE(0, 3));
+    IS(p.result[0], 4);
+    IS(p.result[1], 4);
+    const uint16_t order[] = {1, 2, 0, 3}, waves[] = {1, 0, 1, 0};
+    for (int i = 0; i < 4; i++) {
+        IS(p.trail[i], order[i]);
+        IS(p.moved[i], order[i]);
+        IS(p.waves[i], waves[i]);
+    }
+    GIVES(7, STRIKE(0, 3));
+    IS(p.result[0] + p.result[1], 0);
+    GIVES(4, STRIKE(4, 0));
+    GIVES(5, STRIKE(1, 1));
+    SHORT_RESULT(p, STRIKE(0, 1));
+    SHORT_TALLY(p, STRIKE(0, 1));
+    p.counts[0]++;
+    GIVES(3, STRIKE(0, 1));
+    gone(p);
+}
+
+#define WAVE_OF(b) wave_plan_wave_of(PLAN(p), TALLY_OF(p), RESULT_OF(p), b)
+#define CLASHES_OF(b) wave_plan_clashes_of(PLAN(p), TALLY_OF(p), RESULT_OF(p), b)
+
+static void of_wave_of(void) {
+    Plan p = four_banks(WAVE_PLAN_WAVE_RESULTS);
+    for (uint16_t b = 0; b < 4; b++) {
+        GIVES(0, WAVE_OF(b));
+        IS(p.result[0], b % 2);
+    }
+    GIVES(4, WAVE_OF(4));
+    IS(p.result[0], 0);
+    SHORT_RESULT(p, WAVE_OF(1));
+    SHORT_TALLY(p, WAVE_OF(1));
+    p.tally[1]++;
+    GIVES(3, WAVE_OF(1));
+    gone(p);
+}
+
+static void of_clashes_of(void) {
+    Plan p = four_banks(WAVE_PLAN_CLASHES_RESULTS);
+    GIVES(0, CLASHES_OF(3));
+    IS(p.result[0], 3 * ROW);
+    IS(p.result[1], 2);
+    IS(p.neighbours[p.result[0]], 0);
+    IS(p.neighbours[p.result[0] + 1], 2);
+    GIVES(4, CLASHES_OF(4));
+    IS(p.result[0] + p.result[1], 0);
+    SHORT_RESULT(p, CLASHES_OF(1));
+    SHORT_TALLY(p, CLASHES_OF(1));
+    p.degrees[0]++;
+    GIVES(3, CLASHES_OF(3));
+    gone(p);
+}
+
+static void of_read_list(void) {
+    Plan p = memory(4, WAVE_PLAN_LIST_RESULTS);
+    static const struct {
+        const char *list;
+        uint16_t number, row;
+    } refused[] = {{"", 10, 1},          {"N 1025", 1, 1},      {"N 5", 2, 1},           {"N 4\nx", 11, 2},
+                   {"N 4\n+ 0 4", 4, 2}, {"N 4\n+ 0 0", 5, 2}, {"N 4\n- 0 1\n", 7, 2}, {"N 4\n+ 0 1\n+ 0 1", 6, 3}};
+    for (size_t i = 0; i < sizeof refused / sizeof *refused; i++) {
+        GIVES(refused[i].number, read_list(p, refused[i].list));
+        IS(p.result[0], refused[i].row);
+    }
+    IS(p.tally[1], 1); /* the rows before the one refused */
+    SHORT_RESULT(p, read_list(p, four));
+    SHORT_TALLY(p, read_list(p, four));
+    char *longest = malloc(WAVE_PLAN_MOST_LIST_BYTES + 2);
+    if (!longest) exit(2);
+    memset(longest, '\n', WAVE_PLAN_MOST_LIST_BYTES + 1);
+    longest[WAVE_PLAN_MOST_LIST_BYTES + 1] = 0;
+    GIVES(9, read_list(p, longest));
+    IS(p.result[0], 0);
+    longest[WAVE_PLAN_MOST_LIST_BYTES] = 0;
+    GIVES(10, read_list(p, longest));
+    free(longest);
+    GIVES(0, read_list(p, four));
+    IS(p.result[0], 0);
+    IS(p.tally[1], 4);
+    IS(p.tally[2], 2);
+    gone(p);
+}
+
+#define SHEET(out, length) wave_plan_write_sheet(PLAN(p), TALLY_OF(p), out, length, RESULT_OF(p))
+#define POSTER(out, length) wave_plan_write_poster(PLAN(p), TALLY_OF(p), out, length, RESULT_OF(p))
+
+static void of_write_sheet(void) {
+    Plan p = four_banks(WAVE_PLAN_SHEET_RESULTS);
+    static const char sheet[] = "WAVES 2\nA 0 2\nB 1 3\n";
+    size_t length = strlen(sheet);
+    uint8_t *out = calloc(WAVE_PLAN_MOST_SHEET_BYTES, 1);
+    if (!out) exit(2);
+    GIVES(12, SHEET(out, length - 1));
+    IS(p.result[0], 0);
+    IS(out[0], 0);
+    SHORT_RESULT(p, SHEET(out, length));
+    SHORT_TALLY(p, SHEET(out, length));
+    GIVES(0, SHEET(out, WAVE_PLAN_MOST_SHEET_BYTES));
+    IS(p.result[0], length);
+    IS(memcmp(out, sheet, length), 0);
+    IS(out[length], 0);
+    p.waves[0] = 1;
+    GIVES(3, SHEET(out, length));
+    gone(p);
+    free(out);
+}
+
+static void of_write_poster(void) {
+    Plan p = four_banks(WAVE_PLAN_POSTER_RESULTS);
+    static const char first[] = "A     0    2", second[] = "B     1    3";
+    enum { LINE = 41, PAGE = 50 * LINE };
+    uint8_t *out = calloc(WAVE_PLAN_MOST_POSTER_BYTES, 1);
+    if (!out) exit(2);
+    GIVES(12, POSTER(out, PAGE - 1));
+    IS(p.result[0], 0);
+    IS(out[0], 0);
+    SHORT_RESULT(p, POSTER(out, PAGE));
+    SHORT_TALLY(p, POSTER(out, PAGE));
+    GIVES(0, POSTER(out, WAVE_PLAN_MOST_POSTER_BYTES));
+    IS(p.result[0], PAGE);
+    IS(memcmp(out, first, strlen(first)), 0);
+    IS(memcmp(out + LINE, second, strlen(second)), 0);
+    for (int i = strlen(first); i < LINE - 1; i++) IS(out[i], ' ');
+    IS(out[LINE - 1], '\n');
+    IS(out[PAGE - 2], ' ');
+    IS(out[PAGE], 0);
+    p.waves[0] = 1;
+    GIVES(3, POSTER(out, PAGE));
+    gone(p);
+    free(out);
+}
+
+#define START(journal, length) wave_plan_start_journal(PLAN(p), TALLY_OF(p), journal, length, RESULT_OF(p))
+#define REPLAY(journal, length) wave_plan_replay(journal, length, PLAN(p), LISTS(p), TALLY_OF(p), RESULT_OF(p))
+
+enum { FIRST = WAVE_PLAN_FIRST_BYTES, ENTRY = WAVE_PLAN_ENTRY_BYTES, ALL = FIRST + 4 * ENTRY };
+
+/* The journal of the four banks, lowest pair first, and the first byte of a further add. */
+static const uint8_t journal[ALL + 1] = {
+    WAVE_PLAN_FIRST_TAG, 2, 0, 4, 0,        WAVE_PLAN_ADD_TAG, 4, 0, 0, 0, 1, 0, WAVE_PLAN_ADD_TAG, 4, 0, 0, 0, 3, 0,
+    WAVE_PLAN_ADD_TAG,   4, 0, 1, 0, 2, 0,  WAVE_PLAN_ADD_TAG, 4, 0, 2, 0, 3, 0, WAVE_PLAN_ADD_TAG};
+
+static uint8_t *copy(size_t length) {
+    uint8_t *bytes = calloc(length, 1);
+    if (!bytes) exit(2);
+    memcpy(bytes, journal, length < ALL ? length : ALL);
+    return bytes;
+}
+
+static void of_start_journal(void) {
+    Plan p = four_banks(WAVE_PLAN_START_RESULTS);
+    uint8_t *bytes = calloc(ALL + 1, 1);
+    if (!bytes) exit(2);
+    GIVES(15, START(bytes, ALL - 1));
+    IS(p.result[0], 0);
+    IS(bytes[0], 0);
+    SHORT_RESULT(p, START(bytes, ALL));
+    SHORT_TALLY(p, START(bytes, ALL));
+    GIVES(0, START(bytes, ALL + 1));
+    IS(p.result[0], ALL);
+    IS(memcmp(bytes, journal, ALL), 0);
+    IS(bytes[ALL], 0);
+    p.waves[0] = 1;
+    GIVES(3, START(bytes, ALL));
+    gone(p);
+    free(bytes);
+}
+
+/* A recorded edit: the call is one of two. */
+typedef uint16_t Recorded(uint16_t *, size_t, uint16_t *, size_t, uint16_t *, size_t, uint16_t *, size_t, uint16_t *, size_t, uint16_t *, size_t,
+                          uint16_t *, size_t, uint8_t *, size_t, uint16_t *, size_t, uint16_t, uint16_t, size_t);
+#define RECORD(a, b, size, length) call(PLAN(p), LISTS(p), TALLY_OF(p), bytes, size, RESULT_OF(p), a, b, length)
+
+/* What both recorded calls refuse, on a plan of four banks of which 0 and 2 do not clash, and 0 and 1 do. */
+static void refused_records(Recorded *call, uint16_t a, uint16_t b) {
+    Plan p = four_banks(WAVE_PLAN_RECORD_RESULTS);
+    size_t size = ALL + ENTRY;
+    uint8_t *bytes = copy(size);
+    GIVES(9, RECORD(a, b, size, WAVE_PLAN_MOST_JOURNAL_BYTES + 1));
+    IS(p.result[0] + p.result[1] + p.result[2], 0);
+    GIVES(13, RECORD(a, b, size, size + 1));
+    GIVES(13, RECORD(a, b, size, FIRST - 1));
+    GIVES(14, RECORD(a, b, size, ALL - 1));
+    GIVES(4, RECORD(a, 4, size, ALL));
+    GIVES(5, RECORD(a, a, size, ALL));
+    GIVES(15, RECORD(a, b, size - 1, ALL));
+    SHORT_RESULT(p, RECORD(a, b, size, ALL));
+    SHORT_TALLY(p, RECORD(a, b, size, ALL));
+    bytes[FIRST] = 'x';
+    GIVES(14, RECORD(a, b, size, ALL));
+    p.counts[0]++;
+    GIVES(3, RECORD(a, b, size, ALL));
+    gone(p);
+    free(bytes);
+}
+
+/* The field after the last one: its tag and its banks. */
+static void entry(const uint8_t *bytes, uint8_t tag, uint8_t a, uint8_t b) {
+    const uint8_t wanted[ENTRY] = {tag, 4, 0, a, 0, b, 0};
+    IS(memcmp(bytes + ALL, wanted, ENTRY), 0);
+}
+
+static void of_add_recorded(void) {
+    Recorded *call = wave_plan_add_recorded;
+    refused_records(call, 2, 0);
+    Plan p = four_banks(WAVE_PLAN_RECORD_RESULTS);
+    size_t size = ALL + ENTRY;
+    uint8_t *bytes = copy(size);
+    GIVES(6, wave_plan_add_recorded(PLAN(p), LISTS(p), TALLY_OF(p), bytes, size, RESULT_OF(p), 0, 1, ALL));
+    GIVES(0, RECORD(2, 0, size, ALL));
+    IS(p.result[0], 3);
+    IS(p.result[1], 4);
+    IS(p.result[2], size);
+    entry(bytes, WAVE_PLAN_ADD_TAG, 2, 0);
+    gone(p);
+    free(bytes);
+}
+
+static void of_strike_recorded(void) {
+    Recorded *call = wave_plan_strike_recorded;
+    refused_records(call, 3, 0);
+    Plan p = four_banks(WAVE_PLAN_RECORD_RESULTS);
+    size_t size = ALL + ENTRY;
+    uint8_t *bytes = copy(size);
+    GIVES(7, wave_plan_strike_recorded(PLAN(p), LISTS(p), TALLY_OF(p), bytes, size, RESULT_OF(p), 0, 2, ALL));
+    GIVES(0, RECORD(3, 0, size, ALL));
+    IS(p.result[0], 4);
+    IS(p.result[1], 4);
+    IS(p.result[2], size);
+    entry(bytes, WAVE_PLAN_STRIKE_TAG, 3, 0);
+    gone(p);
+    free(bytes);
+}
+
+static void of_replay(void) {
+    Plan p = memory(4, WAVE_PLAN_REPLAY_RESULTS);
+    GIVES(0, REPLAY(journal, ALL));
+    IS(p.result[0] + p.result[1], 0);
+    IS(p.tally[1], 4);
+    for (int b = 0; b < 4; b++) IS(p.waves[b], b % 2);
+    GIVES(0, REPLAY(journal, ALL + 1));
+    IS(p.result[1], 1);
+    GIVES(0, REPLAY(journal, ALL - 1));
+    IS(p.result[0], 0);
+    IS(p.result[1], ENTRY - 1);
+    IS(p.tally[1], 3);
+    GIVES(13, REPLAY(journal, FIRST - 1));
+    IS(p.result[0], 1);
+    uint8_t *bytes = copy(ALL);
+    bytes[FIRST + 2 * ENTRY] = WAVE_PLAN_FIRST_TAG;
+    GIVES(14, REPLAY(bytes, ALL));
+    IS(p.result[0], 4);
+    IS(p.result[1], 0);
+    IS(p.tally[1], 2); /* the fields before the one refused */
+    bytes[FIRST + ENTRY] = WAVE_PLAN_STRIKE_TAG;
+    GIVES(7, REPLAY(bytes, ALL));
+    IS(p.result[0], 3);
+    bytes[3] = 5;
+    GIVES(2, REPLAY(bytes, ALL));
+    IS(p.result[0], 1);
+    SHORT_RESULT(p, REPLAY(journal, ALL));
+    SHORT_TALLY(p, REPLAY(journal, ALL));
+    free(bytes);
+    bytes = calloc(WAVE_PLAN_MOST_JOURNAL_BYTES + 1, 1);
+    if (!bytes) exit(2);
+    GIVES(9, REPLAY(bytes, WAVE_PLAN_MOST_JOURNAL_BYTES + 1));
+    IS(p.result[0] + p.result[1], 0);
+    GIVES(13, REPLAY(bytes, WAVE_PLAN_MOST_JOURNAL_BYTES));
+    free(bytes);
+    gone(p);
+}
+
+int main(void) {
+    static const struct {
+        const char *name;
+        void (*test)(void);
+    } calls[] = {{"wave_plan_open", of_open},
+                 {"wave_plan_add", of_add},
+                 {"wave_plan_strike", of_strike},
+                 {"wave_plan_wave_of", of_wave_of},
+                 {"wave_plan_clashes_of", of_clashes_of},
+                 {"wave_plan_read_list", of_read_list},
+                 {"wave_plan_write_sheet", of_write_sheet},
+                 {"wave_plan_write_poster", of_write_poster},
+                 {"wave_plan_start_journal", of_start_journal},
+                 {"wave_plan_add_recorded", of_add_recorded},
+                 {"wave_plan_strike_recorded", of_strike_recorded},
+                 {"wave_plan_replay", of_replay}};
+    for (size_t i = 0; i < sizeof calls / sizeof *calls; i++) {
+        answers = 0;
+        calls[i].test();
+        printf("%s: %d answers are right\n", calls[i].name, answers);
+    }
+    for (int i = 0; i < NUMBERS; i++) IS(given[i] > 0, 1); /* each number was given */
+    return 0;
+}
