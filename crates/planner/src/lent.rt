@@ -23,9 +23,9 @@ pub fn open(
         ≡ opened banks (slicesBefore neighbours degrees waves counts) (now (tally .entry)) ⌝ }
 {
     let t = *tally;
-    let r = open_core(neighbours, degrees, waves, counts, banks, t);
-    *tally = r.tally;
-    r.number
+    let opened = open_core(neighbours, degrees, waves, counts, banks, t);
+    *tally = opened.tally;
+    opened.number
 }
 
 // Adds the clash of a and b to the plan in memory, or changes nothing and answers the number of the first no with counts 0.
@@ -44,9 +44,9 @@ pub fn add(
         ≡ edit Adding (a .0) (b .0) (before neighbours degrees waves counts trail moved (now (tally .entry))) ⌝ }
 {
     let t = *tally;
-    let r = add_core(neighbours, degrees, waves, counts, trail, moved, t, a, b);
-    *tally = r.tally;
-    r.answer
+    let added = add_core(neighbours, degrees, waves, counts, trail, moved, t, a, b);
+    *tally = added.tally;
+    added.answer
 }
 
 // Strikes the clash of a and b from the plan in memory, or changes nothing and answers the number of the first no with counts 0.
@@ -65,7 +65,7 @@ pub fn strike(
         ≡ edit Striking (a .0) (b .0) (before neighbours degrees waves counts trail moved (now (tally .entry))) ⌝ }
 {
     let t = *tally;
-    let r = strike_core(neighbours, degrees, waves, counts, trail, moved, t, a, b);
-    *tally = r.tally;
-    r.answer
+    let struck = strike_core(neighbours, degrees, waves, counts, trail, moved, t, a, b);
+    *tally = struck.tally;
+    struck.answer
 }
