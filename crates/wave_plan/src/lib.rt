@@ -1,5 +1,4 @@
-// The C library: each call of the planner, the list reader, the sheet writer, the poster writer and the journal on numbers and slices. It decides
-// nothing itself but that a tally slice or a result slice that is too short gets 2 with nothing changed.
+// The C library: the names and parameters of each call, as `include/wave_plan.h` declares them. What a call does is in `c_calls`.
 mod editing;
 mod plan;
 mod recording;

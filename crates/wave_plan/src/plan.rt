@@ -1,22 +1,10 @@
 // Opening a plan, and reading one bank of it.
-use c_cells::put_front;
-use c_cells::put_tally;
-use c_cells::room;
-use c_cells::tally_in;
-use planner::clashes_of;
-use planner::open_core;
-use planner::wave_of;
-use rule::Bank;
-use rule::ROW_CELLS;
-use rule::wide;
+use c_calls::clashes_of_in;
+use c_calls::open_in;
+use c_calls::wave_of_in;
 ghost use mathlib.Core.Path.{_≡_};
-ghost use Prim.Native.Nat.{_<_};
 ghost use Rattle.memory.specs.Lent.{slicesBefore, slicesAfter};
-ghost use Rattle.wave_plan.specs.Calls.{openAnswered, openCall, bankAnswered, waveCall, rowStart, clashesCall};
-
-const WAVE_RESULTS: usize = 1;
-
-const CLASHES_RESULTS: usize = 2;
+ghost use Rattle.c_calls.specs.Calls.{openAnswered, openCall, bankAnswered, waveCall, clashesCall};
 
 // Opens a plan of `banks` banks with no clash.
 #[no_mangle]
@@ -31,14 +19,7 @@ pub extern "C" fn wave_plan_open(
     ensures { λ r. ⌜ openAnswered r (slicesAfter neighbours degrees waves counts) (now (tally .exit))
         ≡ openCall banks (slicesBefore neighbours degrees waves counts) (now (tally .entry)) ⌝ }
 {
-    let short = room(tally.len(), 0, 0);
-    if short != 0 {
-        return short;
-    }
-    let t = tally_in(tally);
-    let r = open_core(neighbours, degrees, waves, counts, banks, t);
-    put_tally(tally, r.tally);
-    r.number
+    open_in(neighbours, degrees, waves, counts, tally, banks)
 }
 
 // The wave of bank b: the result.
@@ -55,25 +36,7 @@ pub extern "C" fn wave_plan_wave_of(
     ensures { λ r. ⌜ bankAnswered r (now (result .exit))
         ≡ waveCall b (slicesBefore neighbours degrees waves counts) (now (tally .entry)) (now (result .entry)) ⌝ }
 {
-    let short = room(tally.len(), result.len(), WAVE_RESULTS);
-    if short != 0 {
-        return short;
-    }
-    let t = tally_in(tally);
-    let r = wave_of(neighbours, degrees, waves, counts, t, Bank(b));
-    put_front(result, &[r.wave.0]);
-    r.number
-}
-
-// Where the row of bank b starts, or 0 where there is a number.
-fn row_start(number: u16, b: u16) -> u16
-    requires { ⌜ (number ≡ 0 → b < 1024) ⌝ }
-    ensures { λ r. ⌜ r ≡ rowStart number b ⌝ }
-{
-    if number != 0 {
-        return 0;
-    }
-    (ROW_CELLS * wide(b)) as u16
+    wave_of_in(neighbours, degrees, waves, counts, tally, result, b)
 }
 
 // The clashes of bank b: the results are the cell of `neighbours` where they start, and how many they are. The number is that of
@@ -91,14 +54,5 @@ pub extern "C" fn wave_plan_clashes_of(
     ensures { λ r. ⌜ bankAnswered r (now (result .exit))
         ≡ clashesCall b (slicesBefore neighbours degrees waves counts) (now (tally .entry)) (now (result .entry)) ⌝ }
 {
-    let short = room(tally.len(), result.len(), CLASHES_RESULTS);
-    if short != 0 {
-        return short;
-    }
-    let t = tally_in(tally);
-    let r = wave_of(neighbours, degrees, waves, counts, t, Bank(b));
-    let part = clashes_of(neighbours, degrees, waves, counts, t, Bank(b));
-    let start = row_start(r.number, b);
-    put_front(result, &[start, part.len() as u16]);
-    r.number
+    clashes_of_in(neighbours, degrees, waves, counts, tally, result, b)
 }

@@ -1,0 +1,67 @@
+-- What follows from the contracts of this crate, each restated in full.
+-- 1. a refused edit, recorded or not, changes no slice but the front cells of the result, which are 0; a refused opening changes nothing
+-- 2. the part that clashes_of_in names holds the clashes of the bank: the filled part of its row
+-- 3. the length of a sheet and that of a poster fit the result cell
+use mathlib.Core.List.{List, [], _∷_}
+use mathlib.Core.Path.{_≡_, refl, sym, ap, _∙_}
+use Prim.Native.Nat.{ℕ, _*_, _≤_}
+use lib.ListN.{length, take, drop}
+use Rattle.memory.specs.declared.Tally.{Tally}
+use Rattle.memory.specs.Cells.{over}
+use Rattle.memory.specs.Plan.{Slices}
+use Rattle.planner.specs.Calls.{openResult, refused, bankNumber, clashesOf}
+use Rattle.wave_lines.proofs.Writing.{written-most}
+use Rattle.sheet_writer.specs.Sheet.{sheet}
+use Rattle.sheet_writer.specs.Calls.{writeSheet}
+use Rattle.journal.specs.Calls.{recordResult, noRecord}
+use Rattle.sheet_writer.proofs.Theorems.{sheet-fits}
+use Rattle.poster_writer.specs.Poster.{poster}
+use Rattle.poster_writer.specs.Calls.{writePoster}
+use Rattle.poster_writer.proofs.Theorems.{poster-fits}
+use Rattle.c_cells.specs.CellMemory.{tallySize, tallyIn, CellMemory, cellsOf, memoryIn, leaving, answered, done, editOutcome}
+use Rattle.c_cells.proofs.Fronts.{tally-again}
+use Rattle.c_cells.proofs.Rooms.{none-short, roomed-none}
+use Rattle.c_calls.specs.Calls.{openAnswered, openDone, BankAnswered, bankAnswered, clashesDone, clashesCall, partNamed}
+use Rattle.c_calls.specs.Journals.{recordAnswered, recordDone}
+use Rattle.c_calls.proofs.Answers as Answers
+
+module _ (l : CellMemory) (long : tallySize ≤ length (l .tally)) where
+  leaves-all : (results : List ℕ)
+      → leaving (memoryIn l) results l ≡ cellsOf (l .slices) (l .trail) (l .moved) (l .tally) (over results (l .result))
+  unfolding memoryIn leaving
+  leaves-all results =
+      ap (λ (t : List ℕ). cellsOf (l .slices) (l .trail) (l .moved) t (over results (l .result))) (tally-again (l .tally) long)
+
+  pub refused-edit : (c : ℕ)
+      → done (editOutcome (refused c (memoryIn l))) l
+      ≡ answered c (cellsOf (l .slices) (l .trail) (l .moved) (l .tally) (over (0 ∷ 0 ∷ []) (l .result)))
+  unfolding done refused
+  refused-edit c = ap (answered c) (leaves-all (0 ∷ 0 ∷ []))
+
+  pub refused-record : (c : ℕ) (journal : List ℕ)
+      → recordDone (recordResult (noRecord c) (memoryIn l) journal) l
+      ≡ recordAnswered c (cellsOf (l .slices) (l .trail) (l .moved) (l .tally) (over (0 ∷ 0 ∷ 0 ∷ []) (l .result))) journal
+  unfolding recordDone
+  refused-record c journal = ap (λ (x : CellMemory). recordAnswered c x journal) (leaves-all (0 ∷ 0 ∷ 0 ∷ []))
+
+pub refused-open : (s : Slices) (tally : List ℕ) → tallySize ≤ length tally → (c : ℕ)
+    → openDone (openResult c s (tallyIn tally)) tally ≡ openAnswered c s tally
+unfolding openDone
+refused-open s tally long c = ap (openAnswered c s) (tally-again tally long)
+
+pub clashes-named : (b : ℕ) (s : Slices) (tally result : List ℕ) → tallySize ≤ length tally → 2 ≤ length result
+    → partNamed (clashesCall b s tally result .result) (s .neighbours) ≡ clashesOf b s (tallyIn tally)
+unfolding clashesCall clashesDone partNamed over
+clashes-named b s tally result long fits =
+    let call = roomed-none 2 (length tally) (length result) 0 (none-short 2 (length tally) (length result) long fits) (λ c. bankAnswered c result) _ refl in
+    ap (λ (x : BankAnswered). partNamed (x .result) (s .neighbours)) (sym call) ∙ Answers.part-at b s (tallyIn tally) _ refl
+
+pub row-part : (b : ℕ) (s : Slices) (t : Tally) → bankNumber b s t ≡ 0
+    → take (length (clashesOf b s t)) (drop (23 * b) (s .neighbours)) ≡ clashesOf b s t
+row-part = Answers.row-part
+
+pub sheet-short : (s : Slices) (t : Tally) (out : List ℕ) → writeSheet s t out .answer .length ≤ 4067
+sheet-short s t out = written-most sheet s t out 4067 sheet-fits
+
+pub poster-short : (s : Slices) (t : Tally) (out : List ℕ) → writePoster s t out .answer .length ≤ 8200
+poster-short s t out = written-most poster s t out 8200 poster-fits

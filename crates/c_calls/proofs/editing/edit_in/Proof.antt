@@ -1,0 +1,82 @@
+-- `edit_in` meets its contract: the core's edit on the lent cells.
+use borrow.Author.Needs.{needs}
+use mathlib.Core.Path.{ap}
+use native.Mathlib.Omega.{arith}
+use Rattle.c_cells.specs.CellMemory.{editOutcome}
+use Rattle.c_cells.proofs.Calls.{refused, called}
+use Rattle.c_calls.specs.Calls.{editCall}
+use Rattle.c_calls.proofs.editing.edit_in.Statement.{statement}
+use Rattle.c_calls.proofs.editing.edit_in.Tie as tie
+
+room-requires : tie.Need-room-requires
+room-requires c κs = search needs
+
+returns : tie.Need-returns
+unfolding editCall
+returns c = refused _ 2 _ _ (c .before .room .ensures .0) (c .if1 .taken)
+
+tally-in-requires : tie.Need-tally-in-requires
+tally-in-requires c κs = search needs
+
+edit-core-requires : tie.Need-edit-core-requires
+edit-core-requires c κs = search needs
+
+slice-aggregate-put-answer : tie.Need-slice-aggregate-put-answer
+slice-aggregate-put-answer c = search needs
+
+put-answer-requires : tie.Need-put-answer-requires
+put-answer-requires c κs = omega (arith, c .before .before .before .before .before .before .before .before .before .before .before .before .before .before .before .before)
+
+same-length : tie.Need-same-length
+same-length c = search needs
+
+same-length-2 : tie.Need-same-length-2
+same-length-2 c = search needs
+
+same-length-3 : tie.Need-same-length-3
+same-length-3 c = search needs
+
+same-length-4 : tie.Need-same-length-4
+same-length-4 c = search needs
+
+same-length-5 : tie.Need-same-length-5
+same-length-5 c = search needs
+
+same-length-6 : tie.Need-same-length-6
+same-length-6 c = search needs
+
+same-length-7 : tie.Need-same-length-7
+same-length-7 c = search needs
+
+same-length-8 : tie.Need-same-length-8
+same-length-8 c = search needs
+
+returns-2 : tie.Need-returns-2
+unfolding editCall
+returns-2 c =
+    let put = c .before .before .before .before in
+    let core = put .before .before .before .before .before .before .before .before .before .before .before .before .before .before .before .before in
+    let read = core .before .before .before .before .before .before .before in
+    let test = read .before .before in
+    called _ 2 _ _ (test .before .room .ensures .0) _ _ _ _ (test .if1 .left) (read .tally-in .ensures) (ap editOutcome (core .edit-core .ensures))
+    (put .put-answer .ensures .0) (put .put-answer .ensures .1)
+
+pub edit-in-spec : {M : Type 1} → statement M
+edit-in-spec =
+    tie.close
+    (tie.spec
+    room-requires
+    returns
+    tally-in-requires
+    edit-core-requires
+    slice-aggregate-put-answer
+    put-answer-requires
+    same-length
+    same-length-2
+    same-length-3
+    same-length-4
+    same-length-5
+    same-length-6
+    same-length-7
+    same-length-8
+    returns-2)

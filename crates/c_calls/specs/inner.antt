@@ -1,0 +1,2 @@
+-- Inner vocabulary: for functions that no other crate calls.
+pub mod Sources
