@@ -1,0 +1,136 @@
+-- Kept plans: what a place holds after a keeping, and what comes back from it.
+use mathlib.Core.Bool.{Bool, true, false, _&&_}
+use mathlib.Core.List.{List, [], _∷_, _++_, append-nil, append-assoc}
+use mathlib.Core.Path.{_≡_, refl, sym, ap, _∙_}
+use Prim.Native.Nat.{ℕ, zero, suc, _+_, _*_, _≤_, _<_}
+use native.Mathlib.Nat.{add-zero}
+use native.Mathlib.Omega.{arith}
+use lib.Dec.{T, eqb, eqb-refl}
+use lib.ListN.{length, getD, take, drop, length-append, length-take}
+use lib.Seq.{take-all, take-append-seam, drop-length, drop-drop}
+use Rattle.rule.specs.Graph.{Graph}
+use Rattle.rule.specs.Wave.{waves}
+use Rattle.rule.proofs.Booleans.{is-true}
+use Rattle.memory.specs.declared.Tally.{Tally}
+use Rattle.memory.specs.Cells.{over}
+use Rattle.memory.specs.Plan.{Slices, slicesOf, longEnough, neighbourCells, degreeCells, countCells, planIn, graphIn, holds, PlanOf}
+use Rattle.memory.specs.inner.View.{Long}
+use Rattle.memory.proofs.Views.{tally-banks}
+use Rattle.memory.proofs.Theorems.{long, long-enough, plan-holds, holds-plan, length-neighbourCells, length-degreeCells, length-waves, length-countCells}
+use Rattle.checkpoints.specs.Shelf.{placeSize, part, place, used, slicesIn, tallyIn, holdsIn, placeRight, placeCells}
+use Rattle.checkpoints.specs.Calls.{overAll}
+use Rattle.checkpoints.proofs.Putting.{skip, skip-cell, first}
+use Rattle.checkpoints.proofs.Places.{right-used, holds-here}
+use Rattle.checkpoints.proofs.Calls as cells
+
+-- the plan cells of n banks at the fronts of the slices, as slices
+abbrev pub fronts : ℕ → Slices → Slices
+fronts n s = slicesOf (take (23 * n) (s .neighbours)) (take n (s .degrees)) (take n (s .waves)) (take (24 * n) (s .counts))
+
+-- the cells of a place in which a plan is kept
+module _ (s : Slices) (t : Tally) (l : Long (t .banks) s) where
+  abbrev n : ℕ
+  n = t .banks
+
+  pub kept-cell : getD (placeCells s t) 0 0 ≡ 1
+  unfolding placeCells
+  kept-cell = refl
+
+  -- from a place in it on
+  past-rows : (m : ℕ) → drop (1 + 23 * n + m) (placeCells s t) ≡ drop m (cells.from-degrees s t l)
+  unfolding placeCells
+  past-rows m =
+      skip (1 ∷ []) (cells.from-rows s t l) (1 + 23 * n + m) (23 * n + m) (omega arith)
+      ∙ skip (cells.rows s t l) (cells.from-degrees s t l) (23 * n + m) m (omega (arith, cells.length-rows s t l))
+
+  past-degrees : (m : ℕ) → drop (1 + 24 * n + m) (placeCells s t) ≡ drop m (cells.from-waves s t l)
+  past-degrees m =
+      let e : 1 + 24 * n + m ≡ 1 + 23 * n + (n + m) = omega arith in
+      rw e (past-rows (n + m)) ∙ skip (cells.degrees s t l) (cells.from-waves s t l) (n + m) m (omega (arith, cells.length-degrees s t l))
+
+  past-waves : (m : ℕ) → drop (1 + 25 * n + m) (placeCells s t) ≡ drop m (cells.from-counts s t l)
+  past-waves m =
+      let e : 1 + 25 * n + m ≡ 1 + 24 * n + (n + m) = omega arith in
+      rw e (past-degrees (n + m)) ∙ skip (cells.waves s t l) (cells.from-counts s t l) (n + m) m (omega (arith, cells.length-waves s t l))
+
+  part-rows : part 1 (23 * n) (placeCells s t) ≡ cells.rows s t l
+  unfolding placeCells
+  part-rows = first (cells.rows s t l) (cells.from-degrees s t l) (23 * n) (cells.length-rows s t l)
+
+  part-degrees : part (1 + 23 * n) n (placeCells s t) ≡ cells.degrees s t l
+  part-degrees = ap (take n) (rw (add-zero (1 + 23 * n)) at (past-rows 0)) ∙ first (cells.degrees s t l) (cells.from-waves s t l) n (cells.length-degrees s t l)
+
+  part-waves : part (1 + 24 * n) n (placeCells s t) ≡ cells.waves s t l
+  part-waves = ap (take n) (rw (add-zero (1 + 24 * n)) at (past-degrees 0)) ∙ first (cells.waves s t l) (cells.from-counts s t l) n (cells.length-waves s t l)
+
+  part-counts : part (1 + 25 * n) (24 * n) (placeCells s t) ≡ cells.counts s t l
+  part-counts =
+      ap (take (24 * n)) (rw (add-zero (1 + 25 * n)) at (past-waves 0))
+      ∙ first (cells.counts s t l) (cells.tally s t l) (24 * n) (cells.length-counts s t l)
+
+  pub kept-slices : slicesIn n (placeCells s t) ≡ fronts n s
+  unfolding slicesIn
+  kept-slices = rw (part-rows, part-degrees, part-waves, part-counts) refl
+
+  -- a cell of the tally
+  tally-cell : (j : ℕ) → getD (placeCells s t) (49 * n + (j + 1)) 0 ≡ getD (cells.tally s t l) j 0
+  unfolding placeCells
+  tally-cell j =
+      skip-cell (1 ∷ []) (cells.from-rows s t l) (49 * n + (j + 1)) (49 * n + j) (omega arith)
+      ∙ skip-cell (cells.rows s t l) (cells.from-degrees s t l) (49 * n + j) (26 * n + j) (omega (arith, cells.length-rows s t l))
+      ∙ skip-cell (cells.degrees s t l) (cells.from-waves s t l) (26 * n + j) (25 * n + j) (omega (arith, cells.length-degrees s t l))
+      ∙ skip-cell (cells.waves s t l) (cells.from-counts s t l) (25 * n + j) (24 * n + j) (omega (arith, cells.length-waves s t l))
+      ∙ skip-cell (cells.counts s t l) (cells.tally s t l) (24 * n + j) j (omega (arith, cells.length-counts s t l))
+
+  pub kept-tally : tallyIn n (placeCells s t) ≡ t
+  unfolding tallyIn
+  kept-tally = rw (tally-cell 0, tally-cell 1, tally-cell 2) refl
+
+-- a slice that starts with these cells
+front-is : (front xs : List ℕ) (k : ℕ) → length front ≡ k → over front xs ≡ xs → take k xs ≡ front
+unfolding over
+front-is front xs k e h = ap (take k) (sym h) ∙ first front (drop (length front) xs) k e
+
+over-itself : (front : List ℕ) → over front front ≡ front
+unfolding over
+over-itself front = rw (drop-length front) (append-nil front)
+
+-- the plan of G, and nothing beyond
+abbrev pub exactly : Graph → Slices
+exactly G = slicesOf (neighbourCells G) (degreeCells G) (waves G) (countCells G)
+
+module _ (G : Graph) (s : Slices) (t : Tally) (p : PlanOf G s t) where
+  banks-are : G .banks ≡ t .banks
+  banks-are = sym (tally-banks t G (p .tally))
+
+  pub fronts-exactly : fronts (t .banks) s ≡ exactly G
+  unfolding planIn
+  fronts-exactly =
+      let e = banks-are in
+      rw (
+        front-is (neighbourCells G) (s .neighbours) (23 * t .banks) (omega (arith, length-neighbourCells G)) (ap (λ (x : Slices). x .neighbours) (p .cells)),
+        front-is (degreeCells G) (s .degrees) (t .banks) (omega (arith, length-degreeCells G)) (ap (λ (x : Slices). x .degrees) (p .cells)),
+        front-is (waves G) (s .waves) (t .banks) (omega (arith, length-waves G)) (ap (λ (x : Slices). x .waves) (p .cells)),
+        front-is (countCells G) (s .counts) (24 * t .banks) (omega (arith, length-countCells G)) (ap (λ (x : Slices). x .counts) (p .cells)),
+      ) refl
+
+  -- the plan without what lies beyond it is a plan
+  pub exactly-plan : PlanOf G (exactly G) t
+  unfolding planIn
+  exactly-plan = record {
+    clashes = p .clashes;
+    long =
+        long-enough (G .banks) (exactly G) (record {
+          neighbours = omega (arith, length-neighbourCells G);
+          degrees = omega (arith, length-degreeCells G);
+          waves = omega (arith, length-waves G);
+          counts = omega (arith, length-countCells G);
+        });
+    cells = rw (over-itself (neighbourCells G), over-itself (degreeCells G), over-itself (waves G), over-itself (countCells G)) refl;
+    tally = p .tally;
+  }
+
+  -- put over other slices it is the plan in them
+  pub over-exactly : (s′ : Slices) → overAll (exactly G) s′ ≡ planIn G s′
+  unfolding overAll planIn
+  over-exactly s′ = refl

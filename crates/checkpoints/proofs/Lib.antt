@@ -1,0 +1,10 @@
+-- The laws of kept states, each on those before it, and what others may cite: Theorems.
+pub mod Bytes
+pub mod Putting
+pub mod Listing
+pub mod Places
+pub mod Numbers
+pub mod Calls
+pub mod Kept
+pub mod Shelves
+pub mod Returns

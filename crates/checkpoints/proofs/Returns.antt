@@ -1,0 +1,137 @@
+-- Coming back to what was kept, whatever keepings under other names lie between.
+use mathlib.Core.Bool.{Bool, true, false, cond, _&&_}
+use mathlib.Core.List.{List, [], _∷_, _++_}
+use mathlib.Core.Path.{_≡_, refl, sym, ap, _∙_, subst}
+use Prim.Native.Nat.{ℕ, zero, suc, _+_, _*_, _≤_, _<_}
+use native.Mathlib.Omega.{arith}
+use native.Mathlib.Decide.{ℕ-discrete}
+use borrow.Author.Tests.{le-leb, leb-true, lt-ltb, eq-eqb}
+use lib.Dec.{T, leb, ltb, eqb, ltb→lt}
+use lib.ListN.{length, getD, take, drop}
+use Rattle.rule.specs.Graph.{Graph}
+use Rattle.rule.proofs.Booleans.{is-true, both-true, T-along}
+use Rattle.memory.specs.declared.Tally.{Tally}
+use Rattle.memory.specs.Cells.{over}
+use Rattle.memory.specs.Plan.{Slices, longEnough, planIn, graphIn, holds, PlanOf}
+use Rattle.memory.proofs.Theorems.{long, plan-holds, holds-plan}
+use Rattle.planner.specs.Questions.{Question, firstNo}
+use Rattle.planner.proofs.Numbers.{none}
+use Rattle.text.specs.Places.{put}
+use Rattle.checkpoints.specs.Names.{placeOf, known}
+use Rattle.checkpoints.specs.Shelf.{placeSize, place, used, slicesIn, tallyIn, placeRight, shelfRight, placeCells}
+use Rattle.checkpoints.specs.Calls.{shelfLong, keepNumber, backNumber, shelfResult, keptUnder, keepBy, keep, backResult, differing, overAll, cameBack, backBy, comeBack}
+use Rattle.checkpoints.specs.Between.{Keeping, afterKeepings, Others}
+use Rattle.checkpoints.proofs.Calls.{length-placeCells}
+use Rattle.checkpoints.proofs.Shelves.{length-after, place-here, place-other, kept-right, all-right, each-right}
+
+-- what the number 0 of a keeping says
+pub record Keepable (s : Slices) (t : Tally) (name shelf : List ℕ) : Type 0 where
+  pub few : t .banks ≤ 1024
+  pub long : longEnough (t .banks) s ≡ true
+  pub room : 3 * placeSize (t .banks) ≤ length shelf
+  pub plan : PlanOf (graphIn (t .banks) s) s t
+  pub right : shelfRight (t .banks) shelf ≡ true
+  pub near : placeOf name < 3
+
+module _ (s : Slices) (t : Tally) (name shelf : List ℕ) where
+  abbrev n : ℕ
+  n = t .banks
+
+  pub keepable : keepNumber s t name shelf ≡ 0 → Keepable s t name shelf
+  unfolding keepNumber shelfLong known
+  keepable e =
+      let first = none (leb n 1024) 0 _ e in
+      let second = none (longEnough n s && leb (3 * placeSize n) (length shelf)) 1 _ (first .1) in
+      let third = none (holds s t && shelfRight n shelf) 2 _ (second .1) in
+      let fourth = none (ltb (placeOf name) 3) 15 _ (third .1) in
+      let few = leb-true n 1024 (first .0) in
+      let rooms = both-true (longEnough n s) (leb (3 * placeSize n) (length shelf)) (second .0) in
+      let plans = both-true (holds s t) (shelfRight n shelf) (third .0) in
+      record {
+        few = few;
+        long = rooms .0;
+        room = leb-true (3 * placeSize n) (length shelf) (rooms .1);
+        plan = holds-plan s t few (T-along (sym (plans .0)) tt);
+        right = plans .1;
+        near = ltb→lt (placeOf name) 3 (T-along (sym (fourth .0)) tt);
+      }
+
+  -- an accepted keeping
+  module _ (z : keepNumber s t name shelf ≡ 0) where
+    abbrev can : Keepable s t name shelf
+    can = keepable z
+
+    pub kept-shelf : keep name s t shelf .shelf ≡ put (placeCells s t) (placeOf name * placeSize n) shelf
+    unfolding keep keepBy keptUnder
+    kept-shelf = rw z refl
+
+    size : length (placeCells s t) ≡ placeSize n
+    size = length-placeCells s t (long n s (can .long))
+
+    pub kept-length : length (keep name s t shelf .shelf) ≡ length shelf
+    kept-length = rw kept-shelf (length-after n (placeOf name) (can .near) (placeCells s t) shelf size (can .room))
+
+    pub kept-here : place n (placeOf name) (keep name s t shelf .shelf) ≡ placeCells s t
+    kept-here = rw kept-shelf (place-here n (placeOf name) (can .near) (placeCells s t) shelf size (can .room))
+
+    pub kept-other : (j : ℕ) → j < 3 → (j ≡ placeOf name → ⊥) → place n j (keep name s t shelf .shelf) ≡ place n j shelf
+    kept-other j h d = rw kept-shelf (place-other n (placeOf name) (can .near) (placeCells s t) shelf size (can .room) j h d)
+
+    -- question 5 of the shelf is answered by yes again
+    pub kept-shelf-right : shelfRight n (keep name s t shelf .shelf) ≡ true
+    kept-shelf-right = all-right n (keep name s t shelf .shelf) each
+      where
+        each : (i : ℕ) → i < 3 → placeRight n (place n i (keep name s t shelf .shelf)) ≡ true
+        each i h = go (ℕ-discrete i (placeOf name))
+          where
+            go : Dec (i ≡ placeOf name) → placeRight n (place n i (keep name s t shelf .shelf)) ≡ true
+            go (yes e) = rw (e, kept-here) (kept-right (graphIn n s) s t (can .plan))
+            go (no d) = rw (kept-other i h d) (each-right n shelf (can .right) i h)
+
+  -- a refused one
+  pub keep-unchanged : (keepNumber s t name shelf ≡ 0 → ⊥) → keep name s t shelf .shelf ≡ shelf
+  unfolding keep keepBy
+  keep-unchanged d = go (keepNumber s t name shelf) d
+    where
+      go : (c : ℕ) → (c ≡ 0 → ⊥) → keepBy c name s t shelf .shelf ≡ shelf
+      go zero d = absurd (d refl)
+      go (suc c) d = refl
+
+-- a shelf on which the plan in s and t is kept under the name
+pub record KeptOn (name : List ℕ) (s : Slices) (t : Tally) (shelf : List ℕ) : Type 0 where
+  pub room : 3 * placeSize (t .banks) ≤ length shelf
+  pub right : shelfRight (t .banks) shelf ≡ true
+  pub here : place (t .banks) (placeOf name) shelf ≡ placeCells s t
+
+pub kept-on : (name : List ℕ) (s : Slices) (t : Tally) (shelf : List ℕ) → keepNumber s t name shelf ≡ 0 → KeptOn name s t (keep name s t shelf .shelf)
+kept-on name s t shelf z = record {
+  room = omega (arith, kept-length s t name shelf z, keepable s t name shelf z .room);
+  right = kept-shelf-right s t name shelf z;
+  here = kept-here s t name shelf z;
+}
+
+-- a keeping of as many banks under another name leaves it there, and so do any number of them
+module _ (name : List ℕ) (near : placeOf name < 3) (s : Slices) (t : Tally) where
+  keep-leaves : (shelf : List ℕ) → KeptOn name s t shelf → (k : Keeping) → k .tally .banks ≡ t .banks → (placeOf (k .name) ≡ placeOf name → ⊥)
+      → KeptOn name s t (keep (k .name) (k .slices) (k .tally) shelf .shelf)
+  keep-leaves shelf h k e d = go (ℕ-discrete (keepNumber (k .slices) (k .tally) (k .name) shelf) 0)
+    where
+      after : List ℕ
+      after = keep (k .name) (k .slices) (k .tally) shelf .shelf
+
+      go : Dec (keepNumber (k .slices) (k .tally) (k .name) shelf ≡ 0) → KeptOn name s t (keep (k .name) (k .slices) (k .tally) shelf .shelf)
+      go (yes z) = record {
+        room = omega (arith, kept-length (k .slices) (k .tally) (k .name) shelf z, h .room);
+        right = subst (λ (m : ℕ). shelfRight m after ≡ true) e (kept-shelf-right (k .slices) (k .tally) (k .name) shelf z);
+        here =
+            subst (λ (m : ℕ). place m (placeOf name) after ≡ place m (placeOf name) shelf) e
+            (kept-other (k .slices) (k .tally) (k .name) shelf z (placeOf name) near (λ f. d (sym f)))
+            ∙ h .here;
+      }
+      go (no c) = rw (keep-unchanged (k .slices) (k .tally) (k .name) shelf c) h
+
+  pub keepings-leave : (ks : List Keeping) → Others (t .banks) name ks → (shelf : List ℕ) → KeptOn name s t shelf → KeptOn name s t (afterKeepings ks shelf)
+  unfolding afterKeepings
+  keepings-leave [] o shelf h = h
+  keepings-leave (k ∷ ks) o shelf h =
+      keepings-leave ks (o .2) (keep (k .name) (k .slices) (k .tally) shelf .shelf) (keep-leaves shelf h k (o .0) (o .1))

@@ -1,0 +1,86 @@
+-- `put_plan`: part after part.
+use borrow.Author.Needs.{needs}
+use Prim.Native.Nat.{_*_}
+use native.Mathlib.Omega.{arith}
+use Rattle.memory.proofs.Theorems.{long}
+use Rattle.memory.specs.Lent.{slicesGiven}
+use Rattle.checkpoints.proofs.Calls.{plan-put}
+use Rattle.checkpoints.proofs.keeping.put_plan.Statement.{statement}
+use Rattle.checkpoints.proofs.keeping.put_plan.Tie as tie
+
+wide-requires : tie.Need-wide-requires
+wide-requires c κs = search needs
+
+slice-aggregate-put-cells : tie.Need-slice-aggregate-put-cells
+slice-aggregate-put-cells c = search needs
+
+put-cells-requires : tie.Need-put-cells-requires
+put-cells-requires c κs = search needs
+
+mul-put-cells : tie.Need-mul-put-cells
+mul-put-cells c = search needs
+
+put-cells-requires-2 : tie.Need-put-cells-requires-2
+put-cells-requires-2 c κs =
+    let at1 = c .before .before .before .before .before .before .before .before .before .before .before .before in
+    let l = long (at1 .args .tally .banks) _ (at1 .pre .1) in
+    (omega (arith, l .neighbours, c .before .before .before .before .before .before .wide .ensures), omega (arith, at1 .pre .0))
+
+put-cells-requires-3 : tie.Need-put-cells-requires-3
+put-cells-requires-3 c κs =
+    let at1 = c .before .before .before .before .before .before .before .before .before .before .before .before .before .before .before .before in
+    let l = long (at1 .args .tally .banks) _ (at1 .pre .1) in
+    (omega (arith, l .degrees, c .before .before .before .before .before .before .before .before .before .before .wide .ensures), omega (arith, at1 .pre .0))
+
+put-cells-requires-4 : tie.Need-put-cells-requires-4
+put-cells-requires-4 c κs =
+    let at1 = c .before .before .before .before .before .before .before .before .before .before .before .before .before .before .before .before .before .before .before .before in
+    let l = long (at1 .args .tally .banks) _ (at1 .pre .1) in
+    (omega (arith, l .waves, c .before .before .before .before .before .before .before .before .before .before .before .before .before .before .wide .ensures), omega (arith, at1 .pre .0))
+
+mul-put-cells-2 : tie.Need-mul-put-cells-2
+mul-put-cells-2 c = search needs
+
+put-cells-requires-5 : tie.Need-put-cells-requires-5
+put-cells-requires-5 c κs =
+    let at1 = c .before .before .before .before .before .before .before .before .before .before .before .before .before .before .before .before .before .before .before .before .before .before .before .before in
+    let l = long (at1 .args .tally .banks) _ (at1 .pre .1) in
+    (omega (arith, l .counts, c .before .before .before .before .before .before .before .before .before .before .before .before .before .before .before .before .before .before .wide .ensures), omega (arith, at1 .pre .0))
+
+slice-aggregate-put-cells-2 : tie.Need-slice-aggregate-put-cells-2
+slice-aggregate-put-cells-2 c = search needs
+
+put-cells-requires-6 : tie.Need-put-cells-requires-6
+put-cells-requires-6 c κs = search needs
+
+same-length : tie.Need-same-length
+same-length c = search needs
+
+returns : tie.Need-returns
+returns c =
+    let at1 = c .before .before .before .before .before .before .before .before .before .before .before .before .before .before .before .before .before .before .before .before .before .before .before .before .before .before .before .before .before .before .before .before in
+    let n = c .before .before .before .before .before .before .before .before .before .before .before .before .before .before .before .before .before .before .before .before .before .before .before .before .before .before .wide .result in
+    let is-n = c .before .before .before .before .before .before .before .before .before .before .before .before .before .before .before .before .before .before .before .before .before .before .before .before .before .before .wide .ensures in
+    let s = slicesGiven (at1 .args .neighbours) (at1 .args .degrees) (at1 .args .waves) (at1 .args .counts) in
+    let l = long (at1 .args .tally .banks) s (at1 .pre .1) in
+    plan-put s (at1 .args .tally) l (at1 .args .at) (at1 .args .shelf .now) (at1 .pre .0) (n * 23) n (n * 24) _ _ _ _ _ _ _ _ _ _ _ _
+    (omega (arith, is-n)) is-n (omega (arith, is-n)) (c .before .before .before .before .before .before .before .before .before .before .before .before .before .before .before .before .before .before .before .before .before .before .before .put-cells .ensures) (c .before .before .before .before .before .before .before .before .before .before .before .before .before .before .before .before .before .before .before .put-cells2 .ensures) (c .before .before .before .before .before .before .before .before .before .before .before .before .before .before .before .put-cells3 .ensures)
+    (c .before .before .before .before .before .before .before .before .before .before .before .put-cells4 .ensures) (c .before .before .before .before .before .before .before .put-cells5 .ensures) (c .before .before .put-cells6 .ensures)
+
+pub put-plan-spec : {M : Type 1} → statement M
+put-plan-spec =
+    tie.close
+    (tie.spec
+    wide-requires
+    slice-aggregate-put-cells
+    put-cells-requires
+    mul-put-cells
+    put-cells-requires-2
+    put-cells-requires-3
+    put-cells-requires-4
+    mul-put-cells-2
+    put-cells-requires-5
+    slice-aggregate-put-cells-2
+    put-cells-requires-6
+    same-length
+    returns)

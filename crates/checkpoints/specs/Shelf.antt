@@ -1,0 +1,68 @@
+-- The shelf of kept states, cell by cell (02, N5). A kept state is the field's checkpoint: a plan's cells and its tally.
+use mathlib.Core.Bool.{Bool, _&&_, _||_}
+use mathlib.Core.List.{List, [], _∷_, _++_}
+use Prim.Native.Nat.{ℕ, _+_, _*_}
+use lib.Dec.{eqb, leb}
+use lib.ListN.{length, getD, take, drop}
+use Rattle.memory.specs.declared.Tally.{Tally}
+use Rattle.memory.specs.Plan.{Slices, slicesOf, holds}
+
+-- the cells of a place: a used cell, the plan cells of n banks in 01's order, then banks, clashes, waves
+abbrev pub placeSize : ℕ → ℕ
+placeSize n = 49 * n + 4
+
+-- three places follow each other
+abbrev pub shelfSize : ℕ → ℕ
+shelfSize n = 3 * placeSize n
+
+-- `size` cells from `from` on
+abbrev pub part : ℕ → ℕ → List ℕ → List ℕ
+part from size cells = take size (drop from cells)
+
+-- place i of a shelf of n banks
+unfoldable pub place : ℕ → ℕ → List ℕ → List ℕ
+place n i shelf = part (i * placeSize n) (placeSize n) shelf
+
+-- is the place used?
+unfoldable pub used : List ℕ → Bool
+used cells = eqb (getD cells 0 0) 1
+
+-- the plan cells of n banks in a place
+unfoldable pub slicesIn : ℕ → List ℕ → Slices
+slicesIn n cells =
+    slicesOf
+    (part 1 (23 * n) cells)
+    (part (1 + 23 * n) n cells)
+    (part (1 + 24 * n) n cells)
+    (part (1 + 25 * n) (24 * n) cells)
+
+-- the tally in a place of n banks
+unfoldable pub tallyIn : ℕ → List ℕ → Tally
+tallyIn n cells = record {
+  banks = getD cells (49 * n + 1) 0;
+  clashes = getD cells (49 * n + 2) 0;
+  waves = getD cells (49 * n + 3) 0;
+}
+
+-- does it hold a plan of n banks, its tally included?
+unfoldable pub holdsIn : ℕ → List ℕ → Bool
+holdsIn n cells = eqb (tallyIn n cells .banks) n && holds (slicesIn n cells) (tallyIn n cells)
+
+-- a place is unused and not read, or used and holds a plan
+unfoldable pub placeRight : ℕ → List ℕ → Bool
+placeRight n cells = eqb (getD cells 0 0) 0 || (used cells && holdsIn n cells)
+
+-- question 5 of the shelf
+unfoldable pub shelfRight : ℕ → List ℕ → Bool
+shelfRight n shelf = placeRight n (place n 0 shelf) && (placeRight n (place n 1 shelf) && placeRight n (place n 2 shelf))
+
+-- the cells of a place in which this plan is kept
+unfoldable pub placeCells : Slices → Tally → List ℕ
+placeCells s t =
+    let n = t .banks in
+    (1 ∷ [])
+    ++ (take (23 * n) (s .neighbours)
+    ++ (take n (s .degrees)
+    ++ (take n (s .waves)
+    ++ (take (24 * n) (s .counts)
+    ++ (t .banks ∷ t .clashes ∷ t .waves ∷ [])))))

@@ -1,0 +1,191 @@
+// Coming back to a kept plan.
+use crate::CameBack;
+use crate::Returned;
+use crate::cells::put_part;
+use crate::keeping::check_keep;
+use crate::names::place_of;
+use crate::shelf::place_size;
+use crate::shelf::tally_in;
+use memory::Tally;
+use rule::Bank;
+use rule::COUNT_CELLS;
+use rule::MOST_BANKS;
+use rule::ROW_CELLS;
+use rule::wide;
+ghost use mathlib.Core.Bool.{true};
+ghost use mathlib.Core.List.{List};
+ghost use mathlib.Core.Path.{_≡_};
+ghost use Prim.Native.Nat.{ℕ, _+_, _≤_, _<_};
+ghost use lib.ListN.{length};
+ghost use Rattle.memory.specs.Plan.{longEnough};
+ghost use Rattle.memory.specs.Lent.{slicesGiven, slicesBefore, slicesAfter};
+ghost use Rattle.checkpoints.specs.Shelf.{placeSize, slicesIn};
+ghost use Rattle.checkpoints.specs.Calls.{backNumber, backResult, overAll, cameBack, comeBack};
+ghost use Rattle.checkpoints.specs.inner.Places.{Listed, KeepReady};
+
+// The questions of coming back, for a moved slice of so many cells.
+fn check_back(
+    neighbours: &[u16],
+    degrees: &[u16],
+    waves: &[u16],
+    counts: &[u16],
+    moved: &[u16],
+    tally: Tally,
+    shelf: &[u16],
+    name: &[u8],
+) -> u16
+    ensures number { λ r. ⌜ r
+        ≡ backNumber (slicesBefore neighbours degrees waves counts) tally (now (moved .entry)) (now (name .entry)) (now (shelf .entry)) ⌝ }
+    ensures ready { λ r. ⌜ (r ≡ 0
+        → KeepReady (slicesBefore neighbours degrees waves counts) tally (now (name .entry)) (now (shelf .entry))
+        × (tally .banks ≤ length (now (moved .entry)))) ⌝ }
+{
+    let n = wide(tally.banks);
+    if MOST_BANKS < n {
+        return 1;
+    }
+    if moved.len() < n {
+        return 2;
+    }
+    let number = check_keep(neighbours, degrees, waves, counts, tally, shelf, name);
+    if number != 0 {
+        return number;
+    }
+    let at = wide(place_of(name)) * place_size(tally.banks);
+    if shelf[at] != 1 {
+        return 17;
+    }
+    0
+}
+
+// Lists bank b after `count` others if its wave differs, and answers how many are listed.
+fn list_bank(old: &[u16], new: &[u16], moved: &mut [u16], b: Bank, count: u16) -> u16
+    requires { ⌜ (b .0 < length (now old)) × (b .0 < length (now new)) ⌝ }
+    requires { ⌜ (count ≤ b .0) × (b .0 < length (now moved)) ⌝ }
+    requires { ⌜ b .0 < 1024 ⌝ }
+    ensures { λ r. ⌜ ((was : List ℕ)
+        → Listed (b .0) (now (old .entry)) (now (new .entry)) was count (now (moved .entry))
+        → Listed (b .0 + 1) (now (old .entry)) (now (new .entry)) was r (now (moved .exit))) ⌝ }
+{
+    let at = wide(b.0);
+    if old[at] == new[at] {
+        return count;
+    }
+    let next = wide(count);
+    moved[next] = b.0;
+    count + 1
+}
+
+// Lists the banks whose wave differs at the front of the moved slice, ascending, and answers how many they are.
+fn list_moved(old: &[u16], new: &[u16], moved: &mut [u16], banks: u16) -> u16
+    requires { ⌜ (banks ≤ 1024) × (banks ≤ length (now old)) × (banks ≤ length (now new)) × (banks ≤ length (now moved)) ⌝ }
+    ensures { λ r. ⌜ Listed banks (now (old .entry)) (now (new .entry)) (now (moved .entry)) r (now (moved .exit)) ⌝ }
+{
+    let mut count: u16 = 0;
+    let mut b: u16 = 0;
+    while b < banks {
+        count = list_bank(old, new, moved, Bank(b), count);
+        b += 1;
+    }
+    count
+}
+
+// The plan slices become what the place holds.
+fn bring_back(
+    neighbours: &mut [u16],
+    degrees: &mut [u16],
+    waves: &mut [u16],
+    counts: &mut [u16],
+    place: &[u16],
+    n: usize,
+)
+    requires { ⌜ length (now place) ≡ placeSize n ⌝ }
+    requires { ⌜ n ≤ 1024 ⌝ }
+    requires { ⌜ longEnough n (slicesGiven neighbours degrees waves counts) ≡ true ⌝ }
+    ensures { λ r. ⌜ slicesAfter neighbours degrees waves counts
+        ≡ overAll (slicesIn n (now (place .entry))) (slicesBefore neighbours degrees waves counts) ⌝ }
+{
+    let degree = 1 + n * ROW_CELLS;
+    let wave = degree + n;
+    let count = wave + n;
+    put_part(neighbours, place, 1, n * ROW_CELLS);
+    put_part(degrees, place, degree, n);
+    put_part(waves, place, wave, n);
+    put_part(counts, place, count, n * COUNT_CELLS);
+}
+
+// Plan memory and tally become what the place holds, and the banks whose wave differs are listed.
+fn return_to(
+    neighbours: &mut [u16],
+    degrees: &mut [u16],
+    waves: &mut [u16],
+    counts: &mut [u16],
+    moved: &mut [u16],
+    banks: u16,
+    place: &[u16],
+) -> CameBack
+    requires { ⌜ (banks ≤ 1024) × (length (now place) ≡ placeSize banks) × (banks ≤ length (now moved)) ⌝ }
+    requires { ⌜ longEnough banks (slicesGiven neighbours degrees waves counts) ≡ true ⌝ }
+    ensures { λ r. ⌜ backResult (r .answer .number) (r .answer .moved) (slicesAfter neighbours degrees waves counts) (r .tally) (now (moved .exit))
+        ≡ cameBack banks (now (place .entry)) (slicesBefore neighbours degrees waves counts) (now (moved .entry)) ⌝ }
+{
+    let n = wide(banks);
+    let wave = 1 + n * (ROW_CELLS + 1);
+    let count = wave + n;
+    let differing = list_moved(waves, &place[wave..count], moved, banks);
+    bring_back(neighbours, degrees, waves, counts, place, n);
+    CameBack {
+        answer: Returned {
+            number: 0,
+            moved: differing,
+        },
+        tally: tally_in(place, n),
+    }
+}
+
+// Coming back with the tally by value: the core of `come_back`, for programs and other crates.
+pub fn come_back_core(
+    neighbours: &mut [u16],
+    degrees: &mut [u16],
+    waves: &mut [u16],
+    counts: &mut [u16],
+    moved: &mut [u16],
+    tally: Tally,
+    shelf: &[u16],
+    name: &[u8],
+) -> CameBack
+    ensures { λ r. ⌜ backResult (r .answer .number) (r .answer .moved) (slicesAfter neighbours degrees waves counts) (r .tally) (now (moved .exit))
+        ≡ comeBack (now (name .entry)) (slicesBefore neighbours degrees waves counts) tally (now (moved .entry)) (now (shelf .entry)) ⌝ }
+{
+    let number = check_back(
+        neighbours,
+        degrees,
+        waves,
+        counts,
+        moved,
+        tally,
+        shelf,
+        name,
+    );
+    if number != 0 {
+        return CameBack {
+            answer: Returned {
+                number: number,
+                moved: 0,
+            },
+            tally: tally,
+        };
+    }
+    let size = place_size(tally.banks);
+    let at = wide(place_of(name)) * size;
+    let end = at + size;
+    return_to(
+        neighbours,
+        degrees,
+        waves,
+        counts,
+        moved,
+        tally.banks,
+        &shelf[at..end],
+    )
+}
