@@ -1,7 +1,8 @@
 -- Byte strings compared: `same` from a place on, and what it says.
-use mathlib.Core.Bool.{Bool, true, false, _&&_}
+use mathlib.Core.Bool.{Bool, true, false, cond, _&&_}
+use mathlib.Core.Logic.{_↔_}
 use mathlib.Core.List.{List, [], _∷_}
-use mathlib.Core.Path.{_≡_, refl, ap, _∙_}
+use mathlib.Core.Path.{_≡_, refl}
 use Prim.Native.Nat.{ℕ, _+_, _≤_, _<_}
 use native.Mathlib.Omega.{arith}
 use borrow.Author.Tests.{eq-eqb, ne-eqb}
@@ -64,3 +65,34 @@ module _ (name : List ℕ) where
       → 3 ≡ placeOf name
   unfolding placeOf
   place-none r q p e f g h i j = rw (← e, f, ← g, h, ← i, j) refl
+
+-- the three names, and no other bytes
+pub name-first : (name : List ℕ) → placeOf name ≡ 0 ↔ (name ≡ morning)
+unfolding placeOf same
+name-first name = (λ e. same-is name morning (go (same name morning) (same name noon) (same name close) e), λ e. rw e refl)
+  where
+    go : (p q r : Bool) → _≡_ {A = ℕ} (cond p 0 (cond q 1 (cond r 2 3))) 0 → T p
+    go true q r e = tt
+    go false true r e = absurd (omega arith)
+    go false false true e = absurd (omega arith)
+    go false false false e = absurd (omega arith)
+
+pub name-second : (name : List ℕ) → placeOf name ≡ 1 ↔ (name ≡ noon)
+unfolding placeOf same
+name-second name = (λ e. same-is name noon (go (same name morning) (same name noon) (same name close) e), λ e. rw e refl)
+  where
+    go : (p q r : Bool) → _≡_ {A = ℕ} (cond p 0 (cond q 1 (cond r 2 3))) 1 → T q
+    go true q r e = absurd (omega arith)
+    go false true r e = tt
+    go false false true e = absurd (omega arith)
+    go false false false e = absurd (omega arith)
+
+pub name-third : (name : List ℕ) → placeOf name ≡ 2 ↔ (name ≡ close)
+unfolding placeOf same
+name-third name = (λ e. same-is name close (go (same name morning) (same name noon) (same name close) e), λ e. rw e refl)
+  where
+    go : (p q r : Bool) → _≡_ {A = ℕ} (cond p 0 (cond q 1 (cond r 2 3))) 2 → T r
+    go true q r e = absurd (omega arith)
+    go false true r e = absurd (omega arith)
+    go false false true e = tt
+    go false false false e = absurd (omega arith)

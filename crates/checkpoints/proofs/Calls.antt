@@ -1,22 +1,22 @@
 -- What the calls leave, from what their steps leave.
-use mathlib.Core.Bool.{Bool, true, false, cond}
+use mathlib.Core.Bool.{true}
 use mathlib.Core.List.{List, [], _∷_, _++_}
-use mathlib.Core.Path.{_≡_, refl, sym, ap, _∙_}
-use Prim.Native.Nat.{ℕ, zero, suc, _+_, _*_, _-_, _≤_, _<_}
+use mathlib.Core.Path.{_≡_, refl, ap, _∙_}
+use Prim.Native.Nat.{ℕ, zero, suc, _+_, _*_, _-_, _≤_}
 use native.Mathlib.Omega.{arith}
-use lib.ListN.{length, getD, set, take, drop, length-set, length-append, length-take, length-drop}
+use lib.ListN.{length, set, take, drop, length-set, length-append, length-take, length-drop}
 use lib.Seq.{length-take-le}
 use Rattle.memory.specs.declared.Tally.{Tally}
 use Rattle.memory.specs.Cells.{over}
 use Rattle.memory.specs.Plan.{Slices, slicesOf, longEnough}
 use Rattle.memory.specs.inner.View.{Long}
-use Rattle.memory.proofs.Theorems.{long, long-enough}
+use Rattle.memory.proofs.Theorems.{long-enough}
 use Rattle.text.specs.Places.{put, Puts}
 use Rattle.text.proofs.Putting.{puts-one}
 use Rattle.checkpoints.specs.Names.{placeOf}
-use Rattle.checkpoints.specs.Shelf.{placeSize, part, place, used, slicesIn, tallyIn, placeCells}
+use Rattle.checkpoints.specs.Shelf.{placeSize, part, place, slicesIn, tallyIn, placeCells}
 use Rattle.checkpoints.specs.Calls.{openShelfNumber, keepNumber, backNumber, shelfResult, unusedShelf, openShelfBy, openShelf, keptUnder, keepBy, keep}
-use Rattle.checkpoints.specs.Calls.{backResult, differing, overAll, cameBack, backBy, comeBack}
+use Rattle.checkpoints.specs.Calls.{backResult, overAll, cameBack, backBy, comeBack}
 use Rattle.checkpoints.specs.inner.Places.{Copied, Listed}
 use Rattle.checkpoints.proofs.Places.{lent-part}
 use Rattle.checkpoints.proofs.Putting.{copied-puts, puts-long, puts-more}

@@ -1,26 +1,22 @@
 -- Kept plans: what a place holds after a keeping, and what comes back from it.
-use mathlib.Core.Bool.{Bool, true, false, _&&_}
-use mathlib.Core.List.{List, [], _∷_, _++_, append-nil, append-assoc}
+use mathlib.Core.List.{List, [], _∷_, append-nil}
 use mathlib.Core.Path.{_≡_, refl, sym, ap, _∙_}
-use Prim.Native.Nat.{ℕ, zero, suc, _+_, _*_, _≤_, _<_}
+use Prim.Native.Nat.{ℕ, _+_, _*_}
 use native.Mathlib.Nat.{add-zero}
 use native.Mathlib.Omega.{arith}
-use lib.Dec.{T, eqb, eqb-refl}
-use lib.ListN.{length, getD, take, drop, length-append, length-take}
-use lib.Seq.{take-all, take-append-seam, drop-length, drop-drop}
+use lib.ListN.{length, getD, take, drop}
+use lib.Seq.{drop-length}
 use Rattle.rule.specs.Graph.{Graph}
 use Rattle.rule.specs.Wave.{waves}
-use Rattle.rule.proofs.Booleans.{is-true}
 use Rattle.memory.specs.declared.Tally.{Tally}
 use Rattle.memory.specs.Cells.{over}
-use Rattle.memory.specs.Plan.{Slices, slicesOf, longEnough, neighbourCells, degreeCells, countCells, planIn, graphIn, holds, PlanOf}
+use Rattle.memory.specs.Plan.{Slices, slicesOf, neighbourCells, degreeCells, countCells, planIn, PlanOf}
 use Rattle.memory.specs.inner.View.{Long}
 use Rattle.memory.proofs.Views.{tally-banks}
-use Rattle.memory.proofs.Theorems.{long, long-enough, plan-holds, holds-plan, length-neighbourCells, length-degreeCells, length-waves, length-countCells}
-use Rattle.checkpoints.specs.Shelf.{placeSize, part, place, used, slicesIn, tallyIn, holdsIn, placeRight, placeCells}
+use Rattle.memory.proofs.Theorems.{long, long-enough, length-neighbourCells, length-degreeCells, length-waves, length-countCells}
+use Rattle.checkpoints.specs.Shelf.{part, place, slicesIn, tallyIn, placeCells}
 use Rattle.checkpoints.specs.Calls.{overAll}
 use Rattle.checkpoints.proofs.Putting.{skip, skip-cell, first}
-use Rattle.checkpoints.proofs.Places.{right-used, holds-here}
 use Rattle.checkpoints.proofs.Calls as cells
 
 -- the plan cells of n banks at the fronts of the slices, as slices

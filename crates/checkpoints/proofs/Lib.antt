@@ -7,4 +7,8 @@ pub mod Numbers
 pub mod Calls
 pub mod Kept
 pub mod Shelves
+pub mod Opened
 pub mod Returns
+pub mod GivenBack
+pub mod Restored
+pub mod Theorems

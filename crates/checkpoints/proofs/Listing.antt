@@ -2,15 +2,14 @@
 use mathlib.Core.Bool.{Bool, not}
 use mathlib.Core.List.{List, [], _∷_, _++_}
 use mathlib.Core.Path.{_≡_, refl, sym, ap, _∙_}
-use Prim.Native.Nat.{ℕ, zero, suc, _+_, _≤_, _<_}
+use Prim.Native.Nat.{ℕ, suc, _+_, _≤_, _<_}
 use native.Mathlib.Omega.{arith}
 use native.Mathlib.Numerals.{add-one}
-use borrow.Author.Tests.{eq-eqb, ne-eqb}
-use lib.Dec.{T, eqb, eqb→eq, not-T, T-not, eqb-refl}
+use lib.Dec.{eqb, eqb→eq, not-T, T-not, eqb-refl}
 use lib.ListN.{length, getD, set, length-append, length-drop, drop}
 use lib.Seq.{set-at, drop-cons, append-snoc}
-use Rattle.rule.specs.Lists.{upto, filter, memb}
-use Rattle.rule.proofs.Lists.{filter-kept, filter-left, filter-short, length-upto, in-filter, filter-in, in-upto}
+use Rattle.rule.specs.Lists.{upto, filter}
+use Rattle.rule.proofs.Lists.{filter-kept, filter-left, filter-short, length-upto}
 use Rattle.memory.specs.Cells.{over}
 use Rattle.checkpoints.specs.Calls.{differing}
 use Rattle.checkpoints.specs.inner.Places.{Listed}

@@ -4,14 +4,14 @@ use mathlib.Core.List.{List, [], _∷_}
 use mathlib.Core.Logic.{_≢_}
 use mathlib.Core.Path.{_≡_, refl, sym, _∙_}
 use native.Mathlib.Omega.{arith}
-use Prim.Native.Nat.{ℕ, suc, _*_, _≤_, _<_}
+use Prim.Native.Nat.{ℕ, _*_, _≤_, _<_}
 use borrow.Author.Tests.{le-leb, lt-leb, leb-true, lt-ltb, le-ltb}
-use lib.Dec.{leb, ltb}
+use lib.Dec.{leb}
 use lib.ListN.{length, getD}
-use Rattle.rule.proofs.Booleans.{both-true, and-true, and-false}
+use Rattle.rule.proofs.Booleans.{and-false}
 use Rattle.memory.specs.declared.Tally.{Tally}
 use Rattle.memory.specs.Plan.{Slices, longEnough, holds}
-use Rattle.planner.specs.Questions.{Question, firstNo}
+use Rattle.planner.specs.Questions.{firstNo}
 use Rattle.planner.specs.Calls.{planNumber}
 use Rattle.planner.proofs.Numbers.{none, Passed, plan-passed}
 use Rattle.checkpoints.specs.Names.{placeOf, known}

@@ -1,11 +1,11 @@
 -- Cells put into a slice: the parts of it that are those cells, and those that stay.
-use mathlib.Core.List.{List, [], _∷_, _++_, append-assoc, append-nil}
+use mathlib.Core.List.{List, [], _∷_, _++_, append-assoc}
 use mathlib.Core.Path.{_≡_, refl, sym, ap, _∙_}
 use Prim.Native.Nat.{ℕ, _+_, _-_, _≤_, _<_}
 use native.Mathlib.Nat.{add-zero}
 use native.Mathlib.Omega.{arith}
 use lib.ListN.{length, getD, take, drop, length-append, length-take, length-drop, take-append-drop}
-use lib.Seq.{take-take, length-take-le, take-append-le, take-append-seam, drop-append-le, drop-append-add, drop-at, drop-drop, drop-length, getD-append-add, getD-drop, getD-take}
+use lib.Seq.{take-at, take-take, length-take-le, take-append-le, take-append-seam, drop-append-le, drop-append-add, drop-at, drop-drop, getD-append-add, getD-drop, getD-take}
 use Rattle.memory.specs.Cells.{over}
 use Rattle.text.specs.Places.{put, Puts}
 use Rattle.text.proofs.Putting.{puts-then, put-front}
@@ -67,13 +67,22 @@ module _ (cells : List ℕ) (at : ℕ) (xs : List ℕ) (room : at + length cells
       ap (λ (l : List ℕ). drop (at + length cells) l) (sym (append-assoc (take at xs) cells (drop (at + length cells) xs)))
       ∙ drop-at (take at xs ++ cells) (drop (at + length cells) xs) (at + length cells) (omega (arith, long, length-append (take at xs) cells))
 
-  pub put-after : (from size : ℕ) → at + length cells ≤ from → part from size (put cells at xs) ≡ part from size xs
-  put-after from size h =
+  pub drop-after : (from : ℕ) → at + length cells ≤ from → drop from (put cells at xs) ≡ drop from xs
+  drop-after from h =
       let e : (at + length cells) + (from - (at + length cells)) ≡ from = omega arith in
       let from-end : (l : List ℕ) → drop from l ≡ drop (from - (at + length cells)) (drop (at + length cells) l) =
       λ l. ap (λ (k : ℕ). drop k l) (sym e) ∙ sym (drop-drop (from - (at + length cells)) (at + length cells) l) in
-      ap (λ (l : List ℕ). take size l)
-      (from-end (put cells at xs) ∙ ap (λ (l : List ℕ). drop (from - (at + length cells)) l) after-put ∙ sym (from-end xs))
+      from-end (put cells at xs) ∙ ap (λ (l : List ℕ). drop (from - (at + length cells)) l) after-put ∙ sym (from-end xs)
+
+  pub put-after : (from size : ℕ) → at + length cells ≤ from → part from size (put cells at xs) ≡ part from size xs
+  put-after from size h = ap (λ (l : List ℕ). take size l) (drop-after from h)
+
+  -- others of the same number put over them
+  pub put-again : (new : List ℕ) → length new ≡ length cells → put new at (put cells at xs) ≡ put new at xs
+  unfolding put
+  put-again new e =
+      ap (λ (l : List ℕ). l ++ (new ++ drop (at + length new) (put cells at xs))) (take-at (take at xs) (cells ++ drop (at + length cells) xs) at long)
+      ∙ ap (λ (l : List ℕ). take at xs ++ (new ++ l)) (drop-after (at + length new) (omega arith))
 
 -- copied cells are put
 pub copied-puts : (cells : List ℕ) (size at : ℕ) (to : List ℕ) (r : ℕ) (to′ : List ℕ) → size ≤ length cells → Copied cells size at to r to′
@@ -105,3 +114,16 @@ module _ (a : List ℕ) (at : ℕ) (out : List ℕ) (r : ℕ) (out′ : List ℕ
 
   pub puts-more : (b : List ℕ) (k : ℕ) (end : List ℕ) → at + length (a ++ b) ≤ length out → Puts b r out′ k end → Puts (a ++ b) at out k end
   puts-more b k end room q = puts-then a b at out (omega (arith, length-append a b)) r k out′ end p q
+
+-- one cell put, and a cell before those that are put
+pub put-cell : (v at : ℕ) (xs : List ℕ) → at < length xs → getD (put (v ∷ []) at xs) at 0 ≡ v
+put-cell v at xs h =
+    sym (part-cell at 1 (put (v ∷ []) at xs) (omega arith))
+    ∙ ap (λ (l : List ℕ). getD l 0 0) (put-here (v ∷ []) at xs (omega arith))
+
+pub put-cell-before : (cells : List ℕ) (at : ℕ) (xs : List ℕ) → at + length cells ≤ length xs → (i : ℕ) → i < at
+    → getD (put cells at xs) i 0 ≡ getD xs i 0
+put-cell-before cells at xs room i h =
+    sym (part-cell i 1 (put cells at xs) (omega arith))
+    ∙ ap (λ (l : List ℕ). getD l 0 0) (put-before cells at xs room i 1 (omega arith))
+    ∙ part-cell i 1 xs (omega arith)

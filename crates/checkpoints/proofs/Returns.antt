@@ -1,26 +1,25 @@
 -- Coming back to what was kept, whatever keepings under other names lie between.
-use mathlib.Core.Bool.{Bool, true, false, cond, _&&_}
-use mathlib.Core.List.{List, [], _∷_, _++_}
+use mathlib.Core.Bool.{true, _&&_}
+use mathlib.Core.List.{List, [], _∷_}
 use mathlib.Core.Path.{_≡_, refl, sym, ap, _∙_, subst}
-use Prim.Native.Nat.{ℕ, zero, suc, _+_, _*_, _≤_, _<_}
+use Prim.Native.Nat.{ℕ, zero, suc, _*_, _≤_, _<_}
 use native.Mathlib.Omega.{arith}
 use native.Mathlib.Decide.{ℕ-discrete}
-use borrow.Author.Tests.{le-leb, leb-true, lt-ltb, eq-eqb}
-use lib.Dec.{T, leb, ltb, eqb, ltb→lt}
-use lib.ListN.{length, getD, take, drop}
-use Rattle.rule.specs.Graph.{Graph}
-use Rattle.rule.proofs.Booleans.{is-true, both-true, T-along}
+use borrow.Author.Tests.{leb-true}
+use lib.Dec.{leb, ltb, ltb→lt}
+use lib.ListN.{length, drop}
+use Rattle.rule.proofs.Booleans.{both-true, T-along}
 use Rattle.memory.specs.declared.Tally.{Tally}
-use Rattle.memory.specs.Cells.{over}
-use Rattle.memory.specs.Plan.{Slices, longEnough, planIn, graphIn, holds, PlanOf}
-use Rattle.memory.proofs.Theorems.{long, plan-holds, holds-plan}
-use Rattle.planner.specs.Questions.{Question, firstNo}
+use Rattle.memory.specs.Plan.{Slices, longEnough, graphIn, holds, PlanOf}
+use Rattle.memory.proofs.Theorems.{long, holds-plan}
 use Rattle.planner.proofs.Numbers.{none}
 use Rattle.text.specs.Places.{put}
 use Rattle.checkpoints.specs.Names.{placeOf, known}
-use Rattle.checkpoints.specs.Shelf.{placeSize, place, used, slicesIn, tallyIn, placeRight, shelfRight, placeCells}
-use Rattle.checkpoints.specs.Calls.{shelfLong, keepNumber, backNumber, shelfResult, keptUnder, keepBy, keep, backResult, differing, overAll, cameBack, backBy, comeBack}
+use Rattle.checkpoints.specs.Shelf.{placeSize, place, placeRight, shelfRight, placeCells}
+use Rattle.checkpoints.specs.Calls.{shelfLong, keepNumber, keptUnder, keepBy, keep}
 use Rattle.checkpoints.specs.Between.{Keeping, afterKeepings, Others}
+use Rattle.checkpoints.proofs.Putting.{drop-after, put-again}
+use Rattle.checkpoints.proofs.Places.{place-room}
 use Rattle.checkpoints.proofs.Calls.{length-placeCells}
 use Rattle.checkpoints.proofs.Shelves.{length-after, place-here, place-other, kept-right, all-right, each-right}
 
@@ -77,6 +76,12 @@ module _ (s : Slices) (t : Tally) (name shelf : List ℕ) where
     pub kept-other : (j : ℕ) → j < 3 → (j ≡ placeOf name → ⊥) → place n j (keep name s t shelf .shelf) ≡ place n j shelf
     kept-other j h d = rw kept-shelf (place-other n (placeOf name) (can .near) (placeCells s t) shelf size (can .room) j h d)
 
+    pub kept-beyond : drop (3 * placeSize n) (keep name s t shelf .shelf) ≡ drop (3 * placeSize n) shelf
+    kept-beyond =
+        rw kept-shelf
+        (drop-after (placeCells s t) (placeOf name * placeSize n) shelf (omega (arith, size, place-room (placeOf name) (placeSize n) (can .near), can .room))
+        (3 * placeSize n) (omega (arith, size, place-room (placeOf name) (placeSize n) (can .near))))
+
     -- question 5 of the shelf is answered by yes again
     pub kept-shelf-right : shelfRight n (keep name s t shelf .shelf) ≡ true
     kept-shelf-right = all-right n (keep name s t shelf .shelf) each
@@ -96,6 +101,25 @@ module _ (s : Slices) (t : Tally) (name shelf : List ℕ) where
       go : (c : ℕ) → (c ≡ 0 → ⊥) → keepBy c name s t shelf .shelf ≡ shelf
       go zero d = absurd (d refl)
       go (suc c) d = refl
+
+-- a second keeping under the name replaces the first
+pub kept-again : (s : Slices) (t : Tally) (name shelf : List ℕ) → keepNumber s t name shelf ≡ 0 → (s′ : Slices) (t′ : Tally) → t′ .banks ≡ t .banks
+    → keepNumber s′ t′ name (keep name s t shelf .shelf) ≡ 0 → keepNumber s′ t′ name shelf ≡ 0
+    → keep name s′ t′ (keep name s t shelf .shelf) .shelf ≡ keep name s′ t′ shelf .shelf
+kept-again s t name shelf z s′ t′ e y z′ =
+    let can = keepable s t name shelf z in
+    let can′ = keepable s′ t′ name shelf z′ in
+    let new = placeCells s′ t′ in
+    let old = placeCells s t in
+    let at = placeOf name * placeSize (t′ .banks) in
+    let l = length-placeCells s t (long (t .banks) s (can .long)) in
+    let l′ = length-placeCells s′ t′ (long (t′ .banks) s′ (can′ .long)) in
+    let room = place-room (placeOf name) (placeSize (t′ .banks)) (can .near) in
+    kept-shelf s′ t′ name (keep name s t shelf .shelf) y
+    ∙ ap (put new at) (kept-shelf s t name shelf z)
+    ∙ ap (λ (m : ℕ). put new at (put old (placeOf name * placeSize m) shelf)) (sym e)
+    ∙ put-again old at shelf (omega (arith, l, e, room, can′ .room)) new (omega (arith, l, l′, e))
+    ∙ sym (kept-shelf s′ t′ name shelf z′)
 
 -- a shelf on which the plan in s and t is kept under the name
 pub record KeptOn (name : List ℕ) (s : Slices) (t : Tally) (shelf : List ℕ) : Type 0 where

@@ -1,26 +1,23 @@
 -- The shelf after a keeping: its places, its length, and question 5.
-use mathlib.Core.Bool.{Bool, true, false, _&&_}
-use mathlib.Core.List.{List, [], _∷_, _++_}
+use mathlib.Core.Bool.{Bool, true, _&&_}
+use mathlib.Core.List.{List}
 use mathlib.Core.Logic.{_⊎_, inl, inr}
 use mathlib.Core.Path.{_≡_, refl, sym, ap, _∙_, subst}
 use Prim.Native.Nat.{ℕ, zero, suc, _+_, _*_, _≤_, _<_}
 use native.Mathlib.Omega.{arith}
-use lib.Dec.{T}
-use lib.ListN.{length, getD, take, drop}
+use lib.ListN.{length}
 use Rattle.rule.specs.Graph.{Graph}
-use Rattle.rule.proofs.Booleans.{is-true, both-true, T-along}
+use Rattle.rule.proofs.Booleans.{is-true, both-true}
 use Rattle.memory.specs.declared.Tally.{Tally}
-use Rattle.memory.specs.Plan.{Slices, longEnough, graphIn, holds, PlanOf}
+use Rattle.memory.specs.Plan.{Slices, longEnough, holds, PlanOf}
 use Rattle.memory.specs.inner.View.{Long}
 use Rattle.memory.proofs.Views.{tally-banks}
 use Rattle.memory.proofs.Theorems.{long, plan-holds}
 use Rattle.text.specs.Places.{put}
-use Rattle.checkpoints.specs.Names.{placeOf}
-use Rattle.checkpoints.specs.Shelf.{placeSize, part, place, used, slicesIn, tallyIn, holdsIn, placeRight, shelfRight, placeCells}
+use Rattle.checkpoints.specs.Shelf.{placeSize, place, slicesIn, placeRight, shelfRight, placeCells}
 use Rattle.checkpoints.proofs.Putting.{length-put, put-here, put-before, put-after}
 use Rattle.checkpoints.proofs.Places.{place-room, right-used, holds-here}
-use Rattle.checkpoints.proofs.Calls.{length-placeCells}
-use Rattle.checkpoints.proofs.Kept.{fronts, kept-cell, kept-slices, kept-tally, fronts-exactly, exactly-plan}
+use Rattle.checkpoints.proofs.Kept.{kept-cell, kept-slices, kept-tally, fronts-exactly, exactly-plan}
 
 -- a place ends where a later one starts, or before
 place-order : (i j k : ℕ) → i < j → j < 3 → i * k + k ≤ j * k

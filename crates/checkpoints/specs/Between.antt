@@ -1,11 +1,15 @@
--- What may befall the shelf between a keeping and the coming back: further keepings. Every other call leaves the shelf as it is.
+-- What the theorems on kept states speak of. Between a keeping and the coming back the shelf changes by further keepings alone: every other
+-- call leaves it as it is.
 use mathlib.Core.List.{List, [], _∷_}
 use mathlib.Core.Path.{_≡_}
 use Prim.Native.Nat.{ℕ}
 use Rattle.memory.specs.declared.Tally.{Tally}
-use Rattle.memory.specs.Plan.{Slices}
+use Rattle.rule.specs.Graph.{Graph}
+use Rattle.memory.specs.Plan.{Slices, graphIn}
+use Rattle.memory.specs.PlanCells.{planCells}
 use Rattle.checkpoints.specs.Names.{placeOf}
-use Rattle.checkpoints.specs.Calls.{keep}
+use Rattle.checkpoints.specs.Shelf.{place, slicesIn}
+use Rattle.checkpoints.specs.Calls.{keep, BackResult}
 
 -- a call of keep: the name, the slices and the tally that it is lent
 pub record Keeping : Type 0 where
@@ -22,3 +26,13 @@ afterKeepings (k ∷ ks) shelf = afterKeepings ks (keep (k .name) (k .slices) (k
 abbrev pub Others : ℕ → List ℕ → List Keeping → Type 0
 Others n name [] = Unit {0}
 Others n name (k ∷ ks) = (k .tally .banks ≡ n) × (placeOf (k .name) ≡ placeOf name → ⊥) × Others n name ks
+
+-- a call of come_back was accepted, and gave back the plan cells of n banks in s and the tally t
+pub record GivesBack (n : ℕ) (s : Slices) (t : Tally) (r : BackResult) : Type 0 where
+  pub number : r .number ≡ 0
+  pub cells : planCells n (r .slices) ≡ planCells n s
+  pub tally : r .tally ≡ t
+
+-- the clashes of the state that is kept under a name on a shelf of n banks
+abbrev pub clashesKept : ℕ → List ℕ → List ℕ → Graph
+clashesKept n name shelf = graphIn n (slicesIn n (place n (placeOf name) shelf))

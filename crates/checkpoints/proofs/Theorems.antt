@@ -1,0 +1,96 @@
+-- What others may cite of kept states. Each is restated in full.
+use mathlib.Core.Bool.{true, false}
+use mathlib.Core.List.{List}
+use mathlib.Core.Logic.{_↔_}
+use mathlib.Core.Path.{_≡_, refl, sym, ap, _∙_, subst}
+use Prim.Native.Nat.{ℕ, suc, _*_, _≤_, _<_}
+use lib.Dec.{T}
+use lib.ListN.{length, getD, take, drop}
+use Rattle.rule.specs.Graph.{Graph}
+use Rattle.rule.specs.Lists.{memb}
+use Rattle.rule.specs.Wave.{wave}
+use Rattle.memory.specs.declared.Tally.{Tally}
+use Rattle.memory.specs.Plan.{Slices, PlanOf}
+use Rattle.memory.specs.PlanCells.{planCells}
+use Rattle.checkpoints.specs.Names.{morning, noon, close, placeOf}
+use Rattle.checkpoints.specs.Shelf.{placeSize, shelfSize, place, used, slicesIn, tallyIn, shelfRight, placeCells}
+use Rattle.checkpoints.specs.Calls.{openShelfNumber, keepNumber, openShelf, keep, backResult, differing, comeBack}
+use Rattle.checkpoints.specs.Between.{Keeping, afterKeepings, Others, GivesBack, clashesKept}
+use Rattle.checkpoints.proofs.Bytes as Bytes
+use Rattle.checkpoints.proofs.Opened as Opened
+use Rattle.checkpoints.proofs.Returns as Returns
+use Rattle.checkpoints.proofs.GivenBack as GivenBack
+use Rattle.checkpoints.proofs.Restored as Restored
+
+-- 1. the three names are known, each with its place, and no other bytes are
+pub name-first : (name : List ℕ) → placeOf name ≡ 0 ↔ (name ≡ morning)
+name-first = Bytes.name-first
+
+pub name-second : (name : List ℕ) → placeOf name ≡ 1 ↔ (name ≡ noon)
+name-second = Bytes.name-second
+
+pub name-third : (name : List ℕ) → placeOf name ≡ 2 ↔ (name ≡ close)
+name-third = Bytes.name-third
+
+-- 2. on a shelf that was opened, whatever it held before, nothing is used, and question 5 is answered by yes
+module _ (n : ℕ) (shelf : List ℕ) (accepted : openShelfNumber n shelf ≡ 0) where
+  pub none-used : (i : ℕ) → i < 3 → used (place n i (openShelf n shelf .shelf)) ≡ false
+  none-used = Opened.none-used n shelf accepted
+
+  pub opened-right : shelfRight n (openShelf n shelf .shelf) ≡ true
+  opened-right = Opened.opened-right n shelf accepted
+
+-- 3. an accepted keeping
+module _ (name : List ℕ) (s : Slices) (t : Tally) (shelf : List ℕ) (accepted : keepNumber s t name shelf ≡ 0) where
+  -- fills the place of the name,
+  pub kept-here : place (t .banks) (placeOf name) (keep name s t shelf .shelf) ≡ placeCells s t
+  kept-here = Returns.kept-here s t name shelf accepted
+
+  -- leaves the others, and what lies beyond them, cell by cell,
+  pub kept-other : (j : ℕ) → j < 3 → (j ≡ placeOf name → ⊥) → place (t .banks) j (keep name s t shelf .shelf) ≡ place (t .banks) j shelf
+  kept-other = Returns.kept-other s t name shelf accepted
+
+  pub kept-beyond : drop (shelfSize (t .banks)) (keep name s t shelf .shelf) ≡ drop (shelfSize (t .banks)) shelf
+  kept-beyond = Returns.kept-beyond s t name shelf accepted
+
+  -- leaves a shelf that question 5 takes,
+  pub kept-right : shelfRight (t .banks) (keep name s t shelf .shelf) ≡ true
+  kept-right = Returns.kept-shelf-right s t name shelf accepted
+
+  -- and replaces what was kept under the name, as if that had not been
+  pub kept-again : (s′ : Slices) (t′ : Tally) → t′ .banks ≡ t .banks → keepNumber s′ t′ name (keep name s t shelf .shelf) ≡ 0 → keepNumber s′ t′ name shelf ≡ 0
+      → keep name s′ t′ (keep name s t shelf .shelf) .shelf ≡ keep name s′ t′ shelf .shelf
+  kept-again = Returns.kept-again s t name shelf accepted
+
+-- 4. keeping and coming back: the plan cells and the tally of the moment of keeping, whatever memory s′, t′ and moved the calls between left,
+-- if it holds a plan of as many banks, and whatever keepings of as many banks under other names were made
+pub come-back-kept : (name : List ℕ) (s : Slices) (t : Tally) (shelf : List ℕ) → keepNumber s t name shelf ≡ 0
+    → (ks : List Keeping) → Others (t .banks) name ks
+    → (G : Graph) (s′ : Slices) (t′ : Tally) → PlanOf G s′ t′ → t′ .banks ≡ t .banks → (moved : List ℕ) → t .banks ≤ length moved
+    → GivesBack (t .banks) s t (comeBack name s′ t′ moved (afterKeepings ks (keep name s t shelf .shelf)))
+come-back-kept name s t shelf z ks o G s′ t′ plan same moved room =
+    let can = Returns.keepable s t name shelf z in
+    GivenBack.gives-back name (can .near) s t (can .long) (afterKeepings ks (keep name s t shelf .shelf))
+    (Returns.keepings-leave name (can .near) s t ks o (keep name s t shelf .shelf) (Returns.kept-on name s t shelf z)) G s′ t′ plan same moved room
+
+-- 5. after an accepted coming back
+module _ (name : List ℕ) (s : Slices) (t : Tally) (moved shelf : List ℕ) (accepted : comeBack name s t moved shelf .number ≡ 0) where
+  -- memory holds the plan of the clashes of the state returned to,
+  pub back-plan : PlanOf (clashesKept (t .banks) name shelf) (comeBack name s t moved shelf .slices) (comeBack name s t moved shelf .tally)
+  back-plan = Restored.back-plan name s t moved shelf accepted
+
+  -- its waves are the rule's on them,
+  pub back-waves : (x : ℕ) → x < t .banks → getD (comeBack name s t moved shelf .slices .waves) x 0 ≡ wave (clashesKept (t .banks) name shelf) x
+  back-waves = Restored.back-waves name s t moved shelf accepted
+
+  -- and the moved slice's front lists, ascending, the banks whose wave differs, and no other
+  pub back-moved : take (comeBack name s t moved shelf .count) (comeBack name s t moved shelf .moved)
+      ≡ differing (t .banks) (s .waves) (comeBack name s t moved shelf .slices .waves)
+  back-moved = Restored.back-moved name s t moved shelf accepted
+
+pub listed-differ : (n : ℕ) (old new : List ℕ) (b : ℕ) → b < n → T (memb b (differing n old new)) ↔ (getD old b 0 ≡ getD new b 0 → ⊥)
+listed-differ = Restored.listed-differ
+
+-- 6. a refused call leaves all as it was
+pub keep-unchanged : (s : Slices) (t : Tally) (name shelf : List ℕ) → (keepNumber s t name shelf ≡ 0 → ⊥) → keep name s t shelf .shelf ≡ shelf
+keep-unchanged = Returns.keep-unchanged
