@@ -13,13 +13,14 @@ use Rattle.memory.specs.inner.View.{Long}
 use Rattle.memory.proofs.Theorems.{long-enough}
 use Rattle.text.specs.Places.{put, Puts}
 use Rattle.text.proofs.Putting.{puts-one}
-use Rattle.checkpoints.specs.Names.{placeOf}
-use Rattle.checkpoints.specs.Shelf.{placeSize, part, place, slicesIn, tallyIn, placeCells}
+use Rattle.shelf.specs.Names.{placeOf}
+use Rattle.shelf.specs.Shelf.{placeSize, part, place, slicesIn, tallyIn, placeCells}
 use Rattle.checkpoints.specs.Calls.{openShelfNumber, keepNumber, backNumber, shelfResult, unusedShelf, openShelfBy, openShelf, keptUnder, keepBy, keep}
 use Rattle.checkpoints.specs.Calls.{backResult, overAll, cameBack, backBy, comeBack}
-use Rattle.checkpoints.specs.inner.Places.{Copied, Listed}
-use Rattle.checkpoints.proofs.Places.{lent-part}
-use Rattle.checkpoints.proofs.Putting.{copied-puts, puts-long, puts-more}
+use Rattle.shelf.specs.inner.Copies.{Copied}
+use Rattle.checkpoints.specs.inner.Steps.{Listed}
+use Rattle.shelf.proofs.Places.{lent-part}
+use Rattle.shelf.proofs.Putting.{copied-puts, puts-long, puts-more}
 
 -- opening a shelf
 module _ (n : ℕ) (shelf : List ℕ) where
@@ -134,17 +135,6 @@ module _ (s : Slices) (t : Tally) (l : Long (t .banks) s) where
       let q₂ = puts-more degrees r₁ s₁ r₂ s₂ p₂ from-waves r₅ s₅ (omega (arith, length-from-degrees)) q₃ in
       let q₁ = puts-more rows r₀ s₀ r₁ s₁ p₁ from-degrees r₅ s₅ (omega (arith, length-from-rows)) q₂ in
       puts-more (1 ∷ []) at shelf r₀ s₀ p₀ from-rows r₅ s₅ (omega (arith, length-from-rows, length-append (1 ∷ []) from-rows)) q₁ .left
-
--- the parts of a place have room for its banks
-pub slices-long : (n : ℕ) (cells : List ℕ) → length cells ≡ placeSize n → longEnough n (slicesIn n cells) ≡ true
-unfolding slicesIn
-slices-long n cells e =
-    long-enough n _ (record {
-      neighbours = omega (arith, length-take (23 * n) (drop 1 cells), length-drop 1 cells);
-      degrees = omega (arith, length-take n (drop (1 + 23 * n) cells), length-drop (1 + 23 * n) cells);
-      waves = omega (arith, length-take n (drop (1 + 24 * n) cells), length-drop (1 + 24 * n) cells);
-      counts = omega (arith, length-take (24 * n) (drop (1 + 25 * n) cells), length-drop (1 + 25 * n) cells);
-    })
 
 -- coming back
 module _ (n : ℕ) (cells : List ℕ) (s : Slices) where

@@ -13,11 +13,11 @@ use Rattle.memory.specs.Plan.{Slices, longEnough, PlanOf}
 use Rattle.memory.proofs.Views.{tally-banks}
 use Rattle.memory.proofs.Theorems.{long}
 use Rattle.planner.proofs.Numbers.{held-number}
-use Rattle.checkpoints.specs.Names.{placeOf}
-use Rattle.checkpoints.specs.Shelf.{place, used, placeCells}
+use Rattle.shelf.specs.Names.{placeOf}
+use Rattle.shelf.specs.Shelf.{place, used, placeCells}
 use Rattle.checkpoints.specs.Calls.{keepNumber, backNumber, overAll, cameBack, backBy, comeBack}
 use Rattle.checkpoints.specs.Between.{GivesBack}
-use Rattle.checkpoints.proofs.Putting.{first}
+use Rattle.shelf.proofs.Putting.{first}
 use Rattle.checkpoints.proofs.Numbers.{shelf-fine, keep-fine, back-used}
 use Rattle.checkpoints.proofs.Kept.{kept-cell, kept-slices, kept-tally}
 use Rattle.checkpoints.proofs.Returns.{KeptOn}

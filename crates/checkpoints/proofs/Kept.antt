@@ -14,9 +14,9 @@ use Rattle.memory.specs.Plan.{Slices, slicesOf, neighbourCells, degreeCells, co
 use Rattle.memory.specs.inner.View.{Long}
 use Rattle.memory.proofs.Views.{tally-banks}
 use Rattle.memory.proofs.Theorems.{long, long-enough, length-neighbourCells, length-degreeCells, length-waves, length-countCells}
-use Rattle.checkpoints.specs.Shelf.{part, place, slicesIn, tallyIn, placeCells}
+use Rattle.shelf.specs.Shelf.{part, place, slicesIn, tallyIn, placeCells}
 use Rattle.checkpoints.specs.Calls.{overAll}
-use Rattle.checkpoints.proofs.Putting.{skip, skip-cell, first}
+use Rattle.shelf.proofs.Putting.{skip, skip-cell, first}
 use Rattle.checkpoints.proofs.Calls as cells
 
 -- the plan cells of n banks at the fronts of the slices, as slices

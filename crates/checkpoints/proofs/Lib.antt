@@ -1,8 +1,5 @@
 -- The laws of kept states, each on those before it, and what others may cite: Theorems.
-pub mod Bytes
-pub mod Putting
 pub mod Listing
-pub mod Places
 pub mod Numbers
 pub mod Calls
 pub mod Kept

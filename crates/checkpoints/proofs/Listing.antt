@@ -12,7 +12,7 @@ use Rattle.rule.specs.Lists.{upto, filter}
 use Rattle.rule.proofs.Lists.{filter-kept, filter-left, filter-short, length-upto}
 use Rattle.memory.specs.Cells.{over}
 use Rattle.checkpoints.specs.Calls.{differing}
-use Rattle.checkpoints.specs.inner.Places.{Listed}
+use Rattle.checkpoints.specs.inner.Steps.{Listed}
 
 pub length-differing : (b : ℕ) (old new : List ℕ) → length (differing b old new) ≤ b
 unfolding differing

@@ -14,11 +14,11 @@ use Rattle.memory.specs.Plan.{Slices, longEnough, holds}
 use Rattle.planner.specs.Questions.{firstNo}
 use Rattle.planner.specs.Calls.{planNumber}
 use Rattle.planner.proofs.Numbers.{none, Passed, plan-passed}
-use Rattle.checkpoints.specs.Names.{placeOf, known}
-use Rattle.checkpoints.specs.Shelf.{placeSize, place, used, shelfRight}
+use Rattle.shelf.specs.Names.{placeOf, known}
+use Rattle.shelf.specs.Shelf.{placeSize, place, used, shelfRight}
 use Rattle.checkpoints.specs.Calls.{shelfLong, openShelfNumber, keepNumber, backNumber}
-use Rattle.checkpoints.specs.inner.Places.{KeepReady}
-use Rattle.checkpoints.proofs.Places.{cell-used, cell-unused}
+use Rattle.checkpoints.specs.inner.Steps.{KeepReady}
+use Rattle.shelf.proofs.Places.{cell-used, cell-unused}
 
 -- opening a shelf
 module _ (n : ℕ) (shelf : List ℕ) where

@@ -8,11 +8,11 @@ use native.Mathlib.Omega.{arith}
 use lib.Dec.{eqb}
 use lib.ListN.{length, getD}
 use Rattle.text.specs.Places.{put}
-use Rattle.checkpoints.specs.Shelf.{placeSize, place, used, placeRight, shelfRight}
+use Rattle.shelf.specs.Shelf.{placeSize, place, used, placeRight, shelfRight}
 use Rattle.checkpoints.specs.Calls.{openShelfNumber, unusedShelf, openShelfBy, openShelf}
-use Rattle.checkpoints.proofs.Putting.{length-put, part-cell, put-cell, put-cell-before}
+use Rattle.shelf.proofs.Putting.{length-put, part-cell, put-cell, put-cell-before}
 use Rattle.checkpoints.proofs.Numbers.{shelf-passed}
-use Rattle.checkpoints.proofs.Places.{right-unused}
+use Rattle.shelf.proofs.Places.{right-unused}
 use Rattle.checkpoints.proofs.Shelves.{all-right}
 
 module _ (n : ℕ) (shelf : List ℕ) (z : openShelfNumber n shelf ≡ 0) where

@@ -19,11 +19,11 @@ use Rattle.memory.specs.Cells.{over}
 use Rattle.memory.specs.Plan.{Slices, longEnough, planIn, graphIn, holds, PlanOf}
 use Rattle.memory.proofs.Theorems.{long, holds-plan, plan-again, long-again, held-of}
 use Rattle.planner.proofs.Numbers.{none}
-use Rattle.checkpoints.specs.Names.{placeOf, known}
-use Rattle.checkpoints.specs.Shelf.{placeSize, part, place, used, slicesIn, tallyIn, holdsIn, placeRight, shelfRight}
+use Rattle.shelf.specs.Names.{placeOf, known}
+use Rattle.shelf.specs.Shelf.{placeSize, part, place, used, slicesIn, tallyIn, holdsIn, placeRight, shelfRight}
 use Rattle.checkpoints.specs.Calls.{shelfLong, backNumber, differing, overAll, cameBack, backBy, comeBack}
 use Rattle.checkpoints.specs.Between.{clashesKept}
-use Rattle.checkpoints.proofs.Putting.{first}
+use Rattle.shelf.proofs.Putting.{first}
 use Rattle.checkpoints.proofs.Kept.{fronts, exactly, fronts-exactly, over-exactly}
 use Rattle.checkpoints.proofs.Shelves.{each-right}
 

@@ -14,12 +14,12 @@ use Rattle.memory.specs.Plan.{Slices, longEnough, graphIn, holds, PlanOf}
 use Rattle.memory.proofs.Theorems.{long, holds-plan}
 use Rattle.planner.proofs.Numbers.{none}
 use Rattle.text.specs.Places.{put}
-use Rattle.checkpoints.specs.Names.{placeOf, known}
-use Rattle.checkpoints.specs.Shelf.{placeSize, place, placeRight, shelfRight, placeCells}
+use Rattle.shelf.specs.Names.{placeOf, known}
+use Rattle.shelf.specs.Shelf.{placeSize, place, placeRight, shelfRight, placeCells}
 use Rattle.checkpoints.specs.Calls.{shelfLong, keepNumber, keptUnder, keepBy, keep}
 use Rattle.checkpoints.specs.Between.{Keeping, afterKeepings, Others}
-use Rattle.checkpoints.proofs.Putting.{drop-after, put-again}
-use Rattle.checkpoints.proofs.Places.{place-room}
+use Rattle.shelf.proofs.Putting.{drop-after, put-again}
+use Rattle.shelf.proofs.Places.{place-room}
 use Rattle.checkpoints.proofs.Calls.{length-placeCells}
 use Rattle.checkpoints.proofs.Shelves.{length-after, place-here, place-other, kept-right, all-right, each-right}
 

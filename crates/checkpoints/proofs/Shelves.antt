@@ -14,9 +14,9 @@ use Rattle.memory.specs.inner.View.{Long}
 use Rattle.memory.proofs.Views.{tally-banks}
 use Rattle.memory.proofs.Theorems.{long, plan-holds}
 use Rattle.text.specs.Places.{put}
-use Rattle.checkpoints.specs.Shelf.{placeSize, place, slicesIn, placeRight, shelfRight, placeCells}
-use Rattle.checkpoints.proofs.Putting.{length-put, put-here, put-before, put-after}
-use Rattle.checkpoints.proofs.Places.{place-room, right-used, holds-here}
+use Rattle.shelf.specs.Shelf.{placeSize, place, slicesIn, placeRight, shelfRight, placeCells}
+use Rattle.shelf.proofs.Putting.{length-put, put-here, put-before, put-after}
+use Rattle.shelf.proofs.Places.{place-room, right-used, holds-here}
 use Rattle.checkpoints.proofs.Kept.{kept-cell, kept-slices, kept-tally, fronts-exactly, exactly-plan}
 
 -- a place ends where a later one starts, or before

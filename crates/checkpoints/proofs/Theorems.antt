@@ -12,11 +12,11 @@ use Rattle.rule.specs.Wave.{wave}
 use Rattle.memory.specs.declared.Tally.{Tally}
 use Rattle.memory.specs.Plan.{Slices, PlanOf}
 use Rattle.memory.specs.PlanCells.{planCells}
-use Rattle.checkpoints.specs.Names.{morning, noon, close, placeOf}
-use Rattle.checkpoints.specs.Shelf.{placeSize, shelfSize, place, used, slicesIn, tallyIn, shelfRight, placeCells}
+use Rattle.shelf.specs.Names.{morning, noon, close, placeOf}
+use Rattle.shelf.specs.Shelf.{placeSize, shelfSize, place, used, slicesIn, tallyIn, shelfRight, placeCells}
 use Rattle.checkpoints.specs.Calls.{openShelfNumber, keepNumber, openShelf, keep, backResult, differing, comeBack}
 use Rattle.checkpoints.specs.Between.{Keeping, afterKeepings, Others, GivesBack, clashesKept}
-use Rattle.checkpoints.proofs.Bytes as Bytes
+use Rattle.shelf.proofs.Bytes as Bytes
 use Rattle.checkpoints.proofs.Opened as Opened
 use Rattle.checkpoints.proofs.Returns as Returns
 use Rattle.checkpoints.proofs.GivenBack as GivenBack

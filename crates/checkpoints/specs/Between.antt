@@ -7,8 +7,8 @@ use Rattle.memory.specs.declared.Tally.{Tally}
 use Rattle.rule.specs.Graph.{Graph}
 use Rattle.memory.specs.Plan.{Slices, graphIn}
 use Rattle.memory.specs.PlanCells.{planCells}
-use Rattle.checkpoints.specs.Names.{placeOf}
-use Rattle.checkpoints.specs.Shelf.{place, slicesIn}
+use Rattle.shelf.specs.Names.{placeOf}
+use Rattle.shelf.specs.Shelf.{place, slicesIn}
 use Rattle.checkpoints.specs.Calls.{keep, BackResult}
 
 -- a call of keep: the name, the slices and the tally that it is lent

@@ -10,8 +10,8 @@ use Rattle.memory.specs.Cells.{over}
 use Rattle.memory.specs.Plan.{Slices, longEnough, holds}
 use Rattle.planner.specs.Questions.{Question, _else_, firstNo}
 use Rattle.text.specs.Places.{put}
-use Rattle.checkpoints.specs.Names.{placeOf, known}
-use Rattle.checkpoints.specs.Shelf.{placeSize, shelfSize, place, used, slicesIn, tallyIn, shelfRight, placeCells}
+use Rattle.shelf.specs.Names.{placeOf, known}
+use Rattle.shelf.specs.Shelf.{placeSize, shelfSize, place, used, slicesIn, tallyIn, shelfRight, placeCells}
 
 -- has the shelf room for n banks?
 unfoldable pub shelfLong : ℕ → List ℕ → Bool

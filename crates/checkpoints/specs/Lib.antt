@@ -1,7 +1,4 @@
--- What a reader must believe of kept states: Names, Shelf, Calls; Between for the theorem on what lies between keeping and coming back.
--- inner serves the functions.
-pub mod Names
-pub mod Shelf
+-- What a reader must believe of kept states: Calls; Between for the theorems. inner serves the functions.
 pub mod Calls
 pub mod Between
 pub mod inner

@@ -1,2 +1,2 @@
 -- Inner vocabulary: for the proofs of functions.
-pub mod Places
+pub mod Steps

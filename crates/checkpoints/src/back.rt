@@ -1,17 +1,17 @@
 // Coming back to a kept plan.
 use crate::CameBack;
 use crate::Returned;
-use crate::cells::put_part;
 use crate::keeping::check_keep;
-use crate::names::place_of;
-use crate::shelf::place_size;
-use crate::shelf::tally_in;
 use memory::Tally;
 use rule::Bank;
 use rule::COUNT_CELLS;
 use rule::MOST_BANKS;
 use rule::ROW_CELLS;
 use rule::wide;
+use shelf::place_of;
+use shelf::place_size;
+use shelf::put_part;
+use shelf::tally_in;
 ghost use mathlib.Core.Bool.{true};
 ghost use mathlib.Core.List.{List};
 ghost use mathlib.Core.Path.{_≡_};
@@ -19,9 +19,9 @@ ghost use Prim.Native.Nat.{ℕ, _+_, _≤_, _<_};
 ghost use lib.ListN.{length};
 ghost use Rattle.memory.specs.Plan.{longEnough};
 ghost use Rattle.memory.specs.Lent.{slicesGiven, slicesBefore, slicesAfter};
-ghost use Rattle.checkpoints.specs.Shelf.{placeSize, slicesIn};
+ghost use Rattle.shelf.specs.Shelf.{placeSize, slicesIn};
 ghost use Rattle.checkpoints.specs.Calls.{backNumber, backResult, overAll, cameBack, comeBack};
-ghost use Rattle.checkpoints.specs.inner.Places.{Listed, KeepReady};
+ghost use Rattle.checkpoints.specs.inner.Steps.{Listed, KeepReady};
 
 // The questions of coming back, for a moved slice of so many cells.
 fn check_back(

@@ -1,15 +1,15 @@
 // The calls that change the shelf: opening it, and keeping the plan under a name.
-use crate::cells::put_cells;
-use crate::names::PLACES;
-use crate::names::place_of;
-use crate::shelf::place_size;
-use crate::shelf::shelf_right;
 use memory::Tally;
 use planner::check_plan;
 use rule::COUNT_CELLS;
 use rule::MOST_BANKS;
 use rule::ROW_CELLS;
 use rule::wide;
+use shelf::PLACES;
+use shelf::place_of;
+use shelf::place_size;
+use shelf::put_cells;
+use shelf::shelf_right;
 ghost use mathlib.Core.Bool.{true};
 ghost use mathlib.Core.Path.{_≡_};
 ghost use Prim.Native.Nat.{_+_, _≤_};
@@ -17,9 +17,9 @@ ghost use lib.ListN.{length};
 ghost use Rattle.memory.specs.Plan.{longEnough};
 ghost use Rattle.memory.specs.Lent.{slicesGiven, slicesBefore};
 ghost use Rattle.text.specs.Places.{put};
-ghost use Rattle.checkpoints.specs.Shelf.{placeSize, placeCells};
+ghost use Rattle.shelf.specs.Shelf.{placeSize, placeCells};
 ghost use Rattle.checkpoints.specs.Calls.{openShelfNumber, keepNumber, shelfResult, openShelf, keep as kept};
-ghost use Rattle.checkpoints.specs.inner.Places.{KeepReady};
+ghost use Rattle.checkpoints.specs.inner.Steps.{KeepReady};
 
 // The questions of opening a shelf.
 fn check_shelf(shelf: &[u16], banks: u16) -> u16

@@ -1,10 +1,7 @@
 // Kept states: a plan is kept on a shelf in lent memory under one of three names, and comes back from there.
 mod back;
-mod cells;
 mod keeping;
 mod lent;
-mod names;
-mod shelf;
 
 pub use back::come_back_core;
 pub use keeping::keep;

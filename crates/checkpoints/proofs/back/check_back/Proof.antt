@@ -4,7 +4,7 @@ use mathlib.Core.Path.{refl, sym, _∙_}
 use native.Mathlib.Omega.{arith}
 use Rattle.memory.specs.Lent.{slicesGiven}
 use Rattle.checkpoints.proofs.Numbers.{back-many, back-short, back-keep, back-unused, back-fine}
-use Rattle.checkpoints.proofs.Places.{place-room}
+use Rattle.shelf.proofs.Places.{place-room}
 use Rattle.checkpoints.proofs.back.check_back.Statement.{statement}
 use Rattle.checkpoints.proofs.back.check_back.Tie as tie
 

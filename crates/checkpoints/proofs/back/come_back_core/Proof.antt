@@ -5,9 +5,9 @@ use Prim.Native.Nat.{_+_, _*_}
 use native.Mathlib.Omega.{arith}
 use Rattle.memory.specs.Lent.{slicesGiven}
 use Rattle.checkpoints.proofs.Calls.{back-refused, back-done}
-use Rattle.checkpoints.proofs.Places.{place-room, lent-place}
-use Rattle.checkpoints.proofs.Putting.{length-lent}
-use Rattle.checkpoints.specs.Names.{placeOf}
+use Rattle.shelf.proofs.Places.{place-room, lent-place}
+use Rattle.shelf.proofs.Putting.{length-lent}
+use Rattle.shelf.specs.Names.{placeOf}
 use Rattle.checkpoints.proofs.back.come_back_core.Statement.{statement}
 use Rattle.checkpoints.proofs.back.come_back_core.Tie as tie
 

@@ -5,7 +5,7 @@ use Prim.Native.Nat.{_-_, _≤_}
 use native.Mathlib.Omega.{arith}
 use lib.ListN.{length}
 use Rattle.checkpoints.proofs.Listing.{length-differing, listed-none}
-use Rattle.checkpoints.specs.inner.Places.{Listed}
+use Rattle.checkpoints.specs.inner.Steps.{Listed}
 use Rattle.checkpoints.proofs.back.list_moved.Statement.{statement}
 use Rattle.checkpoints.proofs.back.list_moved.Tie as tie
 

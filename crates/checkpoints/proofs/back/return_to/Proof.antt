@@ -5,7 +5,7 @@ use native.Mathlib.Omega.{arith}
 use Rattle.memory.proofs.Theorems.{long}
 use Rattle.memory.specs.Lent.{slicesGiven}
 use Rattle.checkpoints.proofs.Calls.{lent-waves, came}
-use Rattle.checkpoints.proofs.Putting.{length-lent}
+use Rattle.shelf.proofs.Putting.{length-lent}
 use Rattle.checkpoints.proofs.back.return_to.Statement.{statement}
 use Rattle.checkpoints.proofs.back.return_to.Tie as tie
 

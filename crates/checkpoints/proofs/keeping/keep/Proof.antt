@@ -3,7 +3,7 @@ use borrow.Author.Needs.{needs}
 use mathlib.Core.Path.{refl, sym, _∙_}
 use native.Mathlib.Omega.{arith}
 use Rattle.checkpoints.proofs.Calls.{keep-refused, keep-done}
-use Rattle.checkpoints.proofs.Places.{place-room}
+use Rattle.shelf.proofs.Places.{place-room}
 use Rattle.checkpoints.proofs.keeping.keep.Statement.{statement}
 use Rattle.checkpoints.proofs.keeping.keep.Tie as tie
 

@@ -1,0 +1,148 @@
+-- `holds_in`: the planner's own test on the parts of the place.
+use borrow.Author.Needs.{needs}
+use mathlib.Core.Path.{_≡_}
+use Prim.Native.Nat.{ℕ, _+_, _*_}
+use native.Mathlib.Omega.{arith}
+use Rattle.shelf.proofs.Places.{holds-other, holds-here, slices-from, slices-long}
+use Rattle.shelf.proofs.shelf.holds_in.Statement.{statement}
+use Rattle.shelf.proofs.shelf.holds_in.Tie as tie
+
+wide-requires : tie.Need-wide-requires
+wide-requires c κs = search needs
+
+tally-in-requires : tie.Need-tally-in-requires
+tally-in-requires c κs = search needs
+
+returns : tie.Need-returns
+returns c =
+    let told = c .before .before in
+    let at1 = told .before .before .before in
+    holds-other (at1 .args .banks) (at1 .args .place .now) _ (rw (told .before .wide .ensures) at (told .tally-in .ensures)) (c .if1 .taken)
+
+mul-degree : tie.Need-mul-degree
+mul-degree c = search needs
+
+add-degree : tie.Need-add-degree
+add-degree c = search needs
+
+add-wave : tie.Need-add-wave
+add-wave c = search needs
+
+add-count : tie.Need-add-count
+add-count c = search needs
+
+mul-end : tie.Need-mul-end
+mul-end c = search needs
+
+add-end : tie.Need-add-end
+add-end c = search needs
+
+mul-holds-plan : tie.Need-mul-holds-plan
+mul-holds-plan c = search needs
+
+sub-holds-plan : tie.Need-sub-holds-plan
+sub-holds-plan c = search needs
+
+part-holds-plan-start : tie.Need-part-holds-plan-start
+part-holds-plan-start c = search needs
+
+part-holds-plan-end : tie.Need-part-holds-plan-end
+part-holds-plan-end c = search needs
+
+mul-holds-plan-2 : tie.Need-mul-holds-plan-2
+mul-holds-plan-2 c = search needs
+
+sub-holds-plan-2 : tie.Need-sub-holds-plan-2
+sub-holds-plan-2 c = search needs
+
+part-holds-plan-start-2 : tie.Need-part-holds-plan-start-2
+part-holds-plan-start-2 c = search needs
+
+part-holds-plan-end-2 : tie.Need-part-holds-plan-end-2
+part-holds-plan-end-2 c = search needs
+
+mul-holds-plan-3 : tie.Need-mul-holds-plan-3
+mul-holds-plan-3 c = search needs
+
+sub-holds-plan-3 : tie.Need-sub-holds-plan-3
+sub-holds-plan-3 c = search needs
+
+part-holds-plan-start-3 : tie.Need-part-holds-plan-start-3
+part-holds-plan-start-3 c = search needs
+
+part-holds-plan-end-3 : tie.Need-part-holds-plan-end-3
+part-holds-plan-end-3 c = search needs
+
+mul-holds-plan-4 : tie.Need-mul-holds-plan-4
+mul-holds-plan-4 c = search needs
+
+sub-holds-plan-4 : tie.Need-sub-holds-plan-4
+sub-holds-plan-4 c = search needs
+
+part-holds-plan-start-4 : tie.Need-part-holds-plan-start-4
+part-holds-plan-start-4 c = search needs
+
+part-holds-plan-end-4 : tie.Need-part-holds-plan-end-4
+part-holds-plan-end-4 c = search needs
+
+holds-plan-requires : tie.Need-holds-plan-requires
+holds-plan-requires c κs =
+    let at1 = c .before .before .before .before .before .before .before .before .before in
+    let n = c .before .before .before .before .before .before .before .wide .result in
+    let t = c .before .before .before .before .before .before .tally-in in
+    let cells = at1 .args .place .now in
+    let degree = 1 + n * 23 in
+    let wave = degree + n in
+    let count = wave + n in
+    let end = count + n * 24 in
+    let is-n = c .before .before .before .before .before .before .before .wide .ensures in
+    let banks = c .before .before .before .before .if1 .left in
+    let parts = slices-from (at1 .args .banks) degree wave count end cells (omega arith) (omega arith) (omega arith) (omega arith) in
+    (omega (arith, banks), rw (banks, parts) (slices-long (at1 .args .banks) cells (at1 .pre .1)))
+
+returns-2 : tie.Need-returns-2
+returns-2 c =
+    let at1 = c .before .before .before .before .before .before .before .before .before .before in
+    let n = c .before .before .before .before .before .before .before .before .wide .result in
+    let t = c .before .before .before .before .before .before .before .tally-in in
+    let cells = at1 .args .place .now in
+    let degree = 1 + n * 23 in
+    let wave = degree + n in
+    let count = wave + n in
+    let end = count + n * 24 in
+    let is-n = c .before .before .before .before .before .before .before .before .wide .ensures in
+    let banks = c .before .before .before .before .before .if1 .left in
+    let parts = slices-from (at1 .args .banks) degree wave count end cells (omega arith) (omega arith) (omega arith) (omega arith) in
+    holds-here (at1 .args .banks) cells _ (t .result) (rw is-n at (t .ensures)) banks (rw parts at (c .holds-plan .ensures))
+
+pub holds-in-spec : {M : Type 1} → statement M
+holds-in-spec =
+    tie.close
+    (tie.spec
+    wide-requires
+    tally-in-requires
+    returns
+    mul-degree
+    add-degree
+    add-wave
+    add-count
+    mul-end
+    add-end
+    mul-holds-plan
+    sub-holds-plan
+    part-holds-plan-start
+    part-holds-plan-end
+    mul-holds-plan-2
+    sub-holds-plan-2
+    part-holds-plan-start-2
+    part-holds-plan-end-2
+    mul-holds-plan-3
+    sub-holds-plan-3
+    part-holds-plan-start-3
+    part-holds-plan-end-3
+    mul-holds-plan-4
+    sub-holds-plan-4
+    part-holds-plan-start-4
+    part-holds-plan-end-4
+    holds-plan-requires
+    returns-2)

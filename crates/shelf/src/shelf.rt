@@ -1,0 +1,90 @@
+// The shelf's places, and question 5 of the shelf: the planner's own test on the parts of each used place.
+use memory::Tally;
+use memory::holds_plan;
+use rule::COUNT_CELLS;
+use rule::ROW_CELLS;
+use rule::wide;
+ghost use mathlib.Core.Path.{_≡_};
+ghost use Prim.Native.Nat.{_≤_};
+ghost use lib.ListN.{length};
+ghost use Rattle.shelf.specs.Shelf.{placeSize, shelfSize, tallyIn, holdsIn, placeRight, shelfRight};
+
+// The cells of a place beside 49 for each bank: the used cell and the tally.
+const OTHER_CELLS: usize = 4;
+
+// The cells of a place of so many banks.
+pub fn place_size(banks: u16) -> usize
+    ensures { λ r. ⌜ r ≡ placeSize banks ⌝ }
+{
+    wide(banks) * (ROW_CELLS + COUNT_CELLS + 2) + OTHER_CELLS
+}
+
+// The tally in a place of n banks.
+pub fn tally_in(place: &[u16], n: usize) -> Tally
+    requires { ⌜ length (now place) ≡ placeSize n ⌝ }
+    ensures { λ r. ⌜ r ≡ tallyIn n (now (place .entry)) ⌝ }
+{
+    let at = n * (ROW_CELLS + COUNT_CELLS + 2);
+    Tally {
+        banks: place[at + 1],
+        clashes: place[at + 2],
+        waves: place[at + 3],
+    }
+}
+
+// Whether a place holds a plan of so many banks, its tally included.
+fn holds_in(place: &[u16], banks: u16) -> bool
+    requires { ⌜ (banks ≤ 1024) × (length (now place) ≡ placeSize banks) ⌝ }
+    ensures { λ r. ⌜ r ≡ holdsIn banks (now (place .entry)) ⌝ }
+{
+    let n = wide(banks);
+    let tally = tally_in(place, n);
+    if tally.banks != banks {
+        return false;
+    }
+    let row = 1;
+    let degree = row + n * ROW_CELLS;
+    let wave = degree + n;
+    let count = wave + n;
+    let end = count + n * COUNT_CELLS;
+    holds_plan(
+        &place[row..degree],
+        &place[degree..wave],
+        &place[wave..count],
+        &place[count..end],
+        tally,
+    )
+}
+
+// Whether a place is unused, or used and holds a plan of so many banks.
+fn place_right(place: &[u16], banks: u16) -> bool
+    requires { ⌜ (banks ≤ 1024) × (length (now place) ≡ placeSize banks) ⌝ }
+    ensures { λ r. ⌜ r ≡ placeRight banks (now (place .entry)) ⌝ }
+{
+    let used = place[0];
+    if used == 0 {
+        return true;
+    }
+    if used != 1 {
+        return false;
+    }
+    holds_in(place, banks)
+}
+
+// Question 5 of a shelf that is long enough.
+pub fn shelf_right(shelf: &[u16], banks: u16) -> bool
+    requires { ⌜ (banks ≤ 1024) × (shelfSize banks ≤ length (now shelf)) ⌝ }
+    ensures { λ r. ⌜ r ≡ shelfRight banks (now (shelf .entry)) ⌝ }
+{
+    let morning = 0;
+    let noon = place_size(banks);
+    let close = noon + noon;
+    let end = close + noon;
+    if !place_right(&shelf[morning..noon], banks) {
+        return false;
+    }
+    if !place_right(&shelf[noon..close], banks) {
+        return false;
+    }
+    place_right(&shelf[close..end], banks)
+}
