@@ -14,8 +14,8 @@
  * Apart from its result cells a refused call changes nothing (see wave_plan_read_list and wave_plan_replay for the rows or fields
  * before the one refused).
  *
- * No call allocates, and none keeps a pointer. Those that ask whether the memory holds a plan, which are all but open, a list and a
- * replay, need up to 56 KB of stack, the others less than 8 KB.
+ * No call allocates, and none keeps a pointer. Those that ask whether the memory holds a plan, which are all but open, open_shelf, a
+ * list and a replay, need up to 56 KB of stack, the others less than 8 KB.
  */
 #ifndef WAVE_PLAN_H
 #define WAVE_PLAN_H
@@ -34,7 +34,8 @@ extern "C" {
  *   waves        n cells. The wave of b.
  *   counts       24 * n cells. Cell 24 * b + c: how many neighbours of b that are earlier than b stand in wave c.
  *   trail        n cells. After an accepted edit its front holds the banks that were taken up, in the new order.
- *   moved        n cells. After an accepted edit its front holds the banks whose wave changed, in the new order.
+ *   moved        n cells. After an accepted edit its front holds the banks whose wave changed, in the new order. After a return to a
+ *                kept plan (wave_plan_come_back) it holds them ascending.
  */
 #define WAVE_PLAN_MOST_BANKS 1024
 #define WAVE_PLAN_ROW_CELLS 23
@@ -52,6 +53,7 @@ extern "C" {
 #define WAVE_PLAN_RECORD_RESULTS 3
 #define WAVE_PLAN_REPLAY_RESULTS 2
 #define WAVE_PLAN_POSTER_RESULTS 1
+#define WAVE_PLAN_COME_BACK_RESULTS 1
 
 /* The most bytes of a list, of a sheet, of a journal, and of a poster. */
 #define WAVE_PLAN_MOST_LIST_BYTES 60000
@@ -67,8 +69,17 @@ extern "C" {
 #define WAVE_PLAN_FIRST_BYTES 5
 #define WAVE_PLAN_ENTRY_BYTES 7
 
+/* A shelf keeps up to three plans of n banks, n being the bank count of the present plan. It is one slice of 16-bit cells: three
+ * places, in the order of the names below. A place is a used cell, 0 or 1; then the cells of the plan, neighbours, degrees, waves and
+ * counts; then its tally, banks, clashes and waves. A place whose used cell is 0 may hold anything; a used cell above 1 gets 3.
+ * A name is eight bytes, padded with spaces: "MORNING ", "NOON    " or "CLOSE   ". There are no others. */
+#define WAVE_PLAN_PLACES 3
+#define WAVE_PLAN_PLACE_CELLS(n) (49 * (size_t)(n) + 4)
+#define WAVE_PLAN_SHELF_CELLS(n) (WAVE_PLAN_PLACES * WAVE_PLAN_PLACE_CELLS(n))
+#define WAVE_PLAN_NAME_BYTES 8
+
 /* What a call returns: 0, or the number of the first question that is answered no. The questions of each call, in their order:
- *   open                          1, 2
+ *   open, open_shelf              1, 2
  *   add                           1, 2, 3, 4, 5, 6, 8
  *   strike                        1, 2, 3, 4, 5, 7
  *   wave_of, clashes_of           1, 2, 3, 4
@@ -78,11 +89,13 @@ extern "C" {
  *   add_recorded                  9, 13, 1, 2, 3, 14, 4, 5, 6, 8, 15
  *   strike_recorded               9, 13, 1, 2, 3, 14, 4, 5, 7, 15
  *   replay                        9, 13, 1, 2; then each field in turn: 14, 4, 5, 6 or 7, 8
+ *   keep                          1, 2, 3, 16
+ *   come_back                     1, 2, 3, 16, 17
  */
 #define WAVE_PLAN_ACCEPTED 0
 #define WAVE_PLAN_TOO_MANY_BANKS 1  /* Is the bank count at most 1024? */
-#define WAVE_PLAN_SHORT_SLICE 2     /* Is each plan, trail and moved slice that the call is lent long enough? Tally and result too. */
-#define WAVE_PLAN_NO_PLAN 3         /* Does the memory hold a plan? */
+#define WAVE_PLAN_SHORT_SLICE 2     /* Is each plan, trail, moved and shelf slice that is lent long enough? Tally and result too. */
+#define WAVE_PLAN_NO_PLAN 3         /* Does the memory hold a plan, and each used place of a shelf one of as many banks? */
 #define WAVE_PLAN_NO_SUCH_BANK 4    /* Is each named bank below the bank count? */
 #define WAVE_PLAN_SAME_BANK 5       /* Are the two banks different? */
 #define WAVE_PLAN_CLASH_THERE 6     /* (add) Are they free of a clash so far? */
@@ -95,6 +108,8 @@ extern "C" {
 #define WAVE_PLAN_NO_FIRST_FIELD 13 /* (journal) Is it within the slice, and its first field whole and of the stated form? */
 #define WAVE_PLAN_WRONG_FIELD 14    /* (journal, each further field in turn) Are tag and length of the stated form? */
 #define WAVE_PLAN_NO_SPACE 15       /* (start, record) Is there space in the slice, and in 60000 bytes, for what is to be written? */
+#define WAVE_PLAN_UNKNOWN_NAME 16   /* (keep, come back) Is the name one of the three? */
+#define WAVE_PLAN_NOTHING_KEPT 17   /* (come back) Is a plan kept under the name? */
 
 /* Opens a plan of `banks` banks with no clash, all waves 0. */
 uint16_t wave_plan_open(uint16_t *neighbours, size_t neighbours_cells, uint16_t *degrees, size_t degrees_cells,
@@ -177,6 +192,24 @@ uint16_t wave_plan_write_poster(const uint16_t *neighbours, size_t neighbours_ce
                                 const uint16_t *waves, size_t waves_cells, const uint16_t *counts, size_t counts_cells,
                                 const uint16_t *tally, size_t tally_cells, uint8_t *out, size_t out_bytes,
                                 uint16_t *result, size_t result_cells);
+
+/* Opens a shelf for plans of `banks` banks: the three used cells become 0, and no other cell changes. Whatever was kept is gone. */
+uint16_t wave_plan_open_shelf(uint16_t *shelf, size_t shelf_cells, uint16_t banks);
+
+/* Keeps the plan and its tally under a name, in the place of what was kept there before. The other two places stay. */
+uint16_t wave_plan_keep(const uint16_t *neighbours, size_t neighbours_cells, const uint16_t *degrees, size_t degrees_cells,
+                        const uint16_t *waves, size_t waves_cells, const uint16_t *counts, size_t counts_cells,
+                        const uint16_t *tally, size_t tally_cells, uint16_t *shelf, size_t shelf_cells,
+                        const uint8_t *name, size_t name_bytes);
+
+/* Comes back to the plan that is kept under a name: plan memory and tally become what its place holds. The front of `moved` gets the
+ * banks whose wave differs, ascending. The shelf stays. A journal of the plan left ends here; start a new one. result[0]: how many
+ * banks moved. */
+uint16_t wave_plan_come_back(uint16_t *neighbours, size_t neighbours_cells, uint16_t *degrees, size_t degrees_cells,
+                             uint16_t *waves, size_t waves_cells, uint16_t *counts, size_t counts_cells,
+                             uint16_t *moved, size_t moved_cells, uint16_t *tally, size_t tally_cells,
+                             const uint16_t *shelf, size_t shelf_cells, const uint8_t *name, size_t name_bytes,
+                             uint16_t *result, size_t result_cells);
 
 #ifdef __cplusplus
 }

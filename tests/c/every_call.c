@@ -6,7 +6,7 @@
 
 #include "wave_plan.h"
 
-enum { ROW = WAVE_PLAN_ROW_CELLS, COUNT = WAVE_PLAN_COUNT_CELLS, TALLY = WAVE_PLAN_TALLY_CELLS, NUMBERS = 16 };
+enum { ROW = WAVE_PLAN_ROW_CELLS, COUNT = WAVE_PLAN_COUNT_CELLS, TALLY = WAVE_PLAN_TALLY_CELLS, NUMBERS = 18 };
 
 /* A plan's slices: a caller may lend them shorter than they are, by the numbers of cells. */
 typedef struct {
@@ -408,6 +408,152 @@ static void of_replay(void) {
     gone(p);
 }
 
+enum { PLACE = WAVE_PLAN_PLACE_CELLS(4), SHELF = WAVE_PLAN_SHELF_CELLS(4) };
+
+/* An open shelf for four banks; its other cells are 7. */
+static uint16_t *open_shelf(void) {
+    uint16_t *shelf = cells(SHELF);
+    GIVES(0, wave_plan_open_shelf(shelf, SHELF, 4));
+    return shelf;
+}
+
+/* A name in a piece of memory of its own. */
+static uint8_t *name_of(const char *name) {
+    size_t length = strlen(name);
+    uint8_t *bytes = malloc(length ? length : 1);
+    if (!bytes) exit(2);
+    memcpy(bytes, name, length);
+    return bytes;
+}
+
+static uint16_t keep(Plan p, uint16_t *shelf, size_t shelf_cells, const char *name) {
+    uint8_t *bytes = name_of(name);
+    uint16_t number = wave_plan_keep(PLAN(p), TALLY_OF(p), shelf, shelf_cells, bytes, strlen(name));
+    free(bytes);
+    return number;
+}
+
+static uint16_t come_back(Plan p, const uint16_t *shelf, size_t shelf_cells, const char *name) {
+    uint8_t *bytes = name_of(name);
+    uint16_t number = wave_plan_come_back(PLAN(p), SLICE(p, moved), TALLY_OF(p), shelf, shelf_cells, bytes, strlen(name), RESULT_OF(p));
+    free(bytes);
+    return number;
+}
+
+/* Names that are not known: of another length, in small letters, with other bytes than spaces, and with one byte changed. */
+static const char *const unknown[] = {"", "NOON", "NOON   ", "NOON     ", "noon    ", "NOON\t\t\t\t", "    NOON", "MORNING", "MORNINGS", "CLOSE  s"};
+enum { UNKNOWN = sizeof unknown / sizeof *unknown };
+
+static void of_open_shelf(void) {
+    uint16_t *shelf = cells(SHELF + 1);
+    GIVES(1, wave_plan_open_shelf(shelf, SHELF, WAVE_PLAN_MOST_BANKS + 1));
+    GIVES(2, wave_plan_open_shelf(shelf, SHELF - 1, 4));
+    GIVES(2, wave_plan_open_shelf(shelf, SHELF + 1, 5));
+    for (int i = 0; i <= SHELF; i++) IS(shelf[i], 7);
+    GIVES(0, wave_plan_open_shelf(shelf, SHELF + 1, 4));
+    for (int i = 0; i < SHELF; i++) IS(shelf[i], i % PLACE ? 7 : 0);
+    IS(shelf[SHELF], 7);
+    free(shelf);
+}
+
+static void of_keep(void) {
+    Plan p = four_banks(WAVE_PLAN_LIST_RESULTS);
+    uint16_t *shelf = open_shelf(), *place = shelf + PLACE;
+    for (int i = 0; i < UNKNOWN; i++) GIVES(16, keep(p, shelf, SHELF, unknown[i]));
+    GIVES(2, keep(p, shelf, SHELF - 1, "NOON    "));
+    SHORT_TALLY(p, keep(p, shelf, SHELF, "NOON    "));
+    p.counts_cells--;
+    GIVES(2, keep(p, shelf, SHELF, "NOON    "));
+    p.counts_cells++;
+    for (int i = 0; i < SHELF; i++) IS(shelf[i], i % PLACE ? 7 : 0);
+    GIVES(0, keep(p, shelf, SHELF, "NOON    "));
+    for (int i = 0; i < SHELF; i++)
+        if (i / PLACE != 1) IS(shelf[i], i % PLACE ? 7 : 0);
+    IS(place[0], 1);
+    IS(memcmp(place + 1, p.neighbours, ROW * 4 * sizeof *place), 0);
+    for (int b = 0; b < 4; b++) {
+        IS(place[1 + ROW * 4 + b], 2);
+        IS(place[1 + ROW * 4 + 4 + b], b % 2);
+    }
+    IS(memcmp(place + 1 + ROW * 4 + 8, p.counts, COUNT * 4 * sizeof *place), 0);
+    IS(place[PLACE - 3], 4);
+    IS(place[PLACE - 2], 4);
+    IS(place[PLACE - 1], 2);
+    GIVES(0, keep(p, shelf, SHELF, "MORNING "));
+    GIVES(0, keep(p, shelf, SHELF, "CLOSE   "));
+    for (int i = 0; i < PLACE; i++) IS(shelf[i] == place[i] && place[PLACE + i] == place[i], 1);
+    GIVES(0, read_list(p, "N 4\n+ 0 1"));
+    GIVES(0, keep(p, shelf, SHELF, "NOON    ")); /* kept again */
+    IS(place[PLACE - 2], 1);
+    IS(shelf[PLACE - 2] + place[2 * PLACE - 2], 8);
+    place[0] = 2;
+    GIVES(3, keep(p, shelf, SHELF, "CLOSE   "));
+    place[0] = 1;
+    place[PLACE - 3] = 3; /* the clash is one of three banks as well */
+    GIVES(3, keep(p, shelf, SHELF, "NOON    ")); /* the place to be replaced is asked about too */
+    GIVES(3, keep(p, shelf, SHELF, ""));
+    GIVES(2, keep(p, shelf, SHELF - 1, ""));
+    place[0] = 0;
+    GIVES(0, keep(p, shelf, SHELF, "CLOSE   ")); /* an unused place is not read */
+    p.degrees[0]++;
+    GIVES(3, keep(p, shelf, SHELF, "CLOSE   "));
+    p.tally[0] = WAVE_PLAN_MOST_BANKS + 1;
+    GIVES(1, keep(p, shelf, SHELF, "CLOSE   "));
+    free(shelf);
+    gone(p);
+}
+
+static void of_come_back(void) {
+    Plan p = four_banks(WAVE_PLAN_COME_BACK_RESULTS);
+    uint16_t *shelf = open_shelf();
+    GIVES(17, come_back(p, shelf, SHELF, "NOON    "));
+    IS(p.result[0], 0);
+    GIVES(0, keep(p, shelf, SHELF, "NOON    "));
+    uint16_t *copy_of_shelf = cells(SHELF);
+    memcpy(copy_of_shelf, shelf, SHELF * sizeof *shelf);
+    GIVES(0, read_list(p, "N 4\n+ 0 1\n+ 1 2\n+ 2 3\n+ 0 3\n+ 0 2")); /* waves 0 2 1 2 */
+    p.moved[3] = 7;
+    p.trail[0] = 7;
+    for (int i = 0; i < UNKNOWN; i++) GIVES(16, come_back(p, shelf, SHELF, unknown[i]));
+    IS(p.result[0], 0);
+    GIVES(17, come_back(p, shelf, SHELF, "CLOSE   "));
+    GIVES(2, come_back(p, shelf, SHELF - 1, "NOON    "));
+    SHORT_TALLY(p, come_back(p, shelf, SHELF, "NOON    "));
+    p.moved_cells--;
+    GIVES(2, come_back(p, shelf, SHELF, "NOON    "));
+    IS(p.result[0], 0);
+    p.moved_cells++;
+    p.result[0] = 9;
+    SHORT_RESULT(p, come_back(p, shelf, SHELF, "NOON    "));
+    IS(p.result[0], 9);
+    IS(p.waves[1], 2);
+    GIVES(0, come_back(p, shelf, SHELF, "NOON    "));
+    IS(p.result[0], 3);
+    for (int b = 0; b < 4; b++) {
+        IS(p.moved[b], b < 3 ? b + 1 : 7);
+        IS(p.waves[b], b % 2);
+        IS(p.degrees[b], 2);
+    }
+    IS(p.trail[0], 7);
+    IS(p.tally[1], 4);
+    IS(p.tally[2], 2);
+    IS(memcmp(shelf, copy_of_shelf, SHELF * sizeof *shelf), 0);
+    GIVES(0, keep(p, shelf, SHELF, "NOON    "));
+    IS(memcmp(shelf, copy_of_shelf, SHELF * sizeof *shelf), 0); /* the same plan, cell by cell */
+    shelf[2 * PLACE - 3] = 3;
+    GIVES(3, come_back(p, shelf, SHELF, "MORNING "));
+    GIVES(3, come_back(p, shelf, SHELF, ""));
+    shelf[2 * PLACE - 3] = 4;
+    p.counts[0]++;
+    GIVES(3, come_back(p, shelf, SHELF, "NOON    "));
+    p.tally[0] = WAVE_PLAN_MOST_BANKS + 1;
+    GIVES(1, come_back(p, shelf, SHELF, "NOON    "));
+    IS(p.result[0], 0);
+    free(copy_of_shelf);
+    free(shelf);
+    gone(p);
+}
+
 int main(void) {
     static const struct {
         const char *name;
@@ -423,7 +569,10 @@ int main(void) {
                  {"wave_plan_start_journal", of_start_journal},
                  {"wave_plan_add_recorded", of_add_recorded},
                  {"wave_plan_strike_recorded", of_strike_recorded},
-                 {"wave_plan_replay", of_replay}};
+                 {"wave_plan_replay", of_replay},
+                 {"wave_plan_open_shelf", of_open_shelf},
+                 {"wave_plan_keep", of_keep},
+                 {"wave_plan_come_back", of_come_back}};
     for (size_t i = 0; i < sizeof calls / sizeof *calls; i++) {
         answers = 0;
         calls[i].test();

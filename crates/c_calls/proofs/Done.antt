@@ -10,6 +10,7 @@ use Rattle.memory.specs.Plan.{Slices}
 use Rattle.memory.specs.Memory.{Memory, memoryOf}
 use Rattle.planner.specs.Calls.{OpenResult, opened, bankNumber, waveOf, clashesOf}
 use Rattle.journal.specs.Calls.{RecordResult, recorded}
+use Rattle.checkpoints.specs.Calls.{ShelfResult, shelfResult, keep, BackResult, comeBack}
 use Rattle.c_cells.specs.CellMemory.{tallyIn, tallyCells, shortNumber, CellMemory, cellsOf, answered}
 use Rattle.c_cells.proofs.Rooms.{roomed-none}
 use Rattle.c_cells.proofs.Calls.{on-memory, put-as, refused, called}
@@ -19,6 +20,7 @@ use Rattle.c_calls.specs.declared.sources.Made.{Made}
 use Rattle.c_calls.specs.Calls.{openAnswered, openDone, openCall, listOutcome, listCall, bankAnswered, waveDone, waveCall}
 use Rattle.c_calls.specs.Calls.{rowStart, clashesDone, clashesCall, TextOutcome, textAnswered, textDone, textCall}
 use Rattle.c_calls.specs.Journals.{recordAnswered, recordDone, recordCall, replayOutcome, replayCall}
+use Rattle.c_calls.specs.Shelves.{keepCall, backAnswered, backDone, comeBackCall}
 use Rattle.c_calls.specs.Kinds.{sourceCall}
 use Rattle.c_calls.specs.inner.Sources.{resultsOf, MadeFrom}
 
@@ -75,6 +77,26 @@ module _ (write : Slices → Tally → List ℕ → TextOutcome) (s : Slices) (t
       ap (textAnswered (x .number) (x .out)) put
       ∙ ap (λ (y : TextOutcome). textDone y result) (made ∙ ap (λ (u : Tally). write s u out) at)
       ∙ roomed-none 1 (length tally) (length result) short is (λ c. textAnswered c out result) _ none
+
+module _ (name : List ℕ) (s : Slices) (tally shelf : List ℕ) (short : ℕ) (t : Tally) (at : t ≡ tallyIn tally) (none : short ≡ 0) where
+  pub keep-done : (x : ShelfResult) → short ≡ shortNumber 0 (length tally) 0 → x ≡ keep name s t shelf → x ≡ keepCall name s tally shelf
+  unfolding keepCall
+  keep-done x is made =
+      made
+      ∙ ap (λ (u : Tally). keep name s u shelf) at
+      ∙ roomed-none 0 (length tally) 0 short is (λ c. shelfResult c shelf) _ none
+
+  pub back-done : (moved result : List ℕ) (x : BackResult) (tally′ result′ : List ℕ)
+      → short ≡ shortNumber 1 (length tally) (length result)
+      → x ≡ comeBack name s t moved shelf
+      → tally′ ≡ over (tallyCells (x .tally)) tally
+      → result′ ≡ over (x .count ∷ []) result
+      → backAnswered (x .number) (x .slices) (x .moved) tally′ result′ ≡ comeBackCall name s moved tally shelf result
+  unfolding comeBackCall backDone
+  back-done moved result x tally′ result′ is made tallied told =
+      ap₂ (backAnswered (x .number) (x .slices) (x .moved)) tallied told
+      ∙ ap (λ (y : BackResult). backDone y tally result) (made ∙ ap (λ (u : Tally). comeBack name s u moved shelf) at)
+      ∙ roomed-none 1 (length tally) (length result) short is (λ c. backAnswered c s moved tally result) _ none
 
 module _ (l : CellMemory) (short : ℕ) where
   pub record-done : (k : Kind) (a b size : ℕ) (journal : List ℕ) (t : Tally) (x : RecordResult) (tally′ result′ : List ℕ)

@@ -1,5 +1,6 @@
 -- What follows from the contracts of this crate, each restated in full.
--- 1. a refused edit, recorded or not, changes no slice but the front cells of the result, which are 0; a refused opening changes nothing
+-- 1. a refused edit, recorded or not, and a refused return change no slice but the front cells of the result, which are 0; a refused opening
+--    changes nothing
 -- 2. the part that clashes_of_in names holds the clashes of the bank: the filled part of its row
 -- 3. the length of a sheet and that of a poster fit the result cell
 use mathlib.Core.List.{List, [], _∷_}
@@ -18,11 +19,13 @@ use Rattle.sheet_writer.proofs.Theorems.{sheet-fits}
 use Rattle.poster_writer.specs.Poster.{poster}
 use Rattle.poster_writer.specs.Calls.{writePoster}
 use Rattle.poster_writer.proofs.Theorems.{poster-fits}
+use Rattle.checkpoints.specs.Calls.{backResult}
 use Rattle.c_cells.specs.CellMemory.{tallySize, tallyIn, CellMemory, cellsOf, memoryIn, leaving, answered, done, editOutcome}
 use Rattle.c_cells.proofs.Fronts.{tally-again}
 use Rattle.c_cells.proofs.Rooms.{none-short, roomed-none}
 use Rattle.c_calls.specs.Calls.{openAnswered, openDone, BankAnswered, bankAnswered, clashesDone, clashesCall, partNamed}
 use Rattle.c_calls.specs.Journals.{recordAnswered, recordDone}
+use Rattle.c_calls.specs.Shelves.{backAnswered, backDone}
 use Rattle.c_calls.proofs.Answers as Answers
 
 module _ (l : CellMemory) (long : tallySize ≤ length (l .tally)) where
@@ -48,6 +51,11 @@ pub refused-open : (s : Slices) (tally : List ℕ) → tallySize ≤ length tall
     → openDone (openResult c s (tallyIn tally)) tally ≡ openAnswered c s tally
 unfolding openDone
 refused-open s tally long c = ap (openAnswered c s) (tally-again tally long)
+
+pub refused-back : (s : Slices) (moved tally result : List ℕ) → tallySize ≤ length tally → (c : ℕ)
+    → backDone (backResult c 0 s (tallyIn tally) moved) tally result ≡ backAnswered c s moved tally (over (0 ∷ []) result)
+unfolding backDone
+refused-back s moved tally result long c = ap (λ (t : List ℕ). backAnswered c s moved t (over (0 ∷ []) result)) (tally-again tally long)
 
 pub clashes-named : (b : ℕ) (s : Slices) (tally result : List ℕ) → tallySize ≤ length tally → 2 ≤ length result
     → partNamed (clashesCall b s tally result .result) (s .neighbours) ≡ clashesOf b s (tallyIn tally)

@@ -1,8 +1,9 @@
-// The calls on cells that a caller lends, for the C library: those of the planner, the list reader, the sheet writer, the poster writer and the
-// journal. It decides nothing itself but that a tally slice or a result slice that is too short gets 2 with nothing changed.
+// The calls on cells that a caller lends, for the C library: those of the planner, the list reader, the sheet writer, the poster writer, the
+// journal and the shelf. It decides nothing itself but that a tally slice or a result slice that is too short gets 2 with nothing changed.
 mod editing;
 mod plan;
 mod recording;
+mod shelves;
 mod sources;
 mod texts;
 
@@ -11,6 +12,8 @@ pub use plan::clashes_of_in;
 pub use plan::open_in;
 pub use plan::wave_of_in;
 pub use recording::record_in;
+pub use shelves::come_back_in;
+pub use shelves::keep_in;
 pub use sources::Source;
 pub use sources::make_plan_in;
 pub use texts::Text;

@@ -2,6 +2,7 @@
 mod editing;
 mod plan;
 mod recording;
+mod shelves;
 mod sources;
 mod texts;
 
@@ -12,6 +13,9 @@ pub use plan::wave_plan_open;
 pub use plan::wave_plan_wave_of;
 pub use recording::wave_plan_add_recorded;
 pub use recording::wave_plan_strike_recorded;
+pub use shelves::wave_plan_come_back;
+pub use shelves::wave_plan_keep;
+pub use shelves::wave_plan_open_shelf;
 pub use sources::wave_plan_read_list;
 pub use sources::wave_plan_replay;
 pub use texts::wave_plan_start_journal;

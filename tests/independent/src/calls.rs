@@ -127,7 +127,7 @@ impl Memory {
     }
 
     /// The tally's bank count, if it is at most 1,024.
-    fn tally_banks(&self) -> Result<usize, u16> {
+    pub(crate) fn tally_banks(&self) -> Result<usize, u16> {
         let n = usize::from(self.tally.banks);
         ask(n <= MAX_BANKS, TOO_MANY_BANKS)?;
         Ok(n)

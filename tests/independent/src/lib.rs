@@ -11,6 +11,7 @@
 //! - `calls`: open, add, strike, wave of a bank, clashes of a bank.
 //! - `list`: the list's rows and the call that reads a list.
 //! - `journal`: a journal's fields, and the calls that start, record and replay.
+//! - `shelf`: three places for kept plans, and the calls that open it, keep and come back.
 //! - `sheet`, `poster`: their texts, the calls that write them, and the outputs of the programs.
 //! - `random`, `lists`, `journals`: inputs for the tests.
 
@@ -27,3 +28,4 @@ pub mod random;
 pub mod reach;
 pub mod refusals;
 pub mod sheet;
+pub mod shelf;

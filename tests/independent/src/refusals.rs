@@ -16,6 +16,8 @@ pub const OUTPUT_TOO_SHORT: u16 = 12;
 pub const NOT_A_FIRST_FIELD: u16 = 13;
 pub const NOT_A_FIELD: u16 = 14;
 pub const NO_SPACE: u16 = 15;
+pub const UNKNOWN_NAME: u16 = 16;
+pub const NOTHING_KEPT: u16 = 17;
 
 /// A question: the given number if the answer is no.
 pub fn ask(yes: bool, number: u16) -> Result<(), u16> {

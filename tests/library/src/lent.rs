@@ -16,15 +16,17 @@ pub struct Lent<'a> {
     pub result: &'a mut [u16],
 }
 
-/// Calls a function of the library: the bytes that it reads, the other slices, then the numbers. A
-/// slice is a pointer and a length. Sound since the slices are valid for their lengths and apart
-/// from each other, and the library asks nothing else.
+/// Calls a function of the library: the slices, then the numbers. A slice is a pointer and a length;
+/// `const` marks one that is lent to be read. Sound since the slices are valid for their lengths and
+/// apart from each other, and the library asks nothing else.
 macro_rules! call {
-    ($function:ident($($bytes:ident)?; $($slice:expr),*; $($number:expr),*)) => {
+    ($function:ident($($(const $read:ident)? $($slice:expr)?),*; $($number:expr),*)) => {
         unsafe {
             raw::$function(
-                $($bytes.as_ptr(), $bytes.len(),)?
-                $($slice.as_mut_ptr(), $slice.len(),)*
+                $(
+                    $($read.as_ptr(), $read.len(),)?
+                    $($slice.as_mut_ptr(), $slice.len(),)?
+                )*
                 $($number),*
             )
         }
@@ -34,52 +36,52 @@ macro_rules! call {
 impl Lent<'_> {
     /// Open: n banks, no clash. Uses the plan slices and the tally.
     pub fn open(&mut self, n: u16) -> u16 {
-        call!(wave_plan_open(;
+        call!(wave_plan_open(
             self.neighbours, self.degrees, self.waves, self.counts, self.tally; n))
     }
 
     /// Add the clash of a and b. Results: moved count, trail count.
     pub fn add(&mut self, a: u16, b: u16) -> u16 {
-        call!(wave_plan_add(;
+        call!(wave_plan_add(
             self.neighbours, self.degrees, self.waves, self.counts, self.trail, self.moved,
             self.tally, self.result; a, b))
     }
 
     /// Strike the clash of a and b. Results: moved count, trail count.
     pub fn strike(&mut self, a: u16, b: u16) -> u16 {
-        call!(wave_plan_strike(;
+        call!(wave_plan_strike(
             self.neighbours, self.degrees, self.waves, self.counts, self.trail, self.moved,
             self.tally, self.result; a, b))
     }
 
     /// Wave of bank b. Result: the wave.
     pub fn wave_of(&mut self, b: u16) -> u16 {
-        call!(wave_plan_wave_of(;
+        call!(wave_plan_wave_of(
             self.neighbours, self.degrees, self.waves, self.counts, self.tally, self.result; b))
     }
 
     /// Clashes of bank b. Results: the first cell of the filled part of its row, and its length.
     pub fn clashes_of(&mut self, b: u16) -> u16 {
-        call!(wave_plan_clashes_of(;
+        call!(wave_plan_clashes_of(
             self.neighbours, self.degrees, self.waves, self.counts, self.tally, self.result; b))
     }
 
     /// Read a list. Result: the row of a refusal.
     pub fn read_list(&mut self, list: &[u8]) -> u16 {
-        call!(wave_plan_read_list(list;
-            self.neighbours, self.degrees, self.waves, self.counts, self.trail, self.moved,
-            self.tally, self.result;))
+        call!(wave_plan_read_list(
+            const list, self.neighbours, self.degrees, self.waves, self.counts, self.trail,
+            self.moved, self.tally, self.result;))
     }
 
     /// Write a sheet to the front of the output. Result: its length.
     pub fn write_sheet(&mut self, out: &mut [u8]) -> u16 {
-        call!(wave_plan_write_sheet(;
+        call!(wave_plan_write_sheet(
             self.neighbours, self.degrees, self.waves, self.counts, self.tally, out, self.result;))
     }
 
     /// Start a journal at the front of the slice. Result: its length.
     pub fn start_journal(&mut self, journal: &mut [u8]) -> u16 {
-        call!(wave_plan_start_journal(;
+        call!(wave_plan_start_journal(
             self.neighbours, self.degrees, self.waves, self.counts, self.tally, journal,
             self.result;))
     }
@@ -87,28 +89,48 @@ impl Lent<'_> {
     /// Add the clash of a and b and record it in the journal of so many bytes. Results: moved
     /// count, trail count, the new length.
     pub fn add_recorded(&mut self, a: u16, b: u16, journal: &mut [u8], length: usize) -> u16 {
-        call!(wave_plan_add_recorded(;
+        call!(wave_plan_add_recorded(
             self.neighbours, self.degrees, self.waves, self.counts, self.trail, self.moved,
             self.tally, journal, self.result; a, b, length))
     }
 
     /// Strike the clash of a and b and record it, as `add_recorded` does.
     pub fn strike_recorded(&mut self, a: u16, b: u16, journal: &mut [u8], length: usize) -> u16 {
-        call!(wave_plan_strike_recorded(;
+        call!(wave_plan_strike_recorded(
             self.neighbours, self.degrees, self.waves, self.counts, self.trail, self.moved,
             self.tally, journal, self.result; a, b, length))
     }
 
     /// Replay a journal. Results: the field of a refusal, and how many bytes were left over.
     pub fn replay(&mut self, journal: &[u8]) -> u16 {
-        call!(wave_plan_replay(journal;
-            self.neighbours, self.degrees, self.waves, self.counts, self.trail, self.moved,
-            self.tally, self.result;))
+        call!(wave_plan_replay(
+            const journal, self.neighbours, self.degrees, self.waves, self.counts, self.trail,
+            self.moved, self.tally, self.result;))
     }
 
     /// Write a poster to the front of the output. Result: its length.
     pub fn write_poster(&mut self, out: &mut [u8]) -> u16 {
-        call!(wave_plan_write_poster(;
+        call!(wave_plan_write_poster(
             self.neighbours, self.degrees, self.waves, self.counts, self.tally, out, self.result;))
     }
+
+    /// Keep the plan under a name. Uses the plan slices and the tally.
+    pub fn keep(&mut self, shelf: &mut [u16], name: &[u8]) -> u16 {
+        call!(wave_plan_keep(
+            self.neighbours, self.degrees, self.waves, self.counts, self.tally, shelf,
+            const name;))
+    }
+
+    /// Come back to the plan kept under a name. Uses the plan slices, moved and the tally. Result:
+    /// moved count.
+    pub fn come_back(&mut self, shelf: &[u16], name: &[u8]) -> u16 {
+        call!(wave_plan_come_back(
+            self.neighbours, self.degrees, self.waves, self.counts, self.moved, self.tally,
+            const shelf, const name, self.result;))
+    }
+}
+
+/// Open a shelf for plans of n banks.
+pub fn open_shelf(shelf: &mut [u16], n: u16) -> u16 {
+    call!(wave_plan_open_shelf(shelf; n))
 }

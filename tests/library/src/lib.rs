@@ -4,6 +4,7 @@
 //! - `lent`: the calls on lent slices. The library takes slices of any content and length, so
 //!   that nothing is asked of a caller.
 //! - `plan`: a plan that owns its memory, for programs.
+//! - `shelf`: a shelf that owns its memory, and the names of kept plans.
 //!
 //! A bank number where a wave number belongs does not compile, nor the other way round:
 //!
@@ -16,6 +17,8 @@
 mod lent;
 mod plan;
 mod raw;
+mod shelf;
 
-pub use lent::Lent;
+pub use lent::{open_shelf, Lent};
 pub use plan::{Bank, Edit, Plan, Refused, Wave};
+pub use shelf::{Name, Shelf};

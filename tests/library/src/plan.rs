@@ -1,6 +1,7 @@
 //! A plan that owns its memory.
 
 use crate::lent::Lent;
+use crate::shelf::{Name, Shelf};
 
 /// The number of a bank (a vertex id).
 #[derive(Clone, Copy, Debug, PartialEq, Eq)]
@@ -26,7 +27,7 @@ pub struct Edit {
 }
 
 /// The most banks of a plan.
-const MAX_BANKS: u16 = 1024;
+pub(crate) const MAX_BANKS: u16 = 1024;
 
 /// The bytes of the longest sheet: 9 for its first line, 2 for each of 24 waves, 4,010 for 1,024
 /// banks.
@@ -170,6 +171,19 @@ impl Plan {
         Ok(String::from_utf8(out).expect("a poster is ASCII"))
     }
 
+    /// Keeps the plan under a name, in the place of what was kept there before.
+    pub fn keep(&mut self, shelf: &mut Shelf, name: Name) -> Result<(), Refused> {
+        answer(self.lent().keep(&mut shelf.cells, name.bytes()))
+    }
+
+    /// Comes back to the plan kept under a name. The answer is the banks whose wave differs,
+    /// ascending.
+    pub fn come_back(&mut self, shelf: &Shelf, name: Name) -> Result<Vec<Bank>, Refused> {
+        answer(self.lent().come_back(&shelf.cells, name.bytes()))?;
+        let moved = usize::from(self.result[0]);
+        Ok(banks(&self.moved[..moved]))
+    }
+
     /// Memory for a plan of n banks, all cells 0.
     fn memory_for(n: u16) -> Plan {
         let n = usize::from(n);
@@ -213,7 +227,7 @@ fn banks(cells: &[u16]) -> Vec<Bank> {
 }
 
 /// The refusal of a number, if it is one.
-fn answer(number: u16) -> Result<(), Refused> {
+pub(crate) fn answer(number: u16) -> Result<(), Refused> {
     answer_at(number, 0)
 }
 

@@ -231,4 +231,44 @@ extern "C" {
         result: *mut u16,
         result_length: usize,
     ) -> u16;
+
+    pub fn wave_plan_open_shelf(shelf: *mut u16, shelf_length: usize, banks: u16) -> u16;
+
+    pub fn wave_plan_keep(
+        neighbours: *const u16,
+        neighbours_length: usize,
+        degrees: *const u16,
+        degrees_length: usize,
+        waves: *const u16,
+        waves_length: usize,
+        counts: *const u16,
+        counts_length: usize,
+        tally: *const u16,
+        tally_length: usize,
+        shelf: *mut u16,
+        shelf_length: usize,
+        name: *const u8,
+        name_length: usize,
+    ) -> u16;
+
+    pub fn wave_plan_come_back(
+        neighbours: *mut u16,
+        neighbours_length: usize,
+        degrees: *mut u16,
+        degrees_length: usize,
+        waves: *mut u16,
+        waves_length: usize,
+        counts: *mut u16,
+        counts_length: usize,
+        moved: *mut u16,
+        moved_length: usize,
+        tally: *mut u16,
+        tally_length: usize,
+        shelf: *const u16,
+        shelf_length: usize,
+        name: *const u8,
+        name_length: usize,
+        result: *mut u16,
+        result_length: usize,
+    ) -> u16;
 }

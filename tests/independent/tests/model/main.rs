@@ -9,4 +9,6 @@ mod read_list;
 mod refusals;
 mod rule;
 mod sheet;
+mod shelf;
+mod shelf_refusals;
 mod support;

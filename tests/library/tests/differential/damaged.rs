@@ -1,8 +1,9 @@
 //! Calls on damaged memory: the number is the one due, and nothing changes.
 
+use crate::call::Call;
 use crate::damage::DAMAGES;
-use crate::pair::{Call, Pair};
-use crate::plans::{bank_count, graph, memory_of, row, sheet_length, slices};
+use crate::pair::Pair;
+use crate::plans::{bank_count, graph, memory_of, row, sheet_length, shelf_of, slices};
 use crate::{quick, rounds};
 use independent::journal::{journal_of, Entry};
 use independent::memory::Memory;
@@ -49,8 +50,9 @@ fn each_damage_is_seen_by_each_call() {
     let mut random = Random::new(73);
     for _ in 0..rounds(40) {
         let n = random.between(2, 40);
-        let whole = graph(&mut random, n);
-        let whole = memory_of(&mut random, &whole);
+        let graph = graph(&mut random, n);
+        let whole = memory_of(&mut random, &graph);
+        let shelf = shelf_of(&mut random, n, [None, None, Some(&graph)]);
         for damage in DAMAGES {
             let mut memory = whole.clone();
             damage(&mut random, &mut memory);
@@ -63,8 +65,10 @@ fn each_damage_is_seen_by_each_call() {
                 Call::StartJournal(vec![0; 4000]),
                 Call::Record(any_entry(0, 1), any_journal(&memory), 5),
                 Call::WritePoster(8200),
+                Call::Keep(b"NOON    ".to_vec()),
+                Call::ComeBack(b"CLOSE   ".to_vec()),
             ] {
-                Pair::new(memory.clone(), random.draw()).call(&call);
+                Pair::with_shelf(memory.clone(), shelf.clone(), random.draw()).call(&call);
             }
         }
     }

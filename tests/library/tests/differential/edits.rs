@@ -1,7 +1,8 @@
 //! Sequences of edits from random plans: accepted ones, and refused ones of each number.
 
+use crate::call::Call;
 use crate::damage;
-use crate::pair::{Call, Pair};
+use crate::pair::Pair;
 use crate::plans::{any_memory, bank_count, graph, poster_length, row, sheet_length, slices};
 use crate::{quick, rounds};
 use independent::plan::MAX_DEGREE;
@@ -122,7 +123,7 @@ fn edit(pair: &mut Pair, call: &Call, seen: &mut Seen) {
 }
 
 /// Two banks that do not clash and have room, if some tries find them.
-fn good_add(random: &mut Random, pair: &Pair) -> Option<Call> {
+pub fn good_add(random: &mut Random, pair: &Pair) -> Option<Call> {
     let model = &pair.model;
     let n = usize::from(model.tally.banks);
     let room = |b: usize| usize::from(model.degrees[b]) < MAX_DEGREE;
@@ -137,7 +138,7 @@ fn good_add(random: &mut Random, pair: &Pair) -> Option<Call> {
 }
 
 /// Two banks that clash, if some tries find them.
-fn good_strike(random: &mut Random, pair: &Pair) -> Option<Call> {
+pub fn good_strike(random: &mut Random, pair: &Pair) -> Option<Call> {
     let (a, b) = clash(random, pair)?;
     Some(Call::Strike(a, b))
 }

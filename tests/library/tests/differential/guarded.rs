@@ -40,7 +40,7 @@ impl<T: Copy + PartialEq> Guarded<T> {
     }
 }
 
-/// The eight slices lent to the library.
+/// The nine slices lent to the library.
 #[derive(Clone)]
 pub struct Slices {
     pub neighbours: Guarded<u16>,
@@ -49,13 +49,14 @@ pub struct Slices {
     pub counts: Guarded<u16>,
     pub trail: Guarded<u16>,
     pub moved: Guarded<u16>,
+    pub shelf: Guarded<u16>,
     pub tally: Guarded<u16>,
     pub result: Guarded<u16>,
 }
 
 impl Slices {
-    /// The model's memory as slices, with the given cells as tally and result slices.
-    pub fn new(memory: &Memory, tally: &[u16], result: &[u16]) -> Slices {
+    /// The model's memory as slices, with the given cells as shelf, tally and result slices.
+    pub fn new(memory: &Memory, shelf: &[u16], tally: &[u16], result: &[u16]) -> Slices {
         let guarded = |content: &[u16]| Guarded::new(content, 0x5AC3);
         Slices {
             neighbours: guarded(&memory.neighbours),
@@ -64,13 +65,15 @@ impl Slices {
             counts: guarded(&memory.counts),
             trail: guarded(&memory.trail),
             moved: guarded(&memory.moved),
+            shelf: guarded(shelf),
             tally: guarded(tally),
             result: guarded(result),
         }
     }
 
-    pub fn lent(&mut self) -> Lent<'_> {
-        Lent {
+    /// The slices of a plan, and the shelf.
+    pub fn lent(&mut self) -> (Lent<'_>, &mut [u16]) {
+        let lent = Lent {
             neighbours: self.neighbours.lend(),
             degrees: self.degrees.lend(),
             waves: self.waves.lend(),
@@ -79,11 +82,12 @@ impl Slices {
             moved: self.moved.lend(),
             tally: self.tally.lend(),
             result: self.result.lend(),
-        }
+        };
+        (lent, self.shelf.lend())
     }
 
     /// Each slice with its name.
-    pub fn named(&self) -> [(&'static str, &Guarded<u16>); 8] {
+    pub fn named(&self) -> [(&'static str, &Guarded<u16>); 9] {
         [
             ("neighbours", &self.neighbours),
             ("degrees", &self.degrees),
@@ -91,6 +95,7 @@ impl Slices {
             ("counts", &self.counts),
             ("trail", &self.trail),
             ("moved", &self.moved),
+            ("shelf", &self.shelf),
             ("tally", &self.tally),
             ("result", &self.result),
         ]

@@ -1,8 +1,9 @@
 //! Starting journals and recording edits: slices with just enough space, one byte less or bytes to
 //! spare, journals that are cut or damaged, and a replay after each step.
 
+use crate::call::{Answer, Call};
 use crate::damage::DAMAGES;
-use crate::pair::{Answer, Call, Pair};
+use crate::pair::Pair;
 use crate::plans::{any_memory, bank_count, blocks, graph, memory_of, row};
 use crate::{quick, rounds};
 use independent::graph::Graph;
@@ -24,7 +25,7 @@ fn with_spare(random: &mut Random, bytes: &[u8], spare: usize) -> Vec<u8> {
 }
 
 /// The journal replays with no refusal, nothing left over, to the plan of the graph.
-fn replays_to(random: &mut Random, journal: &[u8], graph: &Option<Graph>) {
+pub fn replays_to(random: &mut Random, journal: &[u8], graph: &Option<Graph>) {
     let n = graph.as_ref().expect("a plan").banks();
     let mut pair = Pair::new(any_memory(random, n), random.draw());
     let answer = pair.call(&Call::Replay(journal.to_vec()));

@@ -1,6 +1,7 @@
 //! Lists: every cell after the pass, whether it was accepted or refused, and the sheet after it.
 
-use crate::pair::{Call, Pair};
+use crate::call::Call;
+use crate::pair::Pair;
 use crate::plans::{any_memory, slices};
 use crate::{quick, rounds};
 use independent::list::{n_row, rows};

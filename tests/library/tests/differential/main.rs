@@ -1,22 +1,27 @@
 //! The static library against the model: after each call, every cell that was lent.
 //!
 //! - `guarded`: slices between guard cells.
+//! - `call`: a call, made on the library or on the model.
 //! - `pair`: the library's memory and the model's, and a call made on both.
 //! - `plans`: random plans of all sizes and degrees.
 //! - `edits`: sequences of edits, accepted and refused.
 //! - `damage`, `damaged`: memory that holds no plan or is too short, and the calls on it.
 //! - `lists`, `sheets`, `posters`: reading lists, writing sheets and posters.
 //! - `journals`, `replays`: starting journals and recording edits; replaying journals.
+//! - `shelves`, `kept`: sequences of keepings and returns; shelves that are damaged or too short.
 //! - `short`: tally and result slices that are too short.
-//! - `marked`: the paper's marked examples and a journal, through the wrapper that owns its memory.
+//! - `marked`: the paper's marked examples, a journal and a shelf, through the wrapper that owns its
+//!   memory.
 //!
 //! With WAVE_PLAN_QUICK set, each test makes fewer calls, for a run under a memory checker.
 
+mod call;
 mod damage;
 mod damaged;
 mod edits;
 mod guarded;
 mod journals;
+mod kept;
 mod lists;
 mod marked;
 mod pair;
@@ -24,6 +29,7 @@ mod plans;
 mod posters;
 mod replays;
 mod sheets;
+mod shelves;
 mod short;
 
 /// Whether the tests make fewer calls.

@@ -1,7 +1,7 @@
-//! The paper's marked examples, its example sheet and a journal, through the wrapper that owns its
-//! memory.
+//! The paper's marked examples, its example sheet, a journal and a shelf, through the wrapper that
+//! owns its memory.
 
-use library_tests::{Bank, Edit, Plan, Refused, Wave};
+use library_tests::{Bank, Edit, Name, Plan, Refused, Shelf, Wave};
 
 fn banks(numbers: &[u16]) -> Vec<Bank> {
     numbers.iter().copied().map(Bank).collect()
@@ -102,6 +102,34 @@ fn a_journal() {
     let wrong = Plan::replay(&journal).err();
     let (number, place) = (14, 3);
     assert_eq!(wrong, Some(Refused { number, place }));
+}
+
+/// M5 is kept in the morning, M6 at noon.
+#[test]
+fn a_shelf() {
+    let mut plan = opened(4, &[(0, 1), (1, 2), (2, 3)]);
+    let mut shelf = Shelf::open(4).expect("opened");
+    let refused = |number, place| Refused { number, place };
+    for name in Name::ALL {
+        assert_eq!(plan.come_back(&shelf, name), Err(refused(17, 0)));
+    }
+    assert_eq!(plan.keep(&mut shelf, Name::Morning), Ok(()));
+    assert!(plan.add(Bank(0), Bank(3)).is_ok());
+    assert_eq!(plan.keep(&mut shelf, Name::Noon), Ok(()));
+    assert!(plan.add(Bank(0), Bank(2)).is_ok());
+    assert_eq!(waves(&mut plan, 4), [0, 2, 1, 2]);
+    assert_eq!(plan.come_back(&shelf, Name::Noon), Ok(banks(&[1, 2, 3])));
+    assert_eq!(waves(&mut plan, 4), [0, 1, 0, 1]);
+    let whole = banks(&[0, 1, 2, 3]);
+    assert_eq!(plan.come_back(&shelf, Name::Morning), Ok(whole));
+    assert_eq!(waves(&mut plan, 4), [1, 0, 1, 0]);
+    assert_eq!(plan.clashes_of(Bank(3)), Ok(banks(&[2])));
+    assert_eq!(plan.keep(&mut shelf, Name::Noon), Ok(()));
+    assert_eq!(plan.come_back(&shelf, Name::Noon), Ok(vec![]));
+    assert_eq!(plan.come_back(&shelf, Name::Close), Err(refused(17, 0)));
+    let mut other = opened(5, &[]);
+    assert_eq!(other.keep(&mut shelf, Name::Close), Err(refused(2, 0)));
+    assert_eq!(Shelf::open(1025).err(), Some(refused(1, 0)));
 }
 
 #[test]

@@ -2,8 +2,9 @@
 
 use independent::graph::{Bank, Graph};
 use independent::memory::Memory;
-use independent::plan::{MAX_DEGREE, WAVES};
+use independent::plan::{Plan, MAX_DEGREE, WAVES};
 use independent::random::Random;
+use independent::shelf::{kept_cells, place_cells, shelf_cells};
 use std::collections::BTreeSet;
 
 /// A random bank count up to the given one; small ones and the edges are the most frequent.
@@ -92,6 +93,23 @@ pub fn memory_of(random: &mut Random, graph: &Graph) -> Memory {
     let mut memory = any_memory(random, graph.banks());
     memory.store_plan(graph);
     memory
+}
+
+/// A shelf for n banks in which these plans are kept. The cells of unused places, and some beyond
+/// the places, are of any content.
+pub fn shelf_of(random: &mut Random, n: usize, kept: [Option<&Graph>; 3]) -> Vec<u16> {
+    let limit = *random.pick(&[2, 24, 1025, 65_536]);
+    let spare = random.below(3) * random.below(20);
+    let mut shelf: Vec<u16> = (0..shelf_cells(n) + spare)
+        .map(|_| random.below(limit) as u16)
+        .collect();
+    for (place, kept) in shelf.chunks_mut(place_cells(n)).zip(kept) {
+        match kept {
+            Some(graph) => place.copy_from_slice(&kept_cells(&Plan::of(graph))),
+            None => place[0] = 0,
+        }
+    }
+    shelf
 }
 
 /// The six slices.

@@ -1,7 +1,8 @@
 //! Posters: waves at the edges of lines and pages; outputs that just fit, are too short or have
 //! bytes to spare.
 
-use crate::pair::{Call, Pair};
+use crate::call::Call;
+use crate::pair::Pair;
 use crate::plans::{bank_count, blocks, graph, memory_of, poster_length};
 use crate::{quick, rounds};
 use independent::graph::Graph;

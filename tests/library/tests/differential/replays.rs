@@ -1,7 +1,8 @@
 //! Replays: every cell after the pass, whether it was accepted or refused, of random journals, cut
 //! and damaged ones, and the list of the same edits.
 
-use crate::pair::{Answer, Call, Pair};
+use crate::call::{Answer, Call};
+use crate::pair::Pair;
 use crate::plans::{any_memory, slices};
 use crate::{quick, rounds};
 use independent::journal::journal_of;

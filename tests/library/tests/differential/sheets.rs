@@ -1,6 +1,7 @@
 //! Sheets: outputs that just fit, are too short or have bytes to spare.
 
-use crate::pair::{Call, Pair};
+use crate::call::Call;
+use crate::pair::Pair;
 use crate::plans::{bank_count, blocks, graph, memory_of, sheet_length};
 use crate::rounds;
 use independent::random::Random;

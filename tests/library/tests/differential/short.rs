@@ -1,9 +1,10 @@
 //! Tally slices of fewer than three cells and result slices of fewer than the call needs: 2 before
 //! any other number, and nothing changes.
 
+use crate::call::Call;
 use crate::guarded::{assert_same, Guarded, Slices};
-use crate::pair::{make, tally_cells, Call};
-use crate::plans::memory_of;
+use crate::pair::tally_cells;
+use crate::plans::{memory_of, shelf_of};
 use independent::graph::Graph;
 use independent::journal::{journal_of, Entry};
 use independent::memory::Memory;
@@ -13,7 +14,9 @@ use independent::reach::Edit;
 #[test]
 fn short_tally_or_result() {
     let mut random = Random::new(95);
-    let whole = memory_of(&mut random, &Graph::of(4, [(0, 1), (1, 2)]));
+    let graph = Graph::of(4, [(0, 1), (1, 2)]);
+    let whole = memory_of(&mut random, &graph);
+    let shelf = shelf_of(&mut random, 4, [None, Some(&graph), None]);
     let mut too_many_banks = whole.clone();
     too_many_banks.tally.banks = 2000;
     let mut no_plan = whole.clone();
@@ -50,13 +53,18 @@ fn short_tally_or_result() {
         (Call::Record(strike, journal.clone(), 70_000), 3),
         (Call::Replay(journal.clone()), 2),
         (Call::Replay(vec![]), 2),
+        (Call::Keep(b"CLOSE   ".to_vec()), 0),
+        (Call::Keep(b"CLOSE".to_vec()), 0),
+        (Call::ComeBack(b"NOON    ".to_vec()), 1),
+        (Call::ComeBack(b"CLOSE   ".to_vec()), 1),
+        (Call::ComeBack(b"noon    ".to_vec()), 1),
     ];
     for memory in [&whole, &too_many_banks, &no_plan, &no_room] {
         for (call, results) in &calls {
             for tally in 0..=4 {
                 for result in 0..=3 {
                     if tally < 3 || result < *results {
-                        refused(memory, call, tally, result);
+                        refused(memory, &shelf, call, tally, result);
                     }
                 }
             }
@@ -65,15 +73,15 @@ fn short_tally_or_result() {
 }
 
 /// The call with tally and result slices of these lengths gets 2, and nothing changes.
-fn refused(memory: &Memory, call: &Call, tally: usize, result: usize) {
+fn refused(memory: &Memory, shelf: &[u16], call: &Call, tally: usize, result: usize) {
     let mut cells = tally_cells(memory).to_vec();
     cells.resize(tally, 7);
-    let mut slices = Slices::new(memory, &cells, &vec![7777; result]);
+    let mut slices = Slices::new(memory, shelf, &cells, &vec![7777; result]);
     let before = slices.clone();
     let lent = call.output(&mut Random::new(96));
     let mut output = Guarded::new(&lent, b'!');
     let about = || format!("{call}, tally of {tally} cells, result of {result}");
-    let number = make(call, &mut slices, output.lend());
+    let number = call.on_library(&mut slices, output.lend());
     assert_eq!(number, 2, "{}", about());
     for ((name, slice), (_, old)) in slices.named().into_iter().zip(before.named()) {
         assert_same(slice.content(), old.content(), &|| {

@@ -1,0 +1,184 @@
+//! A call with its arguments, made on the library or on the model, and its answer.
+
+use crate::guarded::{Guarded, Slices};
+use independent::journal::Entry;
+use independent::memory::Memory;
+use independent::random::Random;
+use independent::reach::Edit;
+use independent::refusals::ACCEPTED;
+use independent::shelf;
+use library_tests::open_shelf;
+use std::fmt;
+
+/// A call with its arguments; a sheet's and a poster's is the length of its output, and a journal is the
+/// slice that is lent, which may be longer than the journal. Keeping and coming back have a name.
+#[derive(Clone)]
+pub enum Call {
+    Open(u16),
+    Add(u16, u16),
+    Strike(u16, u16),
+    WaveOf(u16),
+    ClashesOf(u16),
+    ReadList(Vec<u8>),
+    WriteSheet(usize),
+    WritePoster(usize),
+    StartJournal(Vec<u8>),
+    Record(Entry, Vec<u8>, usize),
+    Replay(Vec<u8>),
+    OpenShelf(u16),
+    Keep(Vec<u8>),
+    ComeBack(Vec<u8>),
+}
+
+/// The call for a message; a list or a journal is cut short.
+impl fmt::Display for Call {
+    fn fmt(&self, f: &mut fmt::Formatter) -> fmt::Result {
+        match self {
+            Call::Open(n) => write!(f, "open {n}"),
+            Call::Add(a, b) => write!(f, "add {a} {b}"),
+            Call::Strike(a, b) => write!(f, "strike {a} {b}"),
+            Call::WaveOf(b) => write!(f, "wave of {b}"),
+            Call::ClashesOf(b) => write!(f, "clashes of {b}"),
+            Call::ReadList(list) => {
+                let front = &list[..list.len().min(80)];
+                write!(f, "list of {} bytes, {}", list.len(), front.escape_ascii())
+            }
+            Call::WriteSheet(length) => write!(f, "sheet into {length} bytes"),
+            Call::WritePoster(length) => write!(f, "poster into {length} bytes"),
+            Call::StartJournal(slice) => write!(f, "journal into {} bytes", slice.len()),
+            Call::Record(entry, slice, length) => {
+                let front = &slice[..slice.len().min(40)];
+                write!(f, "{entry:?} after {length} of {}, {front:?}", slice.len())
+            }
+            Call::Replay(journal) => {
+                let front = &journal[..journal.len().min(40)];
+                write!(f, "replay of {} bytes, {front:?}", journal.len())
+            }
+            Call::OpenShelf(n) => write!(f, "shelf for {n}"),
+            Call::Keep(name) => write!(f, "keep {}", name.escape_ascii()),
+            Call::ComeBack(name) => write!(f, "come back to {}", name.escape_ascii()),
+        }
+    }
+}
+
+/// The answer to a call: the number, the cells of the result slice, and the bytes of the output or
+/// the journal afterwards.
+pub struct Answer {
+    pub number: u16,
+    pub results: Vec<usize>,
+    pub output: Vec<u8>,
+}
+
+impl Call {
+    /// The output lent to the call: a sheet's, of any content, or the slice of a journal.
+    pub fn output(&self, random: &mut Random) -> Vec<u8> {
+        match self {
+            Call::WriteSheet(length) | Call::WritePoster(length) => {
+                (0..*length).map(|_| random.byte()).collect()
+            }
+            Call::StartJournal(slice) | Call::Record(_, slice, _) => slice.clone(),
+            _ => Vec::new(),
+        }
+    }
+
+    /// Makes the call on the model.
+    pub fn on_model(&self, model: &mut Memory, shelf: &mut [u16], mut output: Vec<u8>) -> Answer {
+        let (number, results) = match self {
+            Call::Open(n) => (model.open(*n), vec![]),
+            Call::Add(a, b) => {
+                let answer = model.add(*a, *b);
+                (answer.number, vec![answer.moved, answer.trail])
+            }
+            Call::Strike(a, b) => {
+                let answer = model.strike(*a, *b);
+                (answer.number, vec![answer.moved, answer.trail])
+            }
+            Call::WaveOf(b) => {
+                let answer = model.wave_of(*b);
+                (answer.number, vec![usize::from(answer.wave)])
+            }
+            Call::ClashesOf(b) => {
+                let number = model.wave_of(*b).number;
+                let accepted = number == ACCEPTED;
+                let start = if accepted { 23 * usize::from(*b) } else { 0 };
+                (number, vec![start, model.clashes_of(*b).len()])
+            }
+            Call::ReadList(list) => {
+                let answer = model.read_list(list);
+                (answer.number, vec![answer.row])
+            }
+            Call::WriteSheet(_) => {
+                let answer = model.write_sheet(&mut output);
+                (answer.number, vec![answer.length])
+            }
+            Call::WritePoster(_) => {
+                let answer = model.write_poster(&mut output);
+                (answer.number, vec![answer.length])
+            }
+            Call::StartJournal(_) => {
+                let answer = model.start_journal(&mut output);
+                (answer.number, vec![answer.length])
+            }
+            Call::Record(entry, _, length) => {
+                let answer = model.record(*entry, &mut output, *length);
+                let results = vec![answer.moved, answer.trail, answer.length];
+                (answer.number, results)
+            }
+            Call::Replay(journal) => {
+                let answer = model.replay(journal);
+                (answer.number, vec![answer.field, answer.left])
+            }
+            Call::OpenShelf(n) => (shelf::open_shelf(shelf, *n), vec![]),
+            Call::Keep(name) => (model.keep(shelf, name), vec![]),
+            Call::ComeBack(name) => {
+                let answer = model.come_back(shelf, name);
+                (answer.number, vec![answer.moved])
+            }
+        };
+        Answer {
+            number,
+            results,
+            output,
+        }
+    }
+
+    /// Makes the call on the library.
+    pub fn on_library(&self, slices: &mut Slices, output: &mut [u8]) -> u16 {
+        let (mut lent, shelf) = slices.lent();
+        match self {
+            Call::Open(n) => lent.open(*n),
+            Call::Add(a, b) => lent.add(*a, *b),
+            Call::Strike(a, b) => lent.strike(*a, *b),
+            Call::WaveOf(b) => lent.wave_of(*b),
+            Call::ClashesOf(b) => lent.clashes_of(*b),
+            Call::ReadList(list) => lent.read_list(list),
+            Call::WriteSheet(_) => lent.write_sheet(output),
+            Call::WritePoster(_) => lent.write_poster(output),
+            Call::StartJournal(_) => lent.start_journal(output),
+            Call::Record(entry, _, length) => match entry.edit {
+                Edit::Add => lent.add_recorded(entry.a, entry.b, output, *length),
+                Edit::Strike => lent.strike_recorded(entry.a, entry.b, output, *length),
+            },
+            Call::Replay(journal) => lent.replay(journal),
+            Call::OpenShelf(n) => open_shelf(shelf, *n),
+            Call::Keep(name) => lent.keep(shelf, padded(name).content()),
+            Call::ComeBack(name) => lent.come_back(shelf, padded(name).content()),
+        }
+    }
+}
+
+impl Answer {
+    /// Whether the call is to leave everything as it was. A list or a journal refused at a later row
+    /// or field leaves the plan of those before.
+    pub fn changes_nothing(&self, call: &Call) -> bool {
+        match call {
+            Call::ReadList(_) | Call::Replay(_) => self.number != ACCEPTED && self.results[0] < 2,
+            _ => self.number != ACCEPTED,
+        }
+    }
+}
+
+/// The name between spaces that are not lent: read beyond its end, a short name would be known.
+fn padded(name: &[u8]) -> Guarded<u8> {
+    Guarded::new(name, b' ')
+}
