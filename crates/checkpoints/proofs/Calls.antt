@@ -111,7 +111,8 @@ module _ (s : Slices) (t : Tally) (l : Long (t .banks) s) where
   unfolding placeCells
   length-placeCells = omega (arith, length-from-rows, length-append (1 ∷ []) from-rows)
 
-  pub plan-put : (at : ℕ) (shelf : List ℕ) → at + placeSize n ≤ length shelf → (rs ds cs r₀ r₁ r₂ r₃ r₄ r₅ : ℕ) (s₀ s₁ s₂ s₃ s₄ s₅ : List ℕ) → rs ≡ 23 * n → ds ≡ n → cs ≡ 24 * n
+  pub plan-put : (at : ℕ) (shelf : List ℕ) → at + placeSize n ≤ length shelf → (rs ds cs r₀ r₁ r₂ r₃ r₄ r₅ : ℕ) (s₀ s₁ s₂ s₃ s₄ s₅ : List ℕ)
+      → rs ≡ 23 * n → ds ≡ n → cs ≡ 24 * n
       → Copied (1 ∷ []) 1 at shelf r₀ s₀ → Copied (s .neighbours) rs r₀ s₀ r₁ s₁ → Copied (s .degrees) ds r₁ s₁ r₂ s₂
       → Copied (s .waves) ds r₂ s₂ r₃ s₃ → Copied (s .counts) cs r₃ s₃ r₄ s₄ → Copied tally 3 r₄ s₄ r₅ s₅ → s₅ ≡ put (placeCells s t) at shelf
   unfolding placeCells

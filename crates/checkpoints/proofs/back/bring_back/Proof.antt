@@ -64,12 +64,15 @@ same-length-4 c = search needs
 
 returns : tie.Need-returns
 returns c =
-    let at1 = c .before .before .before .before .before .before .before .before .before .before .before .before .before .before .before .before .before .before .before .before .before in
+    let p1 = c .before .before .before .before .before .before in
+    let p2 = p1 .before .before .before .before in
+    let p3 = p2 .before .before .before .before in
+    let at1 = p3 .before .before .before .before .before .before .before in
     let n = at1 .args .n in
     let s = slicesGiven (at1 .args .neighbours) (at1 .args .degrees) (at1 .args .waves) (at1 .args .counts) in
     brought n (at1 .args .place .now) s (n * 23) (n * 24) (1 + n * 23) (1 + n * 23 + n) (1 + n * 23 + n + n) _ _ _ _
     (omega arith) (omega arith) (omega arith) (omega arith) (omega arith)
-    (c .before .before .before .before .before .before .before .before .before .before .before .before .before .before .put-part .ensures) (c .before .before .before .before .before .before .before .before .before .before .put-part2 .ensures) (c .before .before .before .before .before .before .put-part3 .ensures) (c .before .before .put-part4 .ensures)
+    (p3 .put-part .ensures) (p2 .put-part2 .ensures) (p1 .put-part3 .ensures) (c .before .before .put-part4 .ensures)
 
 pub bring-back-spec : {M : Type 1} → statement M
 bring-back-spec =

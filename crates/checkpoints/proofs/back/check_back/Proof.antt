@@ -3,8 +3,8 @@ use borrow.Author.Needs.{needs}
 use mathlib.Core.Path.{refl, sym, _∙_}
 use native.Mathlib.Omega.{arith}
 use Rattle.memory.specs.Lent.{slicesGiven}
-use Rattle.checkpoints.proofs.Numbers.{back-many, back-short, back-keep, back-unused, back-fine}
 use Rattle.shelf.proofs.Places.{place-room}
+use Rattle.checkpoints.proofs.Numbers.{back-many, back-short, back-keep, back-unused, back-fine}
 use Rattle.checkpoints.proofs.back.check_back.Statement.{statement}
 use Rattle.checkpoints.proofs.back.check_back.Tie as tie
 
@@ -55,7 +55,9 @@ place-size-requires c κs = search needs
 
 mul-at : tie.Need-mul-at
 mul-at c =
-    let ready = c .before .before .before .before .check-keep .ensures .1 (c .before .before .before .if3 .left) in
+    let p1 = c .before .before .before in
+    let p2 = p1 .before in
+    let ready = p2 .check-keep .ensures .1 (p1 .if3 .left) in
     let i = c .before .wide2 .result in
     let size = c .place-size .result in
     let room = place-room i size (omega (arith, ready .known, c .before .before .place-of .ensures, c .before .wide2 .ensures)) in
@@ -63,7 +65,9 @@ mul-at c =
 
 mul-if4 : tie.Need-mul-if4
 mul-if4 c =
-    let ready = c .before .before .before .before .check-keep .ensures .1 (c .before .before .before .if3 .left) in
+    let p1 = c .before .before .before in
+    let p2 = p1 .before in
+    let ready = p2 .check-keep .ensures .1 (p1 .if3 .left) in
     let i = c .before .wide2 .result in
     let size = c .place-size .result in
     let room = place-room i size (omega (arith, ready .known, c .before .before .place-of .ensures, c .before .wide2 .ensures)) in
@@ -71,35 +75,48 @@ mul-if4 c =
 
 shared-slice-read-if4 : tie.Need-shared-slice-read-if4
 shared-slice-read-if4 c =
-    let ready = c .before .before .before .before .before .check-keep .ensures .1 (c .before .before .before .before .if3 .left) in
+    let p1 = c .before .before .before in
+    let p2 = p1 .before in
+    let p3 = p2 .before in
+    let ready = p3 .check-keep .ensures .1 (p2 .if3 .left) in
     let i = c .before .before .wide2 .result in
     let size = c .before .place-size .result in
-    let room = place-room i size (omega (arith, ready .known, c .before .before .before .place-of .ensures, c .before .before .wide2 .ensures)) in
+    let room = place-room i size (omega (arith, ready .known, p1 .place-of .ensures, c .before .before .wide2 .ensures)) in
     omega (arith, room, ready .room, c .before .place-size .ensures)
 
 returns-4 : tie.Need-returns-4
 returns-4 c =
-    let at1 = c .before .before .before .before .before .before .before .before .before .before .before .before .before .before .before .before .before in
+    let p1 = c .before .before .before in
+    let p2 = p1 .before in
+    let p3 = p2 .before in
+    let p4 = p3 .before in
+    let at1 = p4 .before .before .before .before .before .before .before .before .before .before .before in
     let s = slicesGiven (at1 .args .neighbours) (at1 .args .degrees) (at1 .args .waves) (at1 .args .counts) in
     let t = at1 .args .tally in
     let moved = at1 .args .moved .now in
     let name = at1 .args .name .now in
     let shelf = at1 .args .shelf .now in
-    let zero-of = sym (c .before .before .before .before .before .before .check-keep .ensures .0) ∙ c .before .before .before .before .before .if3 .left in
-    let unused = back-unused s t moved name shelf _ (omega arith) zero-of (rw (c .before .before .before .wide2 .ensures ∙ c .before .before .before .before .place-of .ensures, c .before .before .place-size .ensures) refl) (c .if4 .taken) in
+    let zero-of = sym (p4 .check-keep .ensures .0) ∙ p3 .if3 .left in
+    let unused =
+    back-unused s t moved name shelf _ (omega arith) zero-of (rw (p1 .wide2 .ensures ∙ p2 .place-of .ensures, c .before .before .place-size .ensures) refl) (c .if4 .taken) in
     (sym unused, λ z. absurd (omega (arith, z)))
 
 returns-5 : tie.Need-returns-5
 returns-5 c =
-    let at1 = c .before .before .before .before .before .before .before .before .before .before .before .before .before .before .before .before .before in
+    let p1 = c .before .before .before in
+    let p2 = p1 .before in
+    let p3 = p2 .before in
+    let p4 = p3 .before in
+    let at1 = p4 .before .before .before .before .before .before .before .before .before .before .before in
     let s = slicesGiven (at1 .args .neighbours) (at1 .args .degrees) (at1 .args .waves) (at1 .args .counts) in
     let t = at1 .args .tally in
     let moved = at1 .args .moved .now in
     let name = at1 .args .name .now in
     let shelf = at1 .args .shelf .now in
-    let zero-of = sym (c .before .before .before .before .before .before .check-keep .ensures .0) ∙ c .before .before .before .before .before .if3 .left in
-    let fine = back-fine s t moved name shelf _ (omega arith) zero-of (rw (c .before .before .before .wide2 .ensures ∙ c .before .before .before .before .place-of .ensures, c .before .before .place-size .ensures) refl) (c .if4 .left) in
-    (sym fine, λ z. (c .before .before .before .before .before .before .check-keep .ensures .1 (c .before .before .before .before .before .if3 .left), omega arith))
+    let zero-of = sym (p4 .check-keep .ensures .0) ∙ p3 .if3 .left in
+    let fine =
+    back-fine s t moved name shelf _ (omega arith) zero-of (rw (p1 .wide2 .ensures ∙ p2 .place-of .ensures, c .before .before .place-size .ensures) refl) (c .if4 .left) in
+    (sym fine, λ z. (p4 .check-keep .ensures .1 (p3 .if3 .left), omega arith))
 
 pub check-back-spec : {M : Type 1} → statement M
 check-back-spec =

@@ -4,10 +4,10 @@ use mathlib.Core.Path.{refl, sym, _∙_}
 use Prim.Native.Nat.{_+_, _*_}
 use native.Mathlib.Omega.{arith}
 use Rattle.memory.specs.Lent.{slicesGiven}
-use Rattle.checkpoints.proofs.Calls.{back-refused, back-done}
 use Rattle.shelf.proofs.Places.{place-room, lent-place}
 use Rattle.shelf.proofs.Putting.{length-lent}
 use Rattle.shelf.specs.Names.{placeOf}
+use Rattle.checkpoints.proofs.Calls.{back-refused, back-done}
 use Rattle.checkpoints.proofs.back.come_back_core.Statement.{statement}
 use Rattle.checkpoints.proofs.back.come_back_core.Tie as tie
 
@@ -43,7 +43,9 @@ wide-requires c κs = search needs
 
 mul-at : tie.Need-mul-at
 mul-at c =
-    let ready = c .before .before .before .before .check-back .ensures .1 (c .before .before .before .if1 .left) .0 in
+    let p1 = c .before .before .before in
+    let p2 = p1 .before in
+    let ready = p2 .check-back .ensures .1 (p1 .if1 .left) .0 in
     let i = c .wide .result in
     let size = c .before .before .place-size .result in
     let room = place-room i size (omega (arith, ready .known, c .before .place-of .ensures, c .wide .ensures)) in
@@ -51,7 +53,9 @@ mul-at c =
 
 add-end : tie.Need-add-end
 add-end c =
-    let ready = c .before .before .before .before .check-back .ensures .1 (c .before .before .before .if1 .left) .0 in
+    let p1 = c .before .before .before in
+    let p2 = p1 .before in
+    let ready = p2 .check-back .ensures .1 (p1 .if1 .left) .0 in
     let i = c .wide .result in
     let size = c .before .before .place-size .result in
     let room = place-room i size (omega (arith, ready .known, c .before .place-of .ensures, c .wide .ensures)) in
@@ -59,11 +63,16 @@ add-end c =
 
 mul-return-to : tie.Need-mul-return-to
 mul-return-to c =
-    let ready = c .before .before .before .before .before .before .before .before .before .check-back .ensures .1 (c .before .before .before .before .before .before .before .before .if1 .left) .0 in
-    let i = c .before .before .before .before .before .wide .result in
-    let size = c .before .before .before .before .before .before .before .place-size .result in
-    let room = place-room i size (omega (arith, ready .known, c .before .before .before .before .before .before .place-of .ensures, c .before .before .before .before .before .wide .ensures)) in
-    omega (arith, room, ready .few, c .before .before .before .before .before .before .before .place-size .ensures)
+    let p1 = c .before .before .before .before .before in
+    let p2 = p1 .before in
+    let p3 = p2 .before in
+    let p4 = p3 .before in
+    let p5 = p4 .before in
+    let ready = p5 .check-back .ensures .1 (p4 .if1 .left) .0 in
+    let i = p1 .wide .result in
+    let size = p3 .place-size .result in
+    let room = place-room i size (omega (arith, ready .known, p2 .place-of .ensures, p1 .wide .ensures)) in
+    omega (arith, room, ready .few, p3 .place-size .ensures)
 
 sub-return-to : tie.Need-sub-return-to
 sub-return-to c = search needs
@@ -73,22 +82,34 @@ part-return-to-start c = search needs
 
 part-return-to-end : tie.Need-part-return-to-end
 part-return-to-end c =
-    let ready = c .before .before .before .before .before .before .before .before .before .check-back .ensures .1 (c .before .before .before .before .before .before .before .before .if1 .left) .0 in
-    let i = c .before .before .before .before .before .wide .result in
-    let size = c .before .before .before .before .before .before .before .place-size .result in
-    let room = place-room i size (omega (arith, ready .known, c .before .before .before .before .before .before .place-of .ensures, c .before .before .before .before .before .wide .ensures)) in
-    omega (arith, room, ready .room, c .before .before .before .before .before .before .before .place-size .ensures)
+    let p1 = c .before .before .before .before .before in
+    let p2 = p1 .before in
+    let p3 = p2 .before in
+    let p4 = p3 .before in
+    let p5 = p4 .before in
+    let ready = p5 .check-back .ensures .1 (p4 .if1 .left) .0 in
+    let i = p1 .wide .result in
+    let size = p3 .place-size .result in
+    let room = place-room i size (omega (arith, ready .known, p2 .place-of .ensures, p1 .wide .ensures)) in
+    omega (arith, room, ready .room, p3 .place-size .ensures)
 
 return-to-requires : tie.Need-return-to-requires
 return-to-requires c κs =
-    let ready = c .before .before .before .before .before .before .before .before .before .before .check-back .ensures .1 (c .before .before .before .before .before .before .before .before .before .if1 .left) .0 in
-    let i = c .before .before .before .before .before .before .wide .result in
-    let size = c .before .before .before .before .before .before .before .before .place-size .result in
-    let room = place-room i size (omega (arith, ready .known, c .before .before .before .before .before .before .before .place-of .ensures, c .before .before .before .before .before .before .wide .ensures)) in
-    let all = c .before .before .before .before .before .before .before .before .before .before .check-back .ensures .1 (c .before .before .before .before .before .before .before .before .before .if1 .left) in
+    let p1 = c .before .before .before .before .before .before in
+    let p2 = p1 .before in
+    let p3 = p2 .before in
+    let p4 = p3 .before in
+    let p5 = p4 .before in
+    let p6 = p5 .before .before .before .before .before .before .before .before .before .before .before .before .before in
+    let ready = p5 .check-back .ensures .1 (p4 .if1 .left) .0 in
+    let i = p1 .wide .result in
+    let size = p3 .place-size .result in
+    let room = place-room i size (omega (arith, ready .known, p2 .place-of .ensures, p1 .wide .ensures)) in
+    let all = p5 .check-back .ensures .1 (p4 .if1 .left) in
     let part =
-    length-lent (i * size) (i * size + size) size (c .before .before .before .before .before .before .before .before .before .before .before .before .before .before .before .before .before .before .before .before .before .before .before .args .shelf .now) refl (omega (arith, room, ready .room, c .before .before .before .before .before .before .before .before .place-size .ensures)) in
-    ((ready .few, part ∙ c .before .before .before .before .before .before .before .before .place-size .ensures, all .1), ready .long)
+    length-lent (i * size) (i * size + size) size (p6 .args .shelf .now) refl
+    (omega (arith, room, ready .room, p3 .place-size .ensures)) in
+    ((ready .few, part ∙ p3 .place-size .ensures, all .1), ready .long)
 
 same-length-6 : tie.Need-same-length-6
 same-length-6 c = search needs
@@ -107,17 +128,24 @@ same-length-10 c = search needs
 
 returns-2 : tie.Need-returns-2
 returns-2 c =
-    let at1 = c .before .before .before .before .before .before .before .before .before .before .before .before .before .before .before .before .before .before .before .before .before .before .before .before .before .before .before .before .before .before .before .before .before .before in
+    let p1 = c .before .before .before .before .before .before .before .before .before .before in
+    let p2 = p1 .before .before .before .before .before .before .before in
+    let p3 = p2 .before in
+    let p4 = p3 .before in
+    let p5 = p4 .before in
+    let p6 = p5 .before in
+    let at1 = p6 .before .before .before .before .before .before .before .before .before .before .before .before .before in
     let s = slicesGiven (at1 .args .neighbours) (at1 .args .degrees) (at1 .args .waves) (at1 .args .counts) in
     let t = at1 .args .tally in
     let moved = at1 .args .moved .now in
     let name = at1 .args .name .now in
     let shelf = at1 .args .shelf .now in
-    let i = c .before .before .before .before .before .before .before .before .before .before .before .before .before .before .before .before .before .wide .result in
-    let size = c .before .before .before .before .before .before .before .before .before .before .before .before .before .before .before .before .before .before .before .place-size .result in
-    let is-size = c .before .before .before .before .before .before .before .before .before .before .before .before .before .before .before .before .before .before .before .place-size .ensures in
-    let lent = lent-place (t .banks) shelf (placeOf name) (i * size) (i * size + size) (rw (c .before .before .before .before .before .before .before .before .before .before .before .before .before .before .before .before .before .wide .ensures ∙ c .before .before .before .before .before .before .before .before .before .before .before .before .before .before .before .before .before .before .place-of .ensures, c .before .before .before .before .before .before .before .before .before .before .before .before .before .before .before .before .before .before .before .place-size .ensures) refl) (omega (arith, is-size)) in
-    rw lent at (c .before .before .before .before .before .before .before .before .before .before .return-to .ensures) ∙ back-done name s t moved shelf (sym (c .before .before .before .before .before .before .before .before .before .before .before .before .before .before .before .before .before .before .before .before .if1 .left) ∙ c .before .before .before .before .before .before .before .before .before .before .before .before .before .before .before .before .before .before .before .before .before .check-back .ensures .0)
+    let i = p2 .wide .result in
+    let size = p4 .place-size .result in
+    let is-size = p4 .place-size .ensures in
+    let lent = lent-place (t .banks) shelf (placeOf name) (i * size) (i * size + size)
+    (rw (p2 .wide .ensures ∙ p3 .place-of .ensures, p4 .place-size .ensures) refl) (omega (arith, is-size)) in
+    rw lent at (p1 .return-to .ensures) ∙ back-done name s t moved shelf (sym (p5 .if1 .left) ∙ p6 .check-back .ensures .0)
 
 pub come-back-core-spec : {M : Type 1} → statement M
 come-back-core-spec =

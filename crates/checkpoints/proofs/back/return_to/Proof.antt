@@ -4,8 +4,8 @@ use Prim.Native.Nat.{_+_, _*_}
 use native.Mathlib.Omega.{arith}
 use Rattle.memory.proofs.Theorems.{long}
 use Rattle.memory.specs.Lent.{slicesGiven}
-use Rattle.checkpoints.proofs.Calls.{lent-waves, came}
 use Rattle.shelf.proofs.Putting.{length-lent}
+use Rattle.checkpoints.proofs.Calls.{lent-waves, came}
 use Rattle.checkpoints.proofs.back.return_to.Statement.{statement}
 use Rattle.checkpoints.proofs.back.return_to.Tie as tie
 
@@ -38,17 +38,19 @@ part-list-moved-end c = search needs
 
 list-moved-requires : tie.Need-list-moved-requires
 list-moved-requires c κs =
-    let at1 = c .before .before .before .before .before .before .before .before .before .before in
-    let n = c .before .before .before .wide .result in
-    let is-n = c .before .before .before .wide .ensures in
+    let p1 = c .before .before .before in
+    let at1 = p1 .before .before .before .before .before .before .before in
+    let n = p1 .wide .result in
+    let is-n = p1 .wide .ensures in
     let l = long (at1 .args .banks) _ (at1 .pre .1) in
     let part = length-lent (1 + n * 24) (1 + n * 24 + n) n (at1 .args .place .now) (omega arith) (omega (arith, at1 .pre .0 .1, is-n)) in
     (omega (arith, at1 .pre .0 .0), omega (arith, l .waves), omega (arith, part, is-n), omega (arith, at1 .pre .0 .2))
 
 bring-back-requires : tie.Need-bring-back-requires
 bring-back-requires c κs =
-    let at1 = c .before .before .before .before .before .before .before .before .before .before .before .before .before .before .before .before .before in
-    let is-n = c .before .before .before .before .before .before .before .before .before .before .wide .ensures in
+    let p1 = c .before .before .before .before .before .before .before .before .before .before in
+    let at1 = p1 .before .before .before .before .before .before .before in
+    let is-n = p1 .wide .ensures in
     (omega (arith, at1 .pre .0 .1, is-n), (omega (arith, at1 .pre .0 .0, is-n), rw is-n (at1 .pre .1)))
 
 tally-in-requires : tie.Need-tally-in-requires
@@ -71,14 +73,17 @@ same-length-5 c = search needs
 
 returns : tie.Need-returns
 returns c =
-    let at1 = c .before .before .before .before .before .before .before .before .before .before .before .before .before .before .before .before .before .before .before .before .before .before .before .before .before .before .before in
-    let n = c .before .before .before .before .before .before .before .before .before .before .before .before .before .before .before .before .before .before .before .before .wide .result in
-    let is-n = c .before .before .before .before .before .before .before .before .before .before .before .before .before .before .before .before .before .before .before .before .wide .ensures in
+    let p1 = c .before .before .before .before .before .before .before .before .before in
+    let p2 = p1 .before .before .before .before .before .before .before in
+    let p3 = p2 .before .before .before .before in
+    let at1 = p3 .before .before .before .before .before .before .before in
+    let n = p3 .wide .result in
+    let is-n = p3 .wide .ensures in
     let banks = at1 .args .banks in
     let cells = at1 .args .place .now in
     let s = slicesGiven (at1 .args .neighbours) (at1 .args .degrees) (at1 .args .waves) (at1 .args .counts) in
     let waves = lent-waves banks cells s n (1 + n * 24) (1 + n * 24 + n) is-n (omega arith) (omega arith) in
-    came banks cells s (at1 .args .moved .now) _ _ _ _ (rw waves at (c .before .before .before .before .before .before .before .before .before .before .before .before .before .before .before .before .list-moved .ensures)) (rw is-n at (c .before .before .before .before .before .before .before .before .before .bring-back .ensures))
+    came banks cells s (at1 .args .moved .now) _ _ _ _ (rw waves at (p2 .list-moved .ensures)) (rw is-n at (p1 .bring-back .ensures))
     (rw is-n at (c .tally-in .ensures))
 
 pub return-to-spec : {M : Type 1} → statement M

@@ -2,8 +2,8 @@
 use borrow.Author.Needs.{needs}
 use mathlib.Core.Path.{refl, sym, _∙_}
 use native.Mathlib.Omega.{arith}
-use Rattle.checkpoints.proofs.Calls.{keep-refused, keep-done}
 use Rattle.shelf.proofs.Places.{place-room}
+use Rattle.checkpoints.proofs.Calls.{keep-refused, keep-done}
 use Rattle.checkpoints.proofs.keeping.keep.Statement.{statement}
 use Rattle.checkpoints.proofs.keeping.keep.Tie as tie
 
@@ -27,7 +27,9 @@ place-size-requires c κs = search needs
 
 mul-at : tie.Need-mul-at
 mul-at c =
-    let ready = c .before .before .before .before .check-keep .ensures .1 (c .before .before .before .if1 .left) in
+    let p1 = c .before .before .before in
+    let p2 = p1 .before in
+    let ready = p2 .check-keep .ensures .1 (p1 .if1 .left) in
     let i = c .before .wide .result in
     let size = c .place-size .result in
     let room = place-room i size (omega (arith, ready .known, c .before .before .place-of .ensures, c .before .wide .ensures)) in
@@ -35,10 +37,13 @@ mul-at c =
 
 put-plan-requires : tie.Need-put-plan-requires
 put-plan-requires c κs =
-    let ready = c .before .before .before .before .before .check-keep .ensures .1 (c .before .before .before .before .if1 .left) in
+    let p1 = c .before .before .before in
+    let p2 = p1 .before in
+    let p3 = p2 .before in
+    let ready = p3 .check-keep .ensures .1 (p2 .if1 .left) in
     let i = c .before .before .wide .result in
     let size = c .before .place-size .result in
-    let room = place-room i size (omega (arith, ready .known, c .before .before .before .place-of .ensures, c .before .before .wide .ensures)) in
+    let room = place-room i size (omega (arith, ready .known, p1 .place-of .ensures, c .before .before .wide .ensures)) in
     (omega (arith, room, ready .room, c .before .place-size .ensures), ready .long)
 
 same-length-2 : tie.Need-same-length-2
@@ -46,8 +51,13 @@ same-length-2 c = search needs
 
 returns-2 : tie.Need-returns-2
 returns-2 c =
-    keep-done _ _ _ _ _ _ (sym (c .before .before .before .before .before .before .before .if1 .left) ∙ c .before .before .before .before .before .before .before .before .check-keep .ensures .0)
-    (rw (c .before .before .before .before .before .wide .ensures ∙ c .before .before .before .before .before .before .place-of .ensures, c .before .before .before .before .place-size .ensures) refl)
+    let p1 = c .before .before .before .before in
+    let p2 = p1 .before in
+    let p3 = p2 .before in
+    let p4 = p3 .before in
+    let p5 = p4 .before in
+    keep-done _ _ _ _ _ _ (sym (p4 .if1 .left) ∙ p5 .check-keep .ensures .0)
+    (rw (p2 .wide .ensures ∙ p3 .place-of .ensures, p1 .place-size .ensures) refl)
     (c .before .before .put-plan .ensures)
 
 pub keep-spec : {M : Type 1} → statement M

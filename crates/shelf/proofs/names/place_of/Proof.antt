@@ -32,10 +32,18 @@ same-bytes-requires-3 : tie.Need-same-bytes-requires-3
 same-bytes-requires-3 c κs = search needs
 
 returns-3 : tie.Need-returns-3
-returns-3 c = place-third _ _ _ _ (c .before .before .before .before .before .before .before .same-bytes .ensures) (c .before .before .before .before .before .before .if1 .left) (c .before .before .before .before .same-bytes2 .ensures) (c .before .before .before .if2 .left) (c .before .same-bytes3 .ensures) (c .if3 .taken)
+returns-3 c =
+    let second = c .before .before .before in
+    let first = second .before .before .before in
+    place-third _ _ _ _ (first .before .same-bytes .ensures) (first .if1 .left) (second .before .same-bytes2 .ensures) (second .if2 .left)
+    (c .before .same-bytes3 .ensures) (c .if3 .taken)
 
 returns-4 : tie.Need-returns-4
-returns-4 c = place-none _ _ _ _ (c .before .before .before .before .before .before .before .same-bytes .ensures) (c .before .before .before .before .before .before .if1 .left) (c .before .before .before .before .same-bytes2 .ensures) (c .before .before .before .if2 .left) (c .before .same-bytes3 .ensures) (c .if3 .left)
+returns-4 c =
+    let second = c .before .before .before in
+    let first = second .before .before .before in
+    place-none _ _ _ _ (first .before .same-bytes .ensures) (first .if1 .left) (second .before .same-bytes2 .ensures) (second .if2 .left)
+    (c .before .same-bytes3 .ensures) (c .if3 .left)
 
 pub place-of-spec : {M : Type 1} → statement M
 place-of-spec =
