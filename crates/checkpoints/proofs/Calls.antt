@@ -1,22 +1,19 @@
 -- What the calls leave, from what their steps leave.
-use mathlib.Core.Bool.{true}
 use mathlib.Core.List.{List, [], _∷_, _++_}
 use mathlib.Core.Path.{_≡_, refl, ap, _∙_}
 use Prim.Native.Nat.{ℕ, zero, suc, _+_, _*_, _-_, _≤_}
 use native.Mathlib.Omega.{arith}
-use lib.ListN.{length, set, take, drop, length-set, length-append, length-take, length-drop}
+use lib.ListN.{length, set, take, drop, length-set, length-append}
 use lib.Seq.{length-take-le}
 use Rattle.memory.specs.declared.Tally.{Tally}
 use Rattle.memory.specs.Cells.{over}
-use Rattle.memory.specs.Plan.{Slices, slicesOf, longEnough}
+use Rattle.memory.specs.Plan.{Slices, slicesOf}
 use Rattle.memory.specs.inner.View.{Long}
-use Rattle.memory.proofs.Theorems.{long-enough}
 use Rattle.text.specs.Places.{put, Puts}
 use Rattle.text.proofs.Putting.{puts-one}
 use Rattle.shelf.specs.Names.{placeOf}
 use Rattle.shelf.specs.Shelf.{placeSize, part, place, slicesIn, tallyIn, placeCells}
-use Rattle.checkpoints.specs.Calls.{openShelfNumber, keepNumber, backNumber, shelfResult, unusedShelf, openShelfBy, openShelf, keptUnder, keepBy, keep}
-use Rattle.checkpoints.specs.Calls.{backResult, overAll, cameBack, backBy, comeBack}
+use Rattle.checkpoints.specs.Calls.{openShelfNumber, keepNumber, backNumber, shelfResult, unusedShelf, openShelfBy, openShelf, keptUnder, keepBy, keep, backResult, overAll, cameBack, backBy, comeBack}
 use Rattle.shelf.specs.inner.Copies.{Copied}
 use Rattle.checkpoints.specs.inner.Steps.{Listed}
 use Rattle.shelf.proofs.Places.{lent-part}

@@ -1,14 +1,13 @@
 -- A shelf that was opened: nothing is used, and question 5 is answered by yes.
-use mathlib.Core.Bool.{Bool, true, false}
+use mathlib.Core.Bool.{true, false}
 use mathlib.Core.List.{List, [], _∷_}
 use mathlib.Core.Path.{_≡_, refl, sym, ap, _∙_}
-use Prim.Native.Nat.{ℕ, zero, suc, _+_, _*_, _≤_, _<_}
+use Prim.Native.Nat.{ℕ, zero, suc, _*_, _≤_, _<_}
 use native.Mathlib.Nat.{zero-mul, one-mul}
 use native.Mathlib.Omega.{arith}
-use lib.Dec.{eqb}
 use lib.ListN.{length, getD}
 use Rattle.text.specs.Places.{put}
-use Rattle.shelf.specs.Shelf.{placeSize, place, used, placeRight, shelfRight}
+use Rattle.shelf.specs.Shelf.{placeSize, place, used, shelfRight}
 use Rattle.checkpoints.specs.Calls.{openShelfNumber, unusedShelf, openShelfBy, openShelf}
 use Rattle.shelf.proofs.Putting.{length-put, part-cell, put-cell, put-cell-before}
 use Rattle.checkpoints.proofs.Numbers.{shelf-passed}

@@ -2,8 +2,8 @@
 use mathlib.Core.Bool.{true, false}
 use mathlib.Core.List.{List}
 use mathlib.Core.Logic.{_↔_}
-use mathlib.Core.Path.{_≡_, refl, sym, ap, _∙_, subst}
-use Prim.Native.Nat.{ℕ, suc, _*_, _≤_, _<_}
+use mathlib.Core.Path.{_≡_}
+use Prim.Native.Nat.{ℕ, _≤_, _<_}
 use lib.Dec.{T}
 use lib.ListN.{length, getD, take, drop}
 use Rattle.rule.specs.Graph.{Graph}
@@ -11,10 +11,9 @@ use Rattle.rule.specs.Lists.{memb}
 use Rattle.rule.specs.Wave.{wave}
 use Rattle.memory.specs.declared.Tally.{Tally}
 use Rattle.memory.specs.Plan.{Slices, PlanOf}
-use Rattle.memory.specs.PlanCells.{planCells}
 use Rattle.shelf.specs.Names.{morning, noon, close, placeOf}
-use Rattle.shelf.specs.Shelf.{placeSize, shelfSize, place, used, slicesIn, tallyIn, shelfRight, placeCells}
-use Rattle.checkpoints.specs.Calls.{openShelfNumber, keepNumber, openShelf, keep, backResult, differing, comeBack}
+use Rattle.shelf.specs.Shelf.{shelfSize, place, used, shelfRight, placeCells}
+use Rattle.checkpoints.specs.Calls.{openShelfNumber, keepNumber, openShelf, keep, differing, comeBack}
 use Rattle.checkpoints.specs.Between.{Keeping, afterKeepings, Others, GivesBack, clashesKept}
 use Rattle.shelf.proofs.Bytes as Bytes
 use Rattle.checkpoints.proofs.Opened as Opened

@@ -1,6 +1,5 @@
 -- `put_part`: all of the place from `start` on is lent, and its first cells are put.
 use borrow.Author.Needs.{needs}
-use native.Mathlib.Omega.{arith}
 use Rattle.shelf.proofs.Putting.{copied-front}
 use Rattle.shelf.proofs.cells.put_part.Statement.{statement}
 use Rattle.shelf.proofs.cells.put_part.Tie as tie

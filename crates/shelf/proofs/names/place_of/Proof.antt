@@ -1,8 +1,5 @@
 -- `place_of`: name after name.
 use borrow.Author.Needs.{needs}
-use borrow.Author.Tests.{not-true, not-false}
-use mathlib.Core.Path.{_≡_, sym, _∙_}
-use native.Mathlib.Omega.{arith}
 use Rattle.shelf.proofs.Bytes.{place-first, place-second, place-third, place-none}
 use Rattle.shelf.proofs.names.place_of.Statement.{statement}
 use Rattle.shelf.proofs.names.place_of.Tie as tie

@@ -1,17 +1,13 @@
 -- The loop has compared the first i bytes.
+use borrow.Author.Needs.{needs}
+use mathlib.Core.Path.{refl, sym, _∙_, _≡_}
+use Prim.Native.Nat.{_-_, _≤_}
+use native.Mathlib.Omega.{arith}
+use lib.ListN.{drop, length}
 use Rattle.shelf.specs.Names.{same}
 use Rattle.shelf.proofs.Bytes.{same-long, same-next, same-not, same-end}
-use lib.ListN.{drop}
-use mathlib.Core.Path.{refl, sym, _∙_}
-use borrow.Author.Needs.{needs}
-use native.Mathlib.Omega.{arith}
-use Prim.Native.Nat.{ℕ, _+_, _*_, _-_, _<_, _≤_}
-use mathlib.Core.Path.{_≡_}
-use lib.ListN.{length, getD, set, length-set}
 use Rattle.shelf.proofs.names.same_bytes.Statement.{statement}
 use Rattle.shelf.proofs.names.same_bytes.Tie as tie
-use Rattle.shelf.proofs.names.same_bytes.Reads as reads
-use Rattle.shelf.proofs.names.same_bytes.Lts as lts
 
 abbrev Inv-loop : tie.InvT-loop
 Inv-loop a b i₀ i = (same a b ≡ same (drop i a) (drop i b)) × (i ≤ length b) × (length a ≡ length b)

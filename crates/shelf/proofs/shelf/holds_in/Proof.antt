@@ -1,7 +1,6 @@
 -- `holds_in`: the planner's own test on the parts of the place.
 use borrow.Author.Needs.{needs}
-use mathlib.Core.Path.{_≡_}
-use Prim.Native.Nat.{ℕ, _+_, _*_}
+use Prim.Native.Nat.{_+_, _*_}
 use native.Mathlib.Omega.{arith}
 use Rattle.shelf.proofs.Places.{holds-other, holds-here, slices-from, slices-long}
 use Rattle.shelf.proofs.shelf.holds_in.Statement.{statement}

@@ -1,6 +1,5 @@
 -- `place_right`: by its used cell.
 use borrow.Author.Needs.{needs}
-use native.Mathlib.Omega.{arith}
 use Rattle.shelf.proofs.Places.{right-unused, right-above, right-used}
 use Rattle.shelf.proofs.shelf.place_right.Statement.{statement}
 use Rattle.shelf.proofs.shelf.place_right.Tie as tie
