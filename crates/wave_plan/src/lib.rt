@@ -1,4 +1,5 @@
-// The C library: the names and parameters of each call, as `include/wave_plan.h` declares them. What a call does is in `c_calls`.
+// The C library: the names and parameters of each call, as `include/wave_plan.h` declares them. What a call does is in `c_calls`, but for
+// opening a shelf, which has neither tally nor results: in `checkpoints`.
 mod editing;
 mod plan;
 mod recording;
