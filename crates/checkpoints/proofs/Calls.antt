@@ -13,7 +13,8 @@ use Rattle.text.specs.Places.{put, Puts}
 use Rattle.text.proofs.Putting.{puts-one}
 use Rattle.shelf.specs.Names.{placeOf}
 use Rattle.shelf.specs.Shelf.{placeSize, part, place, slicesIn, tallyIn, placeCells}
-use Rattle.checkpoints.specs.Calls.{openShelfNumber, keepNumber, backNumber, shelfResult, unusedShelf, openShelfBy, openShelf, keptUnder, keepBy, keep, backResult, overAll, cameBack, backBy, comeBack}
+use Rattle.checkpoints.specs.Calls.{openShelfNumber, keepNumber, backNumber, shelfResult, unusedShelf, openShelfBy, openShelf}
+use Rattle.checkpoints.specs.Calls.{keptUnder, keepBy, keep, backResult, overAll, cameBack, backBy, comeBack}
 use Rattle.shelf.specs.inner.Copies.{Copied}
 use Rattle.checkpoints.specs.inner.Steps.{Listed}
 use Rattle.shelf.proofs.Places.{lent-part}
