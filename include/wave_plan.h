@@ -72,6 +72,8 @@ extern "C" {
 /* A shelf keeps up to three plans of n banks, n being the bank count of the present plan. It is one slice of 16-bit cells: three
  * places, in the order of the names below. A place is a used cell, 0 or 1; then the cells of the plan, neighbours, degrees, waves and
  * counts; then its tally, banks, clashes and waves. A place whose used cell is 0 may hold anything; a used cell above 1 gets 3.
+ * The places are laid out by n: use a shelf for one bank count, and open it again for another, since a keeping of another count can
+ * overwrite what is kept.
  * A name is eight bytes, padded with spaces: "MORNING ", "NOON    " or "CLOSE   ". There are no others. */
 #define WAVE_PLAN_PLACES 3
 #define WAVE_PLAN_PLACE_CELLS(n) (49 * (size_t)(n) + 4)

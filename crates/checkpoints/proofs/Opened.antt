@@ -14,6 +14,25 @@ use Rattle.checkpoints.proofs.Numbers.{shelf-passed}
 use Rattle.shelf.proofs.Places.{right-unused}
 use Rattle.checkpoints.proofs.Shelves.{all-right}
 
+module _ (n : ℕ) (shelf : List ℕ) where
+  -- the call's number
+  pub open-number : openShelf n shelf .number ≡ openShelfNumber n shelf
+  unfolding openShelf openShelfBy
+  open-number = go (openShelfNumber n shelf)
+    where
+      go : (c : ℕ) → openShelfBy c n shelf .number ≡ c
+      go zero = refl
+      go (suc c) = refl
+
+  -- a refused one
+  pub open-unchanged : (openShelf n shelf .number ≡ 0 → ⊥) → openShelf n shelf .shelf ≡ shelf
+  unfolding openShelf openShelfBy
+  open-unchanged d = go (openShelfNumber n shelf) d
+    where
+      go : (c : ℕ) → (openShelfBy c n shelf .number ≡ 0 → ⊥) → openShelfBy c n shelf .shelf ≡ shelf
+      go zero d = absurd (d refl)
+      go (suc c) d = refl
+
 module _ (n : ℕ) (shelf : List ℕ) (z : openShelfNumber n shelf ≡ 0) where
   abbrev size : ℕ
   size = placeSize n

@@ -6,14 +6,15 @@ use mathlib.Core.Path.{_≡_, refl, sym, ap, _∙_, subst}
 use Prim.Native.Nat.{ℕ, zero, suc, _+_, _*_, _≤_, _<_}
 use native.Mathlib.Omega.{arith}
 use borrow.Author.Tests.{leb-true}
-use lib.Dec.{T, leb, ltb, eqb, eqb→eq, ltb→lt, T-not, not-T}
+use lib.Dec.{T, leb, ltb, eqb, eqb→eq, ltb→lt, T-not, not-T, lt→ltb}
 use lib.ListN.{length, getD, take, drop, length-take}
 use lib.Seq.{take-all}
-use Rattle.rule.specs.Lists.{upto, memb}
+use Rattle.rule.specs.Lists.{upto, memb, filter, Sorted}
 use Rattle.rule.specs.Graph.{Graph}
 use Rattle.rule.specs.Wave.{wave}
-use Rattle.rule.proofs.Booleans.{both-true, T-along, eq→eqb}
+use Rattle.rule.proofs.Booleans.{both-true, T-along, eq→eqb, and-l, and-r, both, test-ext}
 use Rattle.rule.proofs.Lists.{in-filter, filter-in, in-upto, filter-cong, upto-below}
+use Rattle.rule.proofs.Sorting.{sorted-filter, sorted-upto}
 use Rattle.memory.specs.declared.Tally.{Tally}
 use Rattle.memory.specs.Cells.{over}
 use Rattle.memory.specs.Plan.{Slices, longEnough, planIn, graphIn, holds, PlanOf}
@@ -21,7 +22,7 @@ use Rattle.memory.proofs.Theorems.{long, holds-plan, plan-again, long-again, he
 use Rattle.planner.proofs.Numbers.{none}
 use Rattle.shelf.specs.Names.{placeOf, known}
 use Rattle.shelf.specs.Shelf.{placeSize, part, place, used, slicesIn, tallyIn, holdsIn, placeRight, shelfRight}
-use Rattle.checkpoints.specs.Calls.{shelfLong, backNumber, differing, overAll, cameBack, backBy, comeBack}
+use Rattle.checkpoints.specs.Calls.{shelfLong, backNumber, differing, overAll, cameBack, backBy, comeBack, backResult}
 use Rattle.checkpoints.specs.Between.{clashesKept}
 use Rattle.shelf.proofs.Putting.{first}
 use Rattle.checkpoints.proofs.Kept.{fronts, exactly, fronts-exactly, over-exactly}
@@ -155,6 +156,13 @@ module _ (name : List ℕ) (s : Slices) (t : Tally) (moved shelf : List ℕ) whe
     differ-same =
         filter-cong _ _ (upto banks) (λ x m. ap (λ (w : ℕ). not (eqb (getD (s .waves) x 0) w)) (same-waves x (upto-below banks x m)))
 
+    pub back-count : comeBack name s t moved shelf .count ≡ length (differing banks (s .waves) (comeBack name s t moved shelf .slices .waves))
+    unfolding cameBack
+    back-count = counted ∙ ap length differ-same
+      where
+        counted : comeBack name s t moved shelf .count ≡ length (differing banks (s .waves) (slicesIn banks cells .waves))
+        counted = rw came refl
+
     pub back-moved : take (comeBack name s t moved shelf .count) (comeBack name s t moved shelf .moved)
         ≡ differing banks (s .waves) (comeBack name s t moved shelf .slices .waves)
     unfolding cameBack over
@@ -167,13 +175,29 @@ module _ (name : List ℕ) (s : Slices) (t : Tally) (moved shelf : List ℕ) whe
             (first (differing banks (s .waves) (slicesIn banks cells .waves)) (drop (length (differing banks (s .waves) (slicesIn banks cells .waves))) moved)
             (length (differing banks (s .waves) (slicesIn banks cells .waves))) refl)
 
--- who is listed: just those whose wave differs
-pub listed-differ : (n : ℕ) (old new : List ℕ) (b : ℕ) → b < n → T (memb b (differing n old new)) ↔ (getD old b 0 ≡ getD new b 0 → ⊥)
-unfolding differing
-listed-differ n old new b h = (
-  λ m e. T-not (eqb (getD old b 0) (getD new b 0)) (filter-in test (upto n) b m .1) (eq→eqb (getD old b 0) (getD new b 0) e),
-  λ d. in-filter test (upto n) b (in-upto n b h) (not-T (eqb (getD old b 0) (getD new b 0)) (λ u. d (eqb→eq (getD old b 0) (getD new b 0) u))),
-)
+-- a refused one answers its number and the count 0, and leaves all as it was
+pub back-unchanged : (name : List ℕ) (s : Slices) (t : Tally) (moved shelf : List ℕ) → (comeBack name s t moved shelf .number ≡ 0 → ⊥)
+    → comeBack name s t moved shelf ≡ backResult (comeBack name s t moved shelf .number) 0 s t moved
+unfolding comeBack backBy cameBack
+back-unchanged name s t moved shelf d = go (backNumber s t moved name shelf) d
   where
-    test : ℕ → Bool
-    test x = not (eqb (getD old x 0) (getD new x 0))
+    go : (c : ℕ) → (backBy c name s t moved shelf .number ≡ 0 → ⊥)
+        → backBy c name s t moved shelf ≡ backResult (backBy c name s t moved shelf .number) 0 s t moved
+    go zero d = absurd (d refl)
+    go (suc c) d = refl
+
+-- who is listed: just the banks whose wave differs, ascending
+module _ (n : ℕ) (old new : List ℕ) where
+  abbrev test : ℕ → Bool
+  test x = not (eqb (getD old x 0) (getD new x 0))
+
+  pub differing-members : (b : ℕ) → memb b (differing n old new) ≡ (ltb b n && not (eqb (getD old b 0) (getD new b 0)))
+  unfolding differing
+  differing-members b =
+      test-ext (memb b (filter test (upto n))) (ltb b n && test b)
+      (λ m. let r = filter-in test (upto n) b m in both (ltb b n) (test b) (lt→ltb b n (upto-below n b (r .0))) (r .1))
+      (λ u. in-filter test (upto n) b (in-upto n b (ltb→lt b n (and-l (ltb b n) (test b) u))) (and-r (ltb b n) (test b) u))
+
+  pub differing-sorted : Sorted ltb (differing n old new)
+  unfolding differing
+  differing-sorted = sorted-filter ltb test (upto n) (sorted-upto n)

@@ -12,14 +12,15 @@ use Rattle.rule.proofs.Booleans.{both-true, T-along}
 use Rattle.memory.specs.declared.Tally.{Tally}
 use Rattle.memory.specs.Plan.{Slices, longEnough, graphIn, holds, PlanOf}
 use Rattle.memory.proofs.Theorems.{long, holds-plan}
-use Rattle.planner.proofs.Numbers.{none}
+use Rattle.planner.proofs.Numbers.{none, held-number}
 use Rattle.text.specs.Places.{put}
 use Rattle.shelf.specs.Names.{placeOf, known}
 use Rattle.shelf.specs.Shelf.{placeSize, place, placeRight, shelfRight, placeCells}
 use Rattle.checkpoints.specs.Calls.{shelfLong, keepNumber, keptUnder, keepBy, keep}
-use Rattle.checkpoints.specs.Between.{Keeping, afterKeepings, Others}
+use Rattle.checkpoints.specs.Between.{Keeping, afterKeepings, Other, Others}
 use Rattle.shelf.proofs.Putting.{drop-after, put-again}
 use Rattle.shelf.proofs.Places.{place-room}
+use Rattle.checkpoints.proofs.Numbers.{shelf-fine, keep-fine}
 use Rattle.checkpoints.proofs.Calls.{length-placeCells}
 use Rattle.checkpoints.proofs.Shelves.{length-after, place-here, place-other, kept-right, all-right, each-right}
 
@@ -93,6 +94,15 @@ module _ (s : Slices) (t : Tally) (name shelf : List ℕ) where
             go (yes e) = rw (e, kept-here) (kept-right (graphIn n s) s t (can .plan))
             go (no d) = rw (kept-other i h d) (each-right n shelf (can .right) i h)
 
+  -- the call's number
+  pub keep-number : keep name s t shelf .number ≡ keepNumber s t name shelf
+  unfolding keep keepBy
+  keep-number = go (keepNumber s t name shelf)
+    where
+      go : (c : ℕ) → keepBy c name s t shelf .number ≡ c
+      go zero = refl
+      go (suc c) = refl
+
   -- a refused one
   pub keep-unchanged : (keepNumber s t name shelf ≡ 0 → ⊥) → keep name s t shelf .shelf ≡ shelf
   unfolding keep keepBy
@@ -102,11 +112,21 @@ module _ (s : Slices) (t : Tally) (name shelf : List ℕ) where
       go zero d = absurd (d refl)
       go (suc c) d = refl
 
--- a second keeping under the name replaces the first
-pub kept-again : (s : Slices) (t : Tally) (name shelf : List ℕ) → keepNumber s t name shelf ≡ 0 → (s′ : Slices) (t′ : Tally) → t′ .banks ≡ t .banks
+-- a second keeping of as many banks would be accepted without the first
+pub accepted-before : (s : Slices) (t : Tally) (name shelf : List ℕ) → keepNumber s t name shelf ≡ 0 → (s′ : Slices) (t′ : Tally) → t′ .banks ≡ t .banks
     → keepNumber s′ t′ name (keep name s t shelf .shelf) ≡ 0 → keepNumber s′ t′ name shelf ≡ 0
+accepted-before s t name shelf z s′ t′ e y =
+    let can = keepable s t name shelf z in
+    let can′ = keepable s′ t′ name (keep name s t shelf .shelf) y in
+    keep-fine s′ t′ name shelf (shelf-fine (t′ .banks) shelf (can′ .few) (rw e (can .room))) (held-number (graphIn (t′ .banks) s′) s′ t′ (can′ .plan))
+    (rw e (can .right)) (can .near)
+
+-- and replaces it
+pub kept-again : (s : Slices) (t : Tally) (name shelf : List ℕ) → keepNumber s t name shelf ≡ 0 → (s′ : Slices) (t′ : Tally) → t′ .banks ≡ t .banks
+    → keepNumber s′ t′ name (keep name s t shelf .shelf) ≡ 0
     → keep name s′ t′ (keep name s t shelf .shelf) .shelf ≡ keep name s′ t′ shelf .shelf
-kept-again s t name shelf z s′ t′ e y z′ =
+kept-again s t name shelf z s′ t′ e y =
+    let z′ = accepted-before s t name shelf z s′ t′ e y in
     let can = keepable s t name shelf z in
     let can′ = keepable s′ t′ name shelf z′ in
     let new = placeCells s′ t′ in
@@ -134,28 +154,29 @@ kept-on name s t shelf z = record {
   here = kept-here s t name shelf z;
 }
 
--- a keeping of as many banks under another name leaves it there, and so do any number of them
+-- a keeping leaves it there that is refused, or of as many banks and under another name; and so do any number of them
 module _ (name : List ℕ) (near : placeOf name < 3) (s : Slices) (t : Tally) where
-  keep-leaves : (shelf : List ℕ) → KeptOn name s t shelf → (k : Keeping) → k .tally .banks ≡ t .banks → (placeOf (k .name) ≡ placeOf name → ⊥)
+  keep-leaves : (shelf : List ℕ) → KeptOn name s t shelf → (k : Keeping) → (keep (k .name) (k .slices) (k .tally) shelf .number ≡ 0 → Other (t .banks) name k)
       → KeptOn name s t (keep (k .name) (k .slices) (k .tally) shelf .shelf)
-  keep-leaves shelf h k e d = go (ℕ-discrete (keepNumber (k .slices) (k .tally) (k .name) shelf) 0)
+  keep-leaves shelf h k o = go (ℕ-discrete (keepNumber (k .slices) (k .tally) (k .name) shelf) 0)
     where
       after : List ℕ
       after = keep (k .name) (k .slices) (k .tally) shelf .shelf
 
       go : Dec (keepNumber (k .slices) (k .tally) (k .name) shelf ≡ 0) → KeptOn name s t (keep (k .name) (k .slices) (k .tally) shelf .shelf)
-      go (yes z) = record {
-        room = omega (arith, kept-length (k .slices) (k .tally) (k .name) shelf z, h .room);
-        right = subst (λ (m : ℕ). shelfRight m after ≡ true) e (kept-shelf-right (k .slices) (k .tally) (k .name) shelf z);
-        here =
-            subst (λ (m : ℕ). place m (placeOf name) after ≡ place m (placeOf name) shelf) e
-            (kept-other (k .slices) (k .tally) (k .name) shelf z (placeOf name) near (λ f. d (sym f)))
-            ∙ h .here;
-      }
+      go (yes z) =
+          let other = o (keep-number (k .slices) (k .tally) (k .name) shelf ∙ z) in
+          record {
+            room = omega (arith, kept-length (k .slices) (k .tally) (k .name) shelf z, h .room);
+            right = subst (λ (m : ℕ). shelfRight m after ≡ true) (other .banks) (kept-shelf-right (k .slices) (k .tally) (k .name) shelf z);
+            here =
+                subst (λ (m : ℕ). place m (placeOf name) after ≡ place m (placeOf name) shelf) (other .banks)
+                (kept-other (k .slices) (k .tally) (k .name) shelf z (placeOf name) near (λ f. other .differs (sym f)))
+                ∙ h .here;
+          }
       go (no c) = rw (keep-unchanged (k .slices) (k .tally) (k .name) shelf c) h
 
-  pub keepings-leave : (ks : List Keeping) → Others (t .banks) name ks → (shelf : List ℕ) → KeptOn name s t shelf → KeptOn name s t (afterKeepings ks shelf)
+  pub keepings-leave : (ks : List Keeping) (shelf : List ℕ) → Others (t .banks) name ks shelf → KeptOn name s t shelf → KeptOn name s t (afterKeepings ks shelf)
   unfolding afterKeepings
-  keepings-leave [] o shelf h = h
-  keepings-leave (k ∷ ks) o shelf h =
-      keepings-leave ks (o .2) (keep (k .name) (k .slices) (k .tally) shelf .shelf) (keep-leaves shelf h k (o .0) (o .1))
+  keepings-leave [] shelf o h = h
+  keepings-leave (k ∷ ks) shelf o h = keepings-leave ks (keep (k .name) (k .slices) (k .tally) shelf .shelf) (o .1) (keep-leaves shelf h k (o .0))

@@ -1,5 +1,4 @@
--- What the theorems on kept states speak of. Between a keeping and the coming back the shelf changes by further keepings alone: every other
--- call leaves it as it is.
+-- What the theorems on kept states speak of. Opening it aside, the shelf changes by keepings alone: every other call leaves it as it is.
 use mathlib.Core.List.{List, [], _∷_}
 use mathlib.Core.Path.{_≡_}
 use Prim.Native.Nat.{ℕ}
@@ -22,10 +21,16 @@ unfoldable pub afterKeepings : List Keeping → List ℕ → List ℕ
 afterKeepings [] shelf = shelf
 afterKeepings (k ∷ ks) shelf = afterKeepings ks (keep (k .name) (k .slices) (k .tally) shelf .shelf)
 
--- each is of n banks, and under another name
-abbrev pub Others : ℕ → List ℕ → List Keeping → Type 0
-Others n name [] = Unit {0}
-Others n name (k ∷ ks) = (k .tally .banks ≡ n) × (placeOf (k .name) ≡ placeOf name → ⊥) × Others n name ks
+-- each of these calls that is accepted is of n banks, and under another name
+pub record Other (n : ℕ) (name : List ℕ) (k : Keeping) : Type 0 where
+  pub banks : k .tally .banks ≡ n
+  pub differs : placeOf (k .name) ≡ placeOf name → ⊥
+
+abbrev pub Others : ℕ → List ℕ → List Keeping → List ℕ → Type 0
+Others n name [] shelf = Unit {0}
+Others n name (k ∷ ks) shelf =
+    let r = keep (k .name) (k .slices) (k .tally) shelf in
+    (r .number ≡ 0 → Other n name k) × Others n name ks (r .shelf)
 
 -- a call of come_back was accepted, and gave back the plan cells of n banks in s and the tally t
 pub record GivesBack (n : ℕ) (s : Slices) (t : Tally) (r : BackResult) : Type 0 where

@@ -23,7 +23,7 @@ ghost use Rattle.shelf.specs.Shelf.{placeSize, slicesIn};
 ghost use Rattle.checkpoints.specs.Calls.{backNumber, backResult, overAll, cameBack, comeBack};
 ghost use Rattle.checkpoints.specs.inner.Steps.{Listed, KeepReady};
 
-// The questions of coming back, for a moved slice of so many cells.
+// The questions of coming back.
 fn check_back(
     neighbours: &[u16],
     degrees: &[u16],
@@ -61,8 +61,7 @@ fn check_back(
 // Lists bank b after `count` others if its wave differs, and answers how many are listed.
 fn list_bank(old: &[u16], new: &[u16], moved: &mut [u16], b: Bank, count: u16) -> u16
     requires { ⌜ (b .0 < length (now old)) × (b .0 < length (now new)) ⌝ }
-    requires { ⌜ (count ≤ b .0) × (b .0 < length (now moved)) ⌝ }
-    requires { ⌜ b .0 < 1024 ⌝ }
+    requires { ⌜ (count < length (now moved)) × (count < 1024) ⌝ }
     ensures { λ r. ⌜ ((was : List ℕ)
         → Listed (b .0) (now (old .entry)) (now (new .entry)) was count (now (moved .entry))
         → Listed (b .0 + 1) (now (old .entry)) (now (new .entry)) was r (now (moved .exit))) ⌝ }

@@ -42,7 +42,7 @@ returns-2 : tie.Need-returns-2
 returns-2 c =
     let at1 = c .before .before .before .before .before .before .before .before in
     let differs = rw (c .before .before .before .before .wide .ensures) at (c .before .if1 .left) in
-    λ was h. rw (c .wide2 .ensures) (listed-other _ _ _ was _ _ h differs (omega (arith, at1 .pre .1 .0 .0, at1 .pre .1 .0 .1)))
+    λ was h. rw (c .wide2 .ensures) (listed-other _ _ _ was _ _ h differs (at1 .pre .1 .0))
 
 pub list-bank-spec : {M : Type 1} → statement M
 list-bank-spec =

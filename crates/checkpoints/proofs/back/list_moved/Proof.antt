@@ -24,7 +24,8 @@ list-bank-requires c κs =
     let w = c .before .before .loop in
     let at1 = c .before .before .before .before .before .before in
     let few = length-differing (w .b) (at1 .args .old .now) (at1 .args .new .now) in
-    ((omega (arith, at1 .pre), omega (arith, at1 .pre)), ((omega (arith, w .inv .0 .count), omega (arith, w .inv .2, at1 .pre)), omega (arith, at1 .pre)))
+    let count = w .inv .0 .count in
+    ((omega (arith, at1 .pre), omega (arith, at1 .pre)), (omega (arith, count, w .inv .2, at1 .pre), omega (arith, count, at1 .pre)))
 
 add-b : tie.Need-add-b Inv-loop μ-loop
 add-b c = search needs
