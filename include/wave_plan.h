@@ -33,11 +33,16 @@ extern "C" {
  *   degrees      n cells. How many banks clash with b.
  *   waves        n cells. The wave of b.
  *   counts       24 * n cells. Cell 24 * b + c: how many neighbours of b that are earlier than b stand in wave c.
+ *   ranks        n cells. The rank of b, 0 to 9999; 0 after opening. Of two banks with as many clashes the one of the smaller rank
+ *                is earlier; of equal ranks, the one of the smaller number. They are set by the K rows of a list, the K fields of a
+ *                journal and the return to a kept plan, and by no edit. A plan without clashes is a plan with any ranks up to 9999, so
+ *                that a caller may also write them before the first clash.
  *   trail        n cells. After an accepted edit its front holds the banks that were taken up, in the new order.
  *   moved        n cells. After an accepted edit its front holds the banks whose wave changed, in the new order. After a return to a
  *                kept plan (wave_plan_come_back) it holds them ascending.
  */
 #define WAVE_PLAN_MOST_BANKS 1024
+#define WAVE_PLAN_MOST_RANK 9999
 #define WAVE_PLAN_ROW_CELLS 23
 #define WAVE_PLAN_COUNT_CELLS 24
 #define WAVE_PLAN_UNUSED 65535
@@ -62,21 +67,24 @@ extern "C" {
 #define WAVE_PLAN_MOST_POSTER_BYTES 8200
 
 /* A journal is a row of fields: a one-byte tag, a two-byte length and the value, low byte first. The first field has the bank count
- * as its value, two bytes; each other one an edit's two banks in the order given, four bytes. */
+ * as its value, two bytes; each other one four bytes: an edit's two banks in the order given, or a bank and its rank (a K field).
+ * K fields come before the first edit; of several for one bank the last counts. */
 #define WAVE_PLAN_FIRST_TAG 0x4E
 #define WAVE_PLAN_ADD_TAG 0x2B
 #define WAVE_PLAN_STRIKE_TAG 0x2D
+#define WAVE_PLAN_RANK_TAG 0x4B
 #define WAVE_PLAN_FIRST_BYTES 5
 #define WAVE_PLAN_ENTRY_BYTES 7
 
 /* A shelf keeps up to three plans of n banks, n being the bank count of the present plan. It is one slice of 16-bit cells: three
  * places, in the order of the names below. A place is a used cell, 0 or 1; then the cells of the plan, neighbours, degrees, waves and
- * counts; then its tally, banks, clashes and waves. A place whose used cell is 0 may hold anything; a used cell above 1 gets 3.
+ * counts; then its tally, banks, clashes and waves; then its ranks. A place whose used cell is 0 may hold anything; a used cell
+ * above 1 gets 3.
  * The places are laid out by n: use a shelf for one bank count, and open it again for another, since a keeping of another count can
  * overwrite what is kept.
  * A name is eight bytes, padded with spaces: "MORNING ", "NOON    " or "CLOSE   ". There are no others. */
 #define WAVE_PLAN_PLACES 3
-#define WAVE_PLAN_PLACE_CELLS(n) (49 * (size_t)(n) + 4)
+#define WAVE_PLAN_PLACE_CELLS(n) (50 * (size_t)(n) + 4)
 #define WAVE_PLAN_SHELF_CELLS(n) (WAVE_PLAN_PLACES * WAVE_PLAN_PLACE_CELLS(n))
 #define WAVE_PLAN_NAME_BYTES 8
 
@@ -85,12 +93,12 @@ extern "C" {
  *   add                           1, 2, 3, 4, 5, 6, 8
  *   strike                        1, 2, 3, 4, 5, 7
  *   wave_of, clashes_of           1, 2, 3, 4
- *   read_list                     9, 10, 1, 2; then each row in turn: 11, 4, 5, 6 or 7, 8
+ *   read_list                     9, 10, 1, 2; then each row in turn: 11, 18, 4, 5, 6 or 7, 8
  *   write_sheet, write_poster     1, 2, 3, 12
  *   start_journal                 1, 2, 3, 15
- *   add_recorded                  9, 13, 1, 2, 3, 14, 4, 5, 6, 8, 15
- *   strike_recorded               9, 13, 1, 2, 3, 14, 4, 5, 7, 15
- *   replay                        9, 13, 1, 2; then each field in turn: 14, 4, 5, 6 or 7, 8
+ *   add_recorded                  9, 13, 1, 2, 3; each field so far in turn: 14, 18; then 4, 5, 6, 8, 15
+ *   strike_recorded               9, 13, 1, 2, 3; each field so far in turn: 14, 18; then 4, 5, 7, 15
+ *   replay                        9, 13, 1, 2; then each field in turn: 14, 18, 4, 5, 6 or 7, 8
  *   keep                          1, 2, 3, 16
  *   come_back                     1, 2, 3, 16, 17
  */
@@ -105,95 +113,102 @@ extern "C" {
 #define WAVE_PLAN_ROW_FULL 8        /* (add) Have both fewer than 23 clashes? */
 #define WAVE_PLAN_LONG_LIST 9       /* (list, journal) Has it at most 60000 bytes? */
 #define WAVE_PLAN_NO_FIRST_ROW 10   /* (list) Is row 1 an N row of the stated form? */
-#define WAVE_PLAN_UNREADABLE_ROW 11 /* (list, each further row in turn) Is it one of the three forms? */
+#define WAVE_PLAN_UNREADABLE_ROW 11 /* (list, each further row in turn) Is it one of the four forms? */
 #define WAVE_PLAN_SHORT_OUTPUT 12   /* (sheet, poster) Is the output at least as long as it? */
 #define WAVE_PLAN_NO_FIRST_FIELD 13 /* (journal) Is it within the slice, and its first field whole and of the stated form? */
-#define WAVE_PLAN_WRONG_FIELD 14    /* (journal, each further field in turn) Are tag and length of the stated form? */
+#define WAVE_PLAN_WRONG_FIELD 14    /* (journal, each further field in turn) Are tag and length right, and a rank at most 9999? */
 #define WAVE_PLAN_NO_SPACE 15       /* (start, record) Is there space in the slice, and in 60000 bytes, for what is to be written? */
 #define WAVE_PLAN_UNKNOWN_NAME 16   /* (keep, come back) Is the name one of the three? */
 #define WAVE_PLAN_NOTHING_KEPT 17   /* (come back) Is a plan kept under the name? */
+#define WAVE_PLAN_LATE_RANK 18      /* (list, journal, each K row or K field in turn) Does it come before the first edit? */
 
-/* Opens a plan of `banks` banks with no clash, all waves 0. */
+/* Opens a plan of `banks` banks with no clash, all waves and ranks 0. */
 uint16_t wave_plan_open(uint16_t *neighbours, size_t neighbours_cells, uint16_t *degrees, size_t degrees_cells,
                         uint16_t *waves, size_t waves_cells, uint16_t *counts, size_t counts_cells,
-                        uint16_t *tally, size_t tally_cells, uint16_t banks);
+                        uint16_t *ranks, size_t ranks_cells, uint16_t *tally, size_t tally_cells, uint16_t banks);
 
 /* Adds the clash of banks a and b. result[0]: how many banks moved; result[1]: how many were taken up. */
 uint16_t wave_plan_add(uint16_t *neighbours, size_t neighbours_cells, uint16_t *degrees, size_t degrees_cells,
                        uint16_t *waves, size_t waves_cells, uint16_t *counts, size_t counts_cells,
-                       uint16_t *trail, size_t trail_cells, uint16_t *moved, size_t moved_cells,
-                       uint16_t *tally, size_t tally_cells, uint16_t *result, size_t result_cells, uint16_t a, uint16_t b);
+                       const uint16_t *ranks, size_t ranks_cells, uint16_t *trail, size_t trail_cells,
+                       uint16_t *moved, size_t moved_cells, uint16_t *tally, size_t tally_cells,
+                       uint16_t *result, size_t result_cells, uint16_t a, uint16_t b);
 
 /* Strikes the clash of banks a and b. result as for wave_plan_add. */
 uint16_t wave_plan_strike(uint16_t *neighbours, size_t neighbours_cells, uint16_t *degrees, size_t degrees_cells,
                           uint16_t *waves, size_t waves_cells, uint16_t *counts, size_t counts_cells,
-                          uint16_t *trail, size_t trail_cells, uint16_t *moved, size_t moved_cells,
-                          uint16_t *tally, size_t tally_cells, uint16_t *result, size_t result_cells, uint16_t a, uint16_t b);
+                          const uint16_t *ranks, size_t ranks_cells, uint16_t *trail, size_t trail_cells,
+                          uint16_t *moved, size_t moved_cells, uint16_t *tally, size_t tally_cells,
+                          uint16_t *result, size_t result_cells, uint16_t a, uint16_t b);
 
 /* The wave of bank b. result[0]: the wave. */
 uint16_t wave_plan_wave_of(const uint16_t *neighbours, size_t neighbours_cells, const uint16_t *degrees, size_t degrees_cells,
                            const uint16_t *waves, size_t waves_cells, const uint16_t *counts, size_t counts_cells,
-                           const uint16_t *tally, size_t tally_cells, uint16_t *result, size_t result_cells, uint16_t b);
+                           const uint16_t *ranks, size_t ranks_cells, const uint16_t *tally, size_t tally_cells,
+                           uint16_t *result, size_t result_cells, uint16_t b);
 
 /* The banks that clash with bank b: a part of `neighbours`. result[0]: the cell where it starts; result[1]: its number of cells. */
 uint16_t wave_plan_clashes_of(const uint16_t *neighbours, size_t neighbours_cells, const uint16_t *degrees, size_t degrees_cells,
                               const uint16_t *waves, size_t waves_cells, const uint16_t *counts, size_t counts_cells,
-                              const uint16_t *tally, size_t tally_cells, uint16_t *result, size_t result_cells, uint16_t b);
+                              const uint16_t *ranks, size_t ranks_cells, const uint16_t *tally, size_t tally_cells,
+                              uint16_t *result, size_t result_cells, uint16_t b);
 
-/* Reads a list: opens the plan of its first row, then makes the edits of the others. result[0]: the row that was refused, counted
- * from 1; 0 if the list was accepted or is too long (9). Where a later row is refused, the plan, tally, trail and moved are those of
- * the rows before it. */
+/* Reads a list: opens the plan of its first row, then sets the ranks and makes the edits of the others. result[0]: the row that was
+ * refused, counted from 1; 0 if the list was accepted or is too long (9). Where a later row is refused, the plan, tally, trail and
+ * moved are those of the rows before it. */
 uint16_t wave_plan_read_list(const uint8_t *list, size_t list_bytes, uint16_t *neighbours, size_t neighbours_cells,
                              uint16_t *degrees, size_t degrees_cells, uint16_t *waves, size_t waves_cells,
-                             uint16_t *counts, size_t counts_cells, uint16_t *trail, size_t trail_cells,
-                             uint16_t *moved, size_t moved_cells, uint16_t *tally, size_t tally_cells,
-                             uint16_t *result, size_t result_cells);
+                             uint16_t *counts, size_t counts_cells, uint16_t *ranks, size_t ranks_cells,
+                             uint16_t *trail, size_t trail_cells, uint16_t *moved, size_t moved_cells,
+                             uint16_t *tally, size_t tally_cells, uint16_t *result, size_t result_cells);
 
 /* Writes the sheet of the plan to the front of `out`. result[0]: its number of bytes. */
 uint16_t wave_plan_write_sheet(const uint16_t *neighbours, size_t neighbours_cells, const uint16_t *degrees, size_t degrees_cells,
                                const uint16_t *waves, size_t waves_cells, const uint16_t *counts, size_t counts_cells,
-                               const uint16_t *tally, size_t tally_cells, uint8_t *out, size_t out_bytes,
-                               uint16_t *result, size_t result_cells);
+                               const uint16_t *ranks, size_t ranks_cells, const uint16_t *tally, size_t tally_cells,
+                               uint8_t *out, size_t out_bytes, uint16_t *result, size_t result_cells);
 
-/* Starts a journal at the front of the slice: its first field, then the clashes of the plan as adds, smaller bank first, lowest pair
- * first. Bytes beyond it stay. result[0]: its length. */
+/* Starts a journal at the front of the slice: its first field, then the ranks other than 0, lowest bank first, then the clashes of
+ * the plan as adds, smaller bank first, lowest pair first. Bytes beyond it stay. result[0]: its length. */
 uint16_t wave_plan_start_journal(const uint16_t *neighbours, size_t neighbours_cells, const uint16_t *degrees, size_t degrees_cells,
                                  const uint16_t *waves, size_t waves_cells, const uint16_t *counts, size_t counts_cells,
-                                 const uint16_t *tally, size_t tally_cells, uint8_t *journal, size_t journal_bytes,
-                                 uint16_t *result, size_t result_cells);
+                                 const uint16_t *ranks, size_t ranks_cells, const uint16_t *tally, size_t tally_cells,
+                                 uint8_t *journal, size_t journal_bytes, uint16_t *result, size_t result_cells);
 
 /* Adds the clash of banks a and b and writes it after the last field of the journal, which is the first `length` bytes of the slice.
  * result[0]: how many banks moved; result[1]: how many were taken up; result[2]: the new length. A journal that ends inside a field
  * gets 14. */
 uint16_t wave_plan_add_recorded(uint16_t *neighbours, size_t neighbours_cells, uint16_t *degrees, size_t degrees_cells,
                                 uint16_t *waves, size_t waves_cells, uint16_t *counts, size_t counts_cells,
-                                uint16_t *trail, size_t trail_cells, uint16_t *moved, size_t moved_cells,
-                                uint16_t *tally, size_t tally_cells, uint8_t *journal, size_t journal_bytes,
-                                uint16_t *result, size_t result_cells, uint16_t a, uint16_t b, size_t length);
+                                const uint16_t *ranks, size_t ranks_cells, uint16_t *trail, size_t trail_cells,
+                                uint16_t *moved, size_t moved_cells, uint16_t *tally, size_t tally_cells,
+                                uint8_t *journal, size_t journal_bytes, uint16_t *result, size_t result_cells,
+                                uint16_t a, uint16_t b, size_t length);
 
 /* Strikes the clash of banks a and b and writes it after the last field. Otherwise as wave_plan_add_recorded. */
 uint16_t wave_plan_strike_recorded(uint16_t *neighbours, size_t neighbours_cells, uint16_t *degrees, size_t degrees_cells,
                                    uint16_t *waves, size_t waves_cells, uint16_t *counts, size_t counts_cells,
-                                   uint16_t *trail, size_t trail_cells, uint16_t *moved, size_t moved_cells,
-                                   uint16_t *tally, size_t tally_cells, uint8_t *journal, size_t journal_bytes,
-                                   uint16_t *result, size_t result_cells, uint16_t a, uint16_t b, size_t length);
+                                   const uint16_t *ranks, size_t ranks_cells, uint16_t *trail, size_t trail_cells,
+                                   uint16_t *moved, size_t moved_cells, uint16_t *tally, size_t tally_cells,
+                                   uint8_t *journal, size_t journal_bytes, uint16_t *result, size_t result_cells,
+                                   uint16_t a, uint16_t b, size_t length);
 
-/* Replays a journal: opens the plan of its first field, then makes the edits of the others. result[0]: the field that was refused,
- * counted from 1; 0 if the journal was accepted or is too long (9). result[1]: how many bytes at its end were left over, fewer than a
- * whole field; 0 if it was refused. Where a later field is refused, the plan, tally, trail and moved are those of the fields before
- * it. */
+/* Replays a journal: opens the plan of its first field, then sets the ranks and makes the edits of the others. result[0]: the field
+ * that was refused, counted from 1; 0 if the journal was accepted or is too long (9). result[1]: how many bytes at its end were left
+ * over, fewer than a whole field; 0 if it was refused. Where a later field is refused, the plan, tally, trail and moved are those of
+ * the fields before it. */
 uint16_t wave_plan_replay(const uint8_t *journal, size_t journal_bytes, uint16_t *neighbours, size_t neighbours_cells,
                           uint16_t *degrees, size_t degrees_cells, uint16_t *waves, size_t waves_cells,
-                          uint16_t *counts, size_t counts_cells, uint16_t *trail, size_t trail_cells,
-                          uint16_t *moved, size_t moved_cells, uint16_t *tally, size_t tally_cells,
-                          uint16_t *result, size_t result_cells);
+                          uint16_t *counts, size_t counts_cells, uint16_t *ranks, size_t ranks_cells,
+                          uint16_t *trail, size_t trail_cells, uint16_t *moved, size_t moved_cells,
+                          uint16_t *tally, size_t tally_cells, uint16_t *result, size_t result_cells);
 
 /* Writes the gate poster of the plan to the front of `out`: pages of 50 lines of 40 characters and a line feed. result[0]: its
  * number of bytes, 2050 for each page; 0 for a plan without banks. */
 uint16_t wave_plan_write_poster(const uint16_t *neighbours, size_t neighbours_cells, const uint16_t *degrees, size_t degrees_cells,
                                 const uint16_t *waves, size_t waves_cells, const uint16_t *counts, size_t counts_cells,
-                                const uint16_t *tally, size_t tally_cells, uint8_t *out, size_t out_bytes,
-                                uint16_t *result, size_t result_cells);
+                                const uint16_t *ranks, size_t ranks_cells, const uint16_t *tally, size_t tally_cells,
+                                uint8_t *out, size_t out_bytes, uint16_t *result, size_t result_cells);
 
 /* Opens a shelf for plans of `banks` banks: the three used cells become 0, and no other cell changes. Whatever was kept is gone. */
 uint16_t wave_plan_open_shelf(uint16_t *shelf, size_t shelf_cells, uint16_t banks);
@@ -201,17 +216,17 @@ uint16_t wave_plan_open_shelf(uint16_t *shelf, size_t shelf_cells, uint16_t bank
 /* Keeps the plan and its tally under a name, in the place of what was kept there before. The other two places stay. */
 uint16_t wave_plan_keep(const uint16_t *neighbours, size_t neighbours_cells, const uint16_t *degrees, size_t degrees_cells,
                         const uint16_t *waves, size_t waves_cells, const uint16_t *counts, size_t counts_cells,
-                        const uint16_t *tally, size_t tally_cells, uint16_t *shelf, size_t shelf_cells,
-                        const uint8_t *name, size_t name_bytes);
+                        const uint16_t *ranks, size_t ranks_cells, const uint16_t *tally, size_t tally_cells,
+                        uint16_t *shelf, size_t shelf_cells, const uint8_t *name, size_t name_bytes);
 
 /* Comes back to the plan that is kept under a name: plan memory and tally become what its place holds. The front of `moved` gets the
  * banks whose wave differs, ascending. The shelf stays. A journal of the plan left ends here; start a new one. result[0]: how many
  * banks moved. */
 uint16_t wave_plan_come_back(uint16_t *neighbours, size_t neighbours_cells, uint16_t *degrees, size_t degrees_cells,
                              uint16_t *waves, size_t waves_cells, uint16_t *counts, size_t counts_cells,
-                             uint16_t *moved, size_t moved_cells, uint16_t *tally, size_t tally_cells,
-                             const uint16_t *shelf, size_t shelf_cells, const uint8_t *name, size_t name_bytes,
-                             uint16_t *result, size_t result_cells);
+                             uint16_t *ranks, size_t ranks_cells, uint16_t *moved, size_t moved_cells,
+                             uint16_t *tally, size_t tally_cells, const uint16_t *shelf, size_t shelf_cells,
+                             const uint8_t *name, size_t name_bytes, uint16_t *result, size_t result_cells);
 
 #ifdef __cplusplus
 }

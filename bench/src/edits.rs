@@ -1,5 +1,5 @@
-//! The measurements on one plan of 1,024 banks: core edits, checked edits, question 5, and
-//! colourings from scratch, in turn, repeat by repeat.
+//! The measurements on one plan of 1,024 banks: core edits, checked edits, question 5, with all ranks 0
+//! and with random ranks, and colourings from scratch, in turn, repeat by repeat.
 
 use crate::clashes::{Clashes, Edit};
 use crate::clock::processor_time;
@@ -7,6 +7,7 @@ use crate::library::{EditCalls, Memory, CHECKED, CORE};
 use crate::scratch::Colouring;
 use crate::BANKS;
 use independent::random::Random;
+use independent::ranks::random_ranks;
 
 /// How often everything is measured.
 pub const REPEATS: usize = 25;
@@ -18,19 +19,33 @@ pub const EDITS: usize = 1000;
 /// The question-5 tests of one batch, and the colourings of one batch.
 const TESTS: usize = 200;
 
-/// What was measured on one plan. Times are processor times of one call, in seconds, by repeat.
+/// What was measured on one plan, with all ranks 0 and with random ranks. Times are processor times of
+/// one call, in seconds, by repeat.
 pub struct Measured {
     pub clashes: usize,
     pub waves: u16,
-    pub average_trail: f64,
-    pub average_moved: f64,
-    pub longest_trail: u16,
-    pub core: Vec<f64>,
-    pub checked: Vec<f64>,
-    pub question: Vec<f64>,
+    pub reach: Reach,
+    pub times: Times,
+    pub ranked_reach: Reach,
+    pub ranked: Times,
     pub counting_sort: Vec<f64>,
     pub standard_sort: Vec<f64>,
     pub whole_plan: Vec<f64>,
+}
+
+/// The reach of the edits of a batch.
+pub struct Reach {
+    pub average_trail: f64,
+    pub average_moved: f64,
+    pub longest_trail: u16,
+}
+
+/// The times of the library's calls.
+#[derive(Default)]
+pub struct Times {
+    pub core: Vec<f64>,
+    pub checked: Vec<f64>,
+    pub question: Vec<f64>,
 }
 
 impl Measured {
@@ -43,56 +58,92 @@ impl Measured {
 pub fn measure(clashes: usize) -> Measured {
     let mut random = Random::new(clashes as u64);
     let mut drawn = Clashes::drawn(&mut random, clashes);
-    let mut memory = plan_of(&drawn);
-    let start = memory.clone();
     let edits = batch(&mut random, &mut drawn);
-    let mut measured = Measured {
-        clashes,
-        waves: memory.tally[2],
-        average_trail: 0.0,
-        average_moved: 0.0,
-        longest_trail: 0,
-        core: Vec::new(),
-        checked: Vec::new(),
-        question: Vec::new(),
-        counting_sort: Vec::new(),
-        standard_sort: Vec::new(),
-        whole_plan: Vec::new(),
-    };
-    note_reach(&mut memory, &edits, &mut measured);
-    assert!(memory.same_plan(&start), "the inverses lead back");
+    let ranks: Vec<u16> = random_ranks(&mut random, BANKS)
+        .into_iter()
+        .map(|rank| rank as u16)
+        .collect();
+    let mut plan = Subject::new(&drawn, &[0; BANKS], &edits);
+    let mut ranked = Subject::new(&drawn, &ranks, &edits);
     let mut colouring = Colouring::new();
+    let [mut counting_sort, mut standard_sort, mut whole_plan] = [(); 3].map(|()| Vec::new());
     for _ in 0..REPEATS {
-        let core = timed(EDITS, || make_all(&mut memory, &edits, CORE));
-        measured.core.push(core);
-        let scratch = colouring_time(&mut colouring, &memory, Colouring::by_counting_sort);
-        measured.counting_sort.push(scratch);
-        let scratch = colouring_time(&mut colouring, &memory, Colouring::by_standard_sort);
-        measured.standard_sort.push(scratch);
-        let scratch = colouring_time(&mut colouring, &memory, Colouring::whole_plan);
-        measured.whole_plan.push(scratch);
+        plan.time_core(&edits);
+        ranked.time_core(&edits);
+        let memory = &plan.memory;
+        let mut scratch = |colour| colouring_time(&mut colouring, memory, colour);
+        counting_sort.push(scratch(Colouring::by_counting_sort));
+        standard_sort.push(scratch(Colouring::by_standard_sort));
+        whole_plan.push(scratch(Colouring::whole_plan));
         assert!(colouring.counts == memory.counts && colouring.tally == memory.tally[1..]);
-        let checked = timed(EDITS, || make_all(&mut memory, &edits, CHECKED));
-        measured.checked.push(checked);
-        let question = timed(TESTS, || {
-            for b in 0..TESTS as u16 {
-                memory.wave_of(b);
-            }
-        });
-        measured.question.push(question);
+        plan.time_checked(&edits);
+        ranked.time_checked(&edits);
     }
-    assert!(memory.same_plan(&start), "the inverses lead back");
-    measured
+    colouring.by_ranks(&drawn.neighbours, &drawn.degrees, &ranks);
+    assert!(same_waves(&colouring, &ranked.memory));
+    Measured {
+        clashes,
+        waves: plan.memory.tally[2],
+        reach: plan.reach,
+        times: plan.times,
+        ranked_reach: ranked.reach,
+        ranked: ranked.times,
+        counting_sort,
+        standard_sort,
+        whole_plan,
+    }
 }
 
-/// The plan of the clashes, made by core edits.
-fn plan_of(clashes: &Clashes) -> Memory {
-    let mut memory = Memory::opened();
-    for (a, b) in clashes.pairs() {
-        memory.edit(CORE.add, a, b);
+/// A plan on which calls are timed.
+struct Subject {
+    memory: Memory,
+    /// The plan before and after each batch.
+    start: Memory,
+    reach: Reach,
+    times: Times,
+}
+
+impl Subject {
+    /// The plan of the clashes with these ranks, made by core edits, after one batch that is not timed.
+    fn new(clashes: &Clashes, ranks: &[u16], edits: &[Edit]) -> Subject {
+        let mut memory = Memory::opened(ranks);
+        for (a, b) in clashes.pairs() {
+            memory.edit(CORE.add, a, b);
+        }
+        assert!(memory.neighbours == clashes.neighbours);
+        let start = memory.clone();
+        let reach = reach_of(&mut memory, edits);
+        let subject = Subject {
+            memory,
+            start,
+            reach,
+            times: Times::default(),
+        };
+        subject.is_back();
+        subject
     }
-    assert!(memory.neighbours == clashes.neighbours);
-    memory
+
+    fn is_back(&self) {
+        assert!(self.memory.same_plan(&self.start), "the inverses lead back");
+    }
+
+    fn time_core(&mut self, edits: &[Edit]) {
+        let core = timed(EDITS, || make_all(&mut self.memory, edits, CORE));
+        self.times.core.push(core);
+        self.is_back();
+    }
+
+    fn time_checked(&mut self, edits: &[Edit]) {
+        let checked = timed(EDITS, || make_all(&mut self.memory, edits, CHECKED));
+        self.times.checked.push(checked);
+        let question = timed(TESTS, || {
+            for b in 0..TESTS as u16 {
+                self.memory.wave_of(b);
+            }
+        });
+        self.times.question.push(question);
+        self.is_back();
+    }
 }
 
 /// The edits of a batch. The clashes end as they were.
@@ -128,19 +179,22 @@ fn make(memory: &mut Memory, edit: Edit, calls: EditCalls) {
 }
 
 /// Makes the edits once, untimed, core and checked side by side, and notes their reach.
-fn note_reach(memory: &mut Memory, edits: &[Edit], measured: &mut Measured) {
+fn reach_of(memory: &mut Memory, edits: &[Edit]) -> Reach {
     let mut checked = memory.clone();
-    let (mut trail, mut moved) = (0, 0);
+    let (mut trail, mut moved, mut longest_trail) = (0, 0, 0);
     for &edit in edits {
         make(memory, edit, CORE);
         make(&mut checked, edit, CHECKED);
         assert!(*memory == checked, "core and checked edits do the same");
         moved += usize::from(memory.result[0]);
         trail += usize::from(memory.result[1]);
-        measured.longest_trail = measured.longest_trail.max(memory.result[1]);
+        longest_trail = longest_trail.max(memory.result[1]);
     }
-    measured.average_trail = trail as f64 / edits.len() as f64;
-    measured.average_moved = moved as f64 / edits.len() as f64;
+    Reach {
+        average_trail: trail as f64 / edits.len() as f64,
+        average_moved: moved as f64 / edits.len() as f64,
+        longest_trail,
+    }
 }
 
 /// The time of one colouring, which must give the plan's waves.

@@ -3,7 +3,7 @@
 use crate::raw::{wave_plan_add, wave_plan_open, wave_plan_strike, wave_plan_wave_of};
 use crate::BANKS;
 
-/// An edit by the C interface: six slices, tally, result, and the two banks.
+/// An edit by the C interface: seven slices, tally, result, and the two banks.
 type EditCall = unsafe extern "C" fn(
     *mut u16,
     usize,
@@ -12,6 +12,8 @@ type EditCall = unsafe extern "C" fn(
     *mut u16,
     usize,
     *mut u16,
+    usize,
+    *const u16,
     usize,
     *mut u16,
     usize,
@@ -38,6 +40,8 @@ macro_rules! edit_calls {
                 waves_length: usize,
                 counts: *mut u16,
                 counts_length: usize,
+                ranks: *const u16,
+                ranks_length: usize,
                 trail: *mut u16,
                 trail_length: usize,
                 moved: *mut u16,
@@ -81,6 +85,7 @@ pub struct Memory {
     pub degrees: Vec<u16>,
     pub waves: Vec<u16>,
     pub counts: Vec<u16>,
+    pub ranks: Vec<u16>,
     pub trail: Vec<u16>,
     pub moved: Vec<u16>,
     pub tally: [u16; 3],
@@ -89,13 +94,14 @@ pub struct Memory {
 }
 
 impl Memory {
-    /// A plan of 1,024 banks without a clash.
-    pub fn opened() -> Memory {
+    /// A plan of 1,024 banks of these ranks without a clash.
+    pub fn opened(ranks: &[u16]) -> Memory {
         let mut memory = Memory {
             neighbours: vec![0; 23 * BANKS],
             degrees: vec![0; BANKS],
             waves: vec![0; BANKS],
             counts: vec![0; 24 * BANKS],
+            ranks: vec![0; BANKS],
             trail: vec![0; BANKS],
             moved: vec![0; BANKS],
             tally: [0; 3],
@@ -112,12 +118,15 @@ impl Memory {
                 memory.waves.len(),
                 memory.counts.as_mut_ptr(),
                 memory.counts.len(),
+                memory.ranks.as_mut_ptr(),
+                memory.ranks.len(),
                 memory.tally.as_mut_ptr(),
                 memory.tally.len(),
                 BANKS as u16,
             )
         };
         assert_eq!(number, 0);
+        memory.ranks.copy_from_slice(ranks);
         memory
     }
 
@@ -134,6 +143,8 @@ impl Memory {
                 self.waves.len(),
                 self.counts.as_mut_ptr(),
                 self.counts.len(),
+                self.ranks.as_ptr(),
+                self.ranks.len(),
                 self.trail.as_mut_ptr(),
                 self.trail.len(),
                 self.moved.as_mut_ptr(),
@@ -162,6 +173,8 @@ impl Memory {
                 self.waves.len(),
                 self.counts.as_ptr(),
                 self.counts.len(),
+                self.ranks.as_ptr(),
+                self.ranks.len(),
                 self.tally.as_ptr(),
                 self.tally.len(),
                 self.result.as_mut_ptr(),
@@ -179,6 +192,7 @@ impl Memory {
             && self.degrees == other.degrees
             && self.waves == other.waves
             && self.counts == other.counts
+            && self.ranks == other.ranks
             && self.tally == other.tally
     }
 }

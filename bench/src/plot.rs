@@ -23,9 +23,13 @@ struct Series {
 
 pub fn svg(plans: &[Measured]) -> String {
     let series = [
-        series(plans, "core edit", "#1b7f5c", -8.0, |plan| &plan.core),
-        series(plans, "checked edit", "#b3541e", -8.0, |plan| &plan.checked),
-        series(plans, "question 5", "#3a5fa8", 18.0, |plan| &plan.question),
+        series(plans, "core edit", "#1b7f5c", -8.0, |plan| &plan.times.core),
+        series(plans, "checked edit", "#b3541e", -8.0, |plan| {
+            &plan.times.checked
+        }),
+        series(plans, "question 5", "#3a5fa8", 18.0, |plan| {
+            &plan.times.question
+        }),
     ];
     let scale = Scale::around(&series, plans.len());
     let mut svg = format!(
@@ -101,7 +105,7 @@ fn grid(svg: &mut String, scale: &Scale) {
 fn labels(svg: &mut String, plans: &[Measured], scale: &Scale) {
     for (place, plan) in plans.iter().enumerate() {
         let x = scale.x(place);
-        let trail = format!("trail {}", figure(plan.average_trail));
+        let trail = format!("trail {}", figure(plan.reach.average_trail));
         let clashes = plan.clashes.to_string();
         text(svg, (x, BOTTOM + 20.0), "middle", &clashes);
         text(svg, (x, BOTTOM + 36.0), "middle", &trail);

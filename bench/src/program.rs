@@ -1,11 +1,13 @@
 //! The program *sheet* on a list of 60,000 bytes, against programs that colour from scratch: after
-//! every row, or once at the end. The latter are this program again, with a mode as its argument.
+//! every row, or once at the end. The latter are this program again, with a mode as its argument. And
+//! *sheet* on a list with random ranks, against the same list with all ranks 0.
 
 use crate::clashes::{Clashes, Edit};
 use crate::scratch::Colouring;
 use crate::BANKS;
-use independent::list::{edit_row, n_row, rows, Row};
+use independent::list::{later_row, n_row, rows, Row};
 use independent::random::Random;
+use independent::ranks::random_ranks;
 use independent::sheet::{program_output, sheet_text};
 use std::io::{self, Read, Write};
 use std::path::{Path, PathBuf};
@@ -25,42 +27,72 @@ const EVERY_ROW: &str = "every-row";
 /// Waves from scratch once, after the last row.
 const AT_END: &str = "at-end";
 
+/// Waves from scratch once, after the last row, of a list with ranks.
+const RANKED: &str = "ranked";
+
 /// The model: waves, trail and moved from scratch after every row.
 const MODEL: &str = "model";
 
 /// What was measured. Times are of a whole run, in seconds, by repeat.
 pub struct Programs {
     pub rows: usize,
+    /// The edit rows of the lists with ranks, and the times of *sheet* on them.
+    pub ranked_rows: usize,
+    pub ranks_0: Vec<f64>,
+    pub ranked: Vec<f64>,
     pub sheet: Vec<f64>,
     pub every_row: Vec<f64>,
     pub at_end: Vec<f64>,
     pub model: Vec<f64>,
 }
 
+/// A list, and the sheet that all programs print for it.
+struct Task {
+    list: Vec<u8>,
+    sheet: Vec<u8>,
+}
+
+impl Task {
+    /// The list with these ranks in K rows, or without such rows.
+    fn new(ranks: &[usize]) -> Task {
+        let list = list_of_60_000_bytes(ranks);
+        let mode = if ranks.is_empty() { AT_END } else { RANKED };
+        let sheet = output_of(Command::new(this_program()).arg(mode), &list).0;
+        Task { list, sheet }
+    }
+
+    fn run(&self, times: &mut Vec<f64>, command: &mut Command) {
+        let (output, time) = output_of(command, &self.list);
+        assert!(output == self.sheet, "all programs print the same sheet");
+        times.push(time);
+    }
+}
+
 pub fn measure() -> Programs {
-    let list = list_of_60_000_bytes();
+    let task = Task::new(&[]);
+    let ranks_0 = Task::new(&[0; BANKS]);
+    let ranked = Task::new(&random_ranks(&mut Random::new(9999), BANKS));
     let mut programs = Programs {
-        rows: rows(&list).len(),
+        rows: rows(&task.list).len(),
+        ranked_rows: rows(&ranked.list).len() - 1 - BANKS,
+        ranks_0: Vec::new(),
+        ranked: Vec::new(),
         sheet: Vec::new(),
         every_row: Vec::new(),
         at_end: Vec::new(),
         model: Vec::new(),
     };
-    let wanted = output_of(Command::new(this_program()).arg(AT_END), &list).0;
-    let run = |times: &mut Vec<f64>, command: &mut Command| {
-        let (output, time) = output_of(command, &list);
-        assert!(output == wanted, "all programs print the same sheet");
-        times.push(time);
-    };
     for repeat in 0..RUNS {
-        run(&mut programs.sheet, &mut Command::new(sheet_program()));
+        task.run(&mut programs.sheet, &mut Command::new(sheet_program()));
+        ranks_0.run(&mut programs.ranks_0, &mut Command::new(sheet_program()));
+        ranked.run(&mut programs.ranked, &mut Command::new(sheet_program()));
         for (times, mode, repeats) in [
             (&mut programs.every_row, EVERY_ROW, RUNS),
             (&mut programs.at_end, AT_END, RUNS),
             (&mut programs.model, MODEL, MODEL_RUNS),
         ] {
             if repeat < repeats {
-                run(times, Command::new(this_program()).arg(mode));
+                task.run(times, Command::new(this_program()).arg(mode));
             }
         }
     }
@@ -102,42 +134,89 @@ pub fn from_scratch(mode: &str) -> io::Result<()> {
     let sheet = match mode {
         EVERY_ROW => colour_rows(&list, true),
         AT_END => colour_rows(&list, false),
+        RANKED => colour_ranked(&list),
         MODEL => program_output(&list),
         _ => panic!("no such mode: {mode}"),
     };
     io::stdout().write_all(&sheet)
 }
 
+/// The sheet of a list without K rows.
 fn colour_rows(list: &[u8], every_row: bool) -> Vec<u8> {
-    let rows = rows(list);
-    assert_eq!(n_row(rows[0]), Some(BANKS));
-    let mut clashes = Clashes::none();
+    let mut depot = Depot::new();
     let mut colouring = Colouring::new();
-    for row in &rows[1..] {
-        match edit_row(row).expect("an accepted list") {
-            Row::Add(a, b) => clashes.make(Edit::Add(a as u16, b as u16)),
-            Row::Strike(a, b) => clashes.make(Edit::Strike(a as u16, b as u16)),
-            Row::StrikeAll(b) => {
-                let b = b as u16;
-                for q in clashes.row(b).to_vec() {
-                    clashes.make(Edit::Strike(b, q));
-                }
-            }
-        }
+    for row in later_rows(list) {
+        depot.make(row);
         if every_row {
+            let clashes = &depot.clashes;
             colouring.by_counting_sort(&clashes.neighbours, &clashes.degrees);
         }
     }
-    colouring.by_counting_sort(&clashes.neighbours, &clashes.degrees);
+    colouring.by_counting_sort(&depot.clashes.neighbours, &depot.clashes.degrees);
+    sheet_of(&colouring)
+}
+
+/// The sheet of a list with K rows.
+fn colour_ranked(list: &[u8]) -> Vec<u8> {
+    let mut depot = Depot::new();
+    later_rows(list).for_each(|row| depot.make(row));
+    let Depot { clashes, ranks } = depot;
+    let mut colouring = Colouring::new();
+    colouring.by_ranks(&clashes.neighbours, &clashes.degrees, &ranks);
+    sheet_of(&colouring)
+}
+
+/// The rows after the first one of an accepted list of 1,024 banks.
+fn later_rows(list: &[u8]) -> impl Iterator<Item = Row> + '_ {
+    let mut rows = rows(list).into_iter();
+    assert_eq!(rows.next().and_then(n_row), Some(BANKS));
+    rows.map(|row| later_row(row).expect("an accepted list"))
+}
+
+fn sheet_of(colouring: &Colouring) -> Vec<u8> {
     let waves: Vec<usize> = colouring.waves.iter().map(|&w| usize::from(w)).collect();
     sheet_text(&waves).into_bytes()
 }
 
-/// A random list for 1,024 banks: adds, a strike in about eight rows, a D row in about 200.
-fn list_of_60_000_bytes() -> Vec<u8> {
+/// The clashes and the ranks that a list leads to.
+struct Depot {
+    clashes: Clashes,
+    ranks: Vec<u16>,
+}
+
+impl Depot {
+    fn new() -> Depot {
+        Depot {
+            clashes: Clashes::none(),
+            ranks: vec![0; BANKS],
+        }
+    }
+
+    fn make(&mut self, row: Row) {
+        match row {
+            Row::Add(a, b) => self.clashes.make(Edit::Add(a as u16, b as u16)),
+            Row::Strike(a, b) => self.clashes.make(Edit::Strike(a as u16, b as u16)),
+            Row::StrikeAll(b) => {
+                let b = b as u16;
+                for q in self.clashes.row(b).to_vec() {
+                    self.clashes.make(Edit::Strike(b, q));
+                }
+            }
+            Row::Rank(b, rank) => self.ranks[b] = rank as u16,
+        }
+    }
+}
+
+/// A random list for 1,024 banks: K rows with the given ranks, four digits each, so that the edits after
+/// them do not hang on the ranks; then adds, a strike in about eight rows, a D row in about 200.
+fn list_of_60_000_bytes(ranks: &[usize]) -> Vec<u8> {
     let mut random = Random::new(60_000);
     let mut clashes = Clashes::none();
     let mut list = format!("N {BANKS}").into_bytes();
+    for (b, rank) in ranks.iter().enumerate() {
+        list.extend(format!("\nK {b} {rank:04}").bytes());
+    }
+    let strikes_from = list.len() + 94;
     while list.len() < 60_000 {
         let left = 60_000 - list.len();
         if left > 100 && random.one_in(200) {
@@ -148,7 +227,7 @@ fn list_of_60_000_bytes() -> Vec<u8> {
             }
             continue;
         }
-        let edit = if random.one_in(8) && list.len() > 100 {
+        let edit = if random.one_in(8) && list.len() > strikes_from {
             clashes.random_strike(&mut random)
         } else {
             clashes.random_add(&mut random)

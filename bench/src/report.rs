@@ -25,7 +25,13 @@ again. None is cleared first: what a call needs cleared it clears itself, within
 
 const AFTER_PLANS: &str = "\
 The plans have random clashes, and an edit's two banks are random. Trail and moved do not depend on the machine. One plan's number of
-clashes was picked so that its average trail is about 40, without regard to its times. Times are processor times.
+clashes was picked so that its average trail is about 40, without regard to its times. Times are processor times. All ranks are 0, but
+for the table of ranks.
+";
+
+const RANKS: &str = "\
+With random ranks from 0 to 9,999, the same clashes and the same edits, a call takes so many times as long as with all ranks 0 (lower is
+better). Another order of equal degrees gives other waves, so that the trails are not the same:
 ";
 
 pub fn document(plans: &[Measured], programs: &Programs) -> String {
@@ -33,9 +39,9 @@ pub fn document(plans: &[Measured], programs: &Programs) -> String {
         "A repeat times {EDITS} edits, adds and strikes in turn and then their inverses, so that \
          the plan at its end is the one at its start.\nThere are {REPEATS} repeats.\n"
     );
-    let core = |plan: &Measured, base: &[f64]| Spread::ratio(base, &plan.core);
-    let checked = |plan: &Measured, base: &[f64]| Spread::ratio(&plan.checked, base);
-    let question = |plan: &Measured, base: &[f64]| Spread::ratio(&plan.question, base);
+    let core = |plan: &Measured, base: &[f64]| Spread::ratio(base, &plan.times.core);
+    let checked = |plan: &Measured, base: &[f64]| Spread::ratio(&plan.times.checked, base);
+    let question = |plan: &Measured, base: &[f64]| Spread::ratio(&plan.times.question, base);
     [
         ABOUT.to_string(),
         repeats,
@@ -47,6 +53,8 @@ pub fn document(plans: &[Measured], programs: &Programs) -> String {
         ratio_table(plans, checked),
         "Question 5 takes so many times as long as (lower is better):\n".to_string(),
         ratio_table(plans, question),
+        RANKS.to_string(),
+        rank_table(plans),
         "![Times relative to a colouring from scratch](benchmarks.svg)\n".to_string(),
         goals(plans),
         program_part(programs),
@@ -77,9 +85,9 @@ fn plan_table(plans: &[Measured]) -> String {
             plan.clashes.to_string(),
             figure(plan.average_degree()),
             plan.waves.to_string(),
-            figure(plan.average_trail),
-            plan.longest_trail.to_string(),
-            figure(plan.average_moved),
+            figure(plan.reach.average_trail),
+            plan.reach.longest_trail.to_string(),
+            figure(plan.reach.average_moved),
         ]
     };
     let rows: Vec<Vec<String>> = plans.iter().map(row).collect();
@@ -99,7 +107,7 @@ fn plan_table(plans: &[Measured]) -> String {
 fn ratio_table(plans: &[Measured], ratio: fn(&Measured, &[f64]) -> Spread) -> String {
     let row = |plan: &Measured| {
         let ratios = bases(plan).map(|(_, base)| ratio(plan, base).to_string());
-        let trail = figure(plan.average_trail);
+        let trail = figure(plan.reach.average_trail);
         [&[plan.clashes.to_string(), trail][..], &ratios].concat()
     };
     let rows: Vec<Vec<String>> = plans.iter().map(row).collect();
@@ -107,9 +115,35 @@ fn ratio_table(plans: &[Measured], ratio: fn(&Measured, &[f64]) -> Spread) -> St
     table(&[&["clashes", "average trail"][..], &names].concat(), &rows)
 }
 
+fn rank_table(plans: &[Measured]) -> String {
+    let row = |plan: &Measured| {
+        let (ranked, times) = (&plan.ranked, &plan.times);
+        vec![
+            plan.clashes.to_string(),
+            figure(plan.reach.average_trail),
+            figure(plan.ranked_reach.average_trail),
+            Spread::ratio(&ranked.core, &times.core).to_string(),
+            Spread::ratio(&ranked.checked, &times.checked).to_string(),
+            Spread::ratio(&ranked.question, &times.question).to_string(),
+        ]
+    };
+    let rows: Vec<Vec<String>> = plans.iter().map(row).collect();
+    table(
+        &[
+            "clashes",
+            "average trail, ranks 0",
+            "average trail, random ranks",
+            "core edit",
+            "checked edit",
+            "question 5",
+        ],
+        &rows,
+    )
+}
+
 /// The goals, against each base, and whether the medians meet them.
 fn goals(plans: &[Measured]) -> String {
-    let distance = |plan: &Measured| (plan.average_trail - 40.0).abs();
+    let distance = |plan: &Measured| (plan.reach.average_trail - 40.0).abs();
     let nearer = |one: &&Measured, other: &&Measured| {
         let order = distance(one).partial_cmp(&distance(other));
         order.expect("numbers")
@@ -125,19 +159,29 @@ fn goals(plans: &[Measured]) -> String {
     };
     let mut rows = Vec::new();
     for (name, base) in bases(plan) {
-        let faster = Spread::ratio(base, &plan.core);
+        let faster = Spread::ratio(base, &plan.times.core);
         let goal = "a core edit is at least 10 times faster";
         rows.push(row(goal, name, faster, faster.median >= 10.0));
     }
     for (name, base) in bases(plan) {
-        let taken = Spread::ratio(&plan.checked, base);
+        let taken = Spread::ratio(&plan.times.checked, base);
         let goal = "a checked edit takes at most 1.5 times as long";
         rows.push(row(goal, name, taken, taken.median <= 1.5));
+    }
+    let (ranked, times) = (&plan.ranked, &plan.times);
+    for (call, ranked, times) in [
+        ("a core edit", &ranked.core, &times.core),
+        ("a checked edit", &ranked.checked, &times.checked),
+        ("question 5", &ranked.question, &times.question),
+    ] {
+        let taken = Spread::ratio(ranked, times);
+        let goal = format!("with random ranks {call} takes at most 1.5 times as long");
+        rows.push(row(&goal, "ranks 0", taken, taken.median <= 1.5));
     }
     format!(
         "## Goals\n\nOn the plan of {} clashes, whose edits have an average trail of {}:\n\n{}",
         plan.clashes,
-        figure(plan.average_trail),
+        figure(plan.reach.average_trail),
         table(&["goal", "compared with", "measured", "met"], &rows)
     )
 }
@@ -168,8 +212,34 @@ fn program_part(programs: &Programs) -> String {
          the plan up to date row by row, trail and moved\nincluded. The other programs are in \
          Rust and print the same sheet. A time is that of a whole run, from the start of the \
          process to\nits end. There are {RUNS} runs of each in turn; the model runs {MODEL_RUNS} \
-         times.\n\n{}",
+         times.\n\n{}\n{}",
         programs.rows,
-        table(&["program", "its time / time of `sheet`", "runs"], &rows)
+        table(&["program", "its time / time of `sheet`", "runs"], &rows),
+        ranked_part(programs)
+    )
+}
+
+/// `sheet` on a list with random ranks, against the same list with all ranks 0.
+fn ranked_part(programs: &Programs) -> String {
+    let taken = Spread::ratio(&programs.ranked, &programs.ranks_0);
+    let row = vec![
+        "random, 0 to 9,999".to_string(),
+        taken.to_string(),
+        "at most 1.5".to_string(),
+        yes(taken.median <= 1.5),
+    ];
+    format!(
+        "Two lists of 60,000 bytes, each with a K row for every bank and then the same {} edit rows, \
+         as many runs:\n\n{}",
+        programs.ranked_rows,
+        table(
+            &[
+                "ranks in the K rows",
+                "time of `sheet` / its time with all ranks 0",
+                "goal",
+                "met"
+            ],
+            &[row]
+        )
     )
 }

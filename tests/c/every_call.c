@@ -6,16 +6,16 @@
 
 #include "wave_plan.h"
 
-enum { ROW = WAVE_PLAN_ROW_CELLS, COUNT = WAVE_PLAN_COUNT_CELLS, TALLY = WAVE_PLAN_TALLY_CELLS, NUMBERS = 18 };
+enum { ROW = WAVE_PLAN_ROW_CELLS, COUNT = WAVE_PLAN_COUNT_CELLS, TALLY = WAVE_PLAN_TALLY_CELLS, NUMBERS = 19 };
 
 /* A plan's slices: a caller may lend them shorter than they are, by the numbers of cells. */
 typedef struct {
-    uint16_t *neighbours, *degrees, *waves, *counts, *trail, *moved, *tally, *result;
-    size_t neighbours_cells, degrees_cells, waves_cells, counts_cells, trail_cells, moved_cells, tally_cells, result_cells;
+    uint16_t *neighbours, *degrees, *waves, *counts, *ranks, *trail, *moved, *tally, *result;
+    size_t neighbours_cells, degrees_cells, waves_cells, counts_cells, ranks_cells, trail_cells, moved_cells, tally_cells, result_cells;
 } Plan;
 
 #define SLICE(p, name) (p).name, (p).name##_cells
-#define PLAN(p) SLICE(p, neighbours), SLICE(p, degrees), SLICE(p, waves), SLICE(p, counts)
+#define PLAN(p) SLICE(p, neighbours), SLICE(p, degrees), SLICE(p, waves), SLICE(p, counts), SLICE(p, ranks)
 #define LISTS(p) SLICE(p, trail), SLICE(p, moved)
 #define TALLY_OF(p) SLICE(p, tally)
 #define RESULT_OF(p) SLICE(p, result)
@@ -48,13 +48,13 @@ static uint16_t *cells(size_t count) {
 
 /* Memory for n banks, with so many result cells, all of it 7. */
 static Plan memory(size_t n, size_t results) {
-    Plan p = {cells(ROW * n), cells(n), cells(n), cells(COUNT * n), cells(n), cells(n), cells(TALLY), cells(results),
-              ROW * n, n, n, COUNT * n, n, n, TALLY, results};
+    Plan p = {cells(ROW * n), cells(n), cells(n), cells(COUNT * n), cells(n), cells(n), cells(n), cells(TALLY), cells(results),
+              ROW * n, n, n, COUNT * n, n, n, n, TALLY, results};
     return p;
 }
 
 static void gone(Plan p) {
-    uint16_t *slices[] = {p.neighbours, p.degrees, p.waves, p.counts, p.trail, p.moved, p.tally, p.result};
+    uint16_t *slices[] = {p.neighbours, p.degrees, p.waves, p.counts, p.ranks, p.trail, p.moved, p.tally, p.result};
     for (size_t i = 0; i < sizeof slices / sizeof *slices; i++) free(slices[i]);
 }
 
@@ -80,19 +80,27 @@ static Plan four_banks(size_t results) {
 #define SHORT_RESULT(p, call) ((p).result_cells--, GIVES(2, call), (p).result_cells++)
 #define SHORT_TALLY(p, call) ((p).tally_cells--, GIVES(2, call), (p).tally_cells++)
 
+/* Ranks that are one cell short get 2 from a call that is otherwise accepted, and a rank above 9,999 gets 3. */
+#define SHORT_RANKS(p, call) ((p).ranks_cells--, GIVES(2, call), (p).ranks_cells++)
+static void far_rank(Plan p, uint16_t rank) { p.ranks[p.ranks_cells - 1] = rank; }
+#define FAR_RANK(p, call) (far_rank(p, WAVE_PLAN_MOST_RANK + 1), GIVES(3, call), far_rank(p, 0))
+#define WRONG_RANKS(p, call) (SHORT_RANKS(p, call), FAR_RANK(p, call))
+
 static void of_open(void) {
     Plan p = memory(4, 0);
     GIVES(1, wave_plan_open(PLAN(p), TALLY_OF(p), WAVE_PLAN_MOST_BANKS + 1));
     GIVES(2, wave_plan_open(PLAN(p), TALLY_OF(p), 5));
     SHORT_TALLY(p, wave_plan_open(PLAN(p), TALLY_OF(p), 4));
+    SHORT_RANKS(p, wave_plan_open(PLAN(p), TALLY_OF(p), 4));
     IS(p.neighbours[0], 7);
+    IS(p.ranks[0], 7);
     GIVES(0, wave_plan_open(PLAN(p), TALLY_OF(p), 4));
     IS(p.tally[0], 4);
     IS(p.tally[1], 0);
     IS(p.tally[2], 1);
     for (int i = 0; i < ROW * 4; i++) IS(p.neighbours[i], WAVE_PLAN_UNUSED);
     for (int i = 0; i < COUNT * 4; i++) IS(p.counts[i], 0);
-    for (int b = 0; b < 4; b++) IS(p.degrees[b] + p.waves[b], 0);
+    for (int b = 0; b < 4; b++) IS(p.degrees[b] + p.waves[b] + p.ranks[b], 0);
     GIVES(0, wave_plan_open(PLAN(p), TALLY_OF(p), 0));
     IS(p.tally[2], 0);
     gone(p);
@@ -118,6 +126,7 @@ static void of_add(void) {
     GIVES(6, ADD(0, 1));
     SHORT_RESULT(p, ADD(2, 3));
     SHORT_TALLY(p, ADD(2, 3));
+    WRONG_RANKS(p, ADD(2, 3));
     p.trail_cells = 3;
     GIVES(2, ADD(2, 3));
     p.trail_cells = 4;
@@ -130,6 +139,25 @@ static void of_add(void) {
     for (uint16_t b = 1; b <= ROW; b++) GIVES(0, ADD(0, b));
     GIVES(8, ADD(24, 0));
     IS(p.degrees[0], 23);
+    gone(p);
+    p = opened(3, WAVE_PLAN_EDIT_RESULTS);
+    p.ranks[1] = WAVE_PLAN_MOST_RANK; /* bank 2 is now earlier than bank 1 */
+    GIVES(0, ADD(1, 2));
+    IS(p.result[0], 1);
+    IS(p.result[1], 2);
+    IS(p.trail[0], 2);
+    IS(p.trail[1], 1);
+    IS(p.moved[0], 1);
+    GIVES(0, ADD(0, 1)); /* and later */
+    IS(p.result[0], 3);
+    IS(p.result[1], 3);
+    const uint16_t order[] = {1, 0, 2}, waves[] = {1, 0, 1}, ranks[] = {0, WAVE_PLAN_MOST_RANK, 0};
+    for (int i = 0; i < 3; i++) {
+        IS(p.trail[i], order[i]);
+        IS(p.moved[i], order[i]);
+        IS(p.waves[i], waves[i]);
+        IS(p.ranks[i], ranks[i]);
+    }
     gone(p);
 }
 
@@ -150,6 +178,7 @@ static void of_strike(void) {
     GIVES(5, STRIKE(1, 1));
     SHORT_RESULT(p, STRIKE(0, 1));
     SHORT_TALLY(p, STRIKE(0, 1));
+    WRONG_RANKS(p, STRIKE(0, 1));
     p.counts[0]++;
     GIVES(3, STRIKE(0, 1));
     gone(p);
@@ -168,6 +197,10 @@ static void of_wave_of(void) {
     IS(p.result[0], 0);
     SHORT_RESULT(p, WAVE_OF(1));
     SHORT_TALLY(p, WAVE_OF(1));
+    WRONG_RANKS(p, WAVE_OF(1));
+    p.ranks[0] = 1; /* the tie with bank 1 goes the other way */
+    GIVES(3, WAVE_OF(1));
+    p.ranks[0] = 0;
     p.tally[1]++;
     GIVES(3, WAVE_OF(1));
     gone(p);
@@ -184,6 +217,7 @@ static void of_clashes_of(void) {
     IS(p.result[0] + p.result[1], 0);
     SHORT_RESULT(p, CLASHES_OF(1));
     SHORT_TALLY(p, CLASHES_OF(1));
+    WRONG_RANKS(p, CLASHES_OF(1));
     p.degrees[0]++;
     GIVES(3, CLASHES_OF(3));
     gone(p);
@@ -195,14 +229,18 @@ static void of_read_list(void) {
         const char *list;
         uint16_t number, row;
     } refused[] = {{"", 10, 1},          {"N 1025", 1, 1},      {"N 5", 2, 1},           {"N 4\nx", 11, 2},
-                   {"N 4\n+ 0 4", 4, 2}, {"N 4\n+ 0 0", 5, 2}, {"N 4\n- 0 1\n", 7, 2}, {"N 4\n+ 0 1\n+ 0 1", 6, 3}};
+                   {"N 4\n+ 0 4", 4, 2}, {"N 4\n+ 0 0", 5, 2}, {"N 4\n- 0 1\n", 7, 2}, {"N 4\nK 0 10000", 11, 2},
+                   {"N 4\nK 4 0", 4, 2}, {"N 4\nD 0\nK 4 0", 18, 3}, {"N 4\n+ 0 1\n- 0 1\nK 0 1", 18, 4},
+                   {"N 4\nK 3 7\nK 3 5\n+ 0 1\n+ 0 1", 6, 5}};
     for (size_t i = 0; i < sizeof refused / sizeof *refused; i++) {
         GIVES(refused[i].number, read_list(p, refused[i].list));
         IS(p.result[0], refused[i].row);
     }
     IS(p.tally[1], 1); /* the rows before the one refused */
+    for (int b = 0; b < 4; b++) IS(p.ranks[b], b == 3 ? 5 : 0);
     SHORT_RESULT(p, read_list(p, four));
     SHORT_TALLY(p, read_list(p, four));
+    SHORT_RANKS(p, read_list(p, four));
     char *longest = malloc(WAVE_PLAN_MOST_LIST_BYTES + 2);
     if (!longest) exit(2);
     memset(longest, '\n', WAVE_PLAN_MOST_LIST_BYTES + 1);
@@ -212,10 +250,17 @@ static void of_read_list(void) {
     longest[WAVE_PLAN_MOST_LIST_BYTES] = 0;
     GIVES(10, read_list(p, longest));
     free(longest);
+    GIVES(0, read_list(p, "N 4\nK 0 0001\nK 3 9999\n+ 0 1"));
+    IS(p.result[0], 0);
+    IS(p.waves[0], 1);
+    IS(p.waves[1], 0);
+    IS(p.ranks[0], 1);
+    IS(p.ranks[3], WAVE_PLAN_MOST_RANK);
     GIVES(0, read_list(p, four));
     IS(p.result[0], 0);
     IS(p.tally[1], 4);
     IS(p.tally[2], 2);
+    for (int b = 0; b < 4; b++) IS(p.ranks[b], 0);
     gone(p);
 }
 
@@ -233,6 +278,8 @@ static void of_write_sheet(void) {
     IS(out[0], 0);
     SHORT_RESULT(p, SHEET(out, length));
     SHORT_TALLY(p, SHEET(out, length));
+    WRONG_RANKS(p, SHEET(out, length));
+    IS(out[0], 0);
     GIVES(0, SHEET(out, WAVE_PLAN_MOST_SHEET_BYTES));
     IS(p.result[0], length);
     IS(memcmp(out, sheet, length), 0);
@@ -254,6 +301,8 @@ static void of_write_poster(void) {
     IS(out[0], 0);
     SHORT_RESULT(p, POSTER(out, PAGE));
     SHORT_TALLY(p, POSTER(out, PAGE));
+    WRONG_RANKS(p, POSTER(out, PAGE));
+    IS(out[0], 0);
     GIVES(0, POSTER(out, WAVE_PLAN_MOST_POSTER_BYTES));
     IS(p.result[0], PAGE);
     IS(memcmp(out, first, strlen(first)), 0);
@@ -278,6 +327,12 @@ static const uint8_t journal[ALL + 1] = {
     WAVE_PLAN_FIRST_TAG, 2, 0, 4, 0,        WAVE_PLAN_ADD_TAG, 4, 0, 0, 0, 1, 0, WAVE_PLAN_ADD_TAG, 4, 0, 0, 0, 3, 0,
     WAVE_PLAN_ADD_TAG,   4, 0, 1, 0, 2, 0,  WAVE_PLAN_ADD_TAG, 4, 0, 2, 0, 3, 0, WAVE_PLAN_ADD_TAG};
 
+/* A journal with the ranks of banks 0 and 3 and one add. */
+enum { RANKED = FIRST + 3 * ENTRY };
+static const uint8_t ranked[RANKED] = {
+    WAVE_PLAN_FIRST_TAG, 2, 0, 4, 0,         WAVE_PLAN_RANK_TAG, 4, 0, 0, 0, 2, 1,
+    WAVE_PLAN_RANK_TAG,  4, 0, 3, 0, 15, 39, WAVE_PLAN_ADD_TAG,  4, 0, 1, 0, 2, 0};
+
 static uint8_t *copy(size_t length) {
     uint8_t *bytes = calloc(length, 1);
     if (!bytes) exit(2);
@@ -294,19 +349,27 @@ static void of_start_journal(void) {
     IS(bytes[0], 0);
     SHORT_RESULT(p, START(bytes, ALL));
     SHORT_TALLY(p, START(bytes, ALL));
+    WRONG_RANKS(p, START(bytes, ALL));
+    IS(bytes[0], 0);
     GIVES(0, START(bytes, ALL + 1));
     IS(p.result[0], ALL);
     IS(memcmp(bytes, journal, ALL), 0);
     IS(bytes[ALL], 0);
     p.waves[0] = 1;
     GIVES(3, START(bytes, ALL));
+    GIVES(0, read_list(p, "N 4\nK 3 9999\nK 1 0\nK 0 258\n+ 2 1"));
+    GIVES(15, START(bytes, RANKED - 1));
+    GIVES(0, START(bytes, RANKED));
+    IS(p.result[0], RANKED);
+    IS(memcmp(bytes, ranked, RANKED), 0);
     gone(p);
     free(bytes);
 }
 
 /* A recorded edit: the call is one of two. */
-typedef uint16_t Recorded(uint16_t *, size_t, uint16_t *, size_t, uint16_t *, size_t, uint16_t *, size_t, uint16_t *, size_t, uint16_t *, size_t,
-                          uint16_t *, size_t, uint8_t *, size_t, uint16_t *, size_t, uint16_t, uint16_t, size_t);
+typedef uint16_t Recorded(uint16_t *, size_t, uint16_t *, size_t, uint16_t *, size_t, uint16_t *, size_t, const uint16_t *, size_t,
+                          uint16_t *, size_t, uint16_t *, size_t, uint16_t *, size_t, uint8_t *, size_t, uint16_t *, size_t,
+                          uint16_t, uint16_t, size_t);
 #define RECORD(a, b, size, length) call(PLAN(p), LISTS(p), TALLY_OF(p), bytes, size, RESULT_OF(p), a, b, length)
 
 /* What both recorded calls refuse, on a plan of four banks of which 0 and 2 do not clash, and 0 and 1 do. */
@@ -324,6 +387,13 @@ static void refused_records(Recorded *call, uint16_t a, uint16_t b) {
     GIVES(15, RECORD(a, b, size - 1, ALL));
     SHORT_RESULT(p, RECORD(a, b, size, ALL));
     SHORT_TALLY(p, RECORD(a, b, size, ALL));
+    WRONG_RANKS(p, RECORD(a, b, size, ALL));
+    bytes[FIRST + ENTRY] = WAVE_PLAN_RANK_TAG; /* after an add; the rank is 3 */
+    GIVES(18, RECORD(a, b, size, ALL));
+    GIVES(18, RECORD(a, 4, size, ALL));
+    bytes[FIRST + 2 * ENTRY - 1] = 255; /* the rank is above 9,999 */
+    GIVES(14, RECORD(a, b, size, ALL));
+    bytes[FIRST + 2 * ENTRY - 1] = 0;
     bytes[FIRST] = 'x';
     GIVES(14, RECORD(a, b, size, ALL));
     p.counts[0]++;
@@ -398,6 +468,28 @@ static void of_replay(void) {
     IS(p.result[0], 1);
     SHORT_RESULT(p, REPLAY(journal, ALL));
     SHORT_TALLY(p, REPLAY(journal, ALL));
+    SHORT_RANKS(p, REPLAY(journal, ALL));
+    memcpy(bytes, ranked, RANKED);
+    GIVES(0, REPLAY(bytes, RANKED));
+    const uint16_t ranks[] = {258, 0, 0, WAVE_PLAN_MOST_RANK};
+    for (int b = 0; b < 4; b++) IS(p.ranks[b], ranks[b]);
+    IS(p.tally[1], 1);
+    bytes[FIRST + ENTRY + 3] = 4; /* there is no bank 4 */
+    GIVES(4, REPLAY(bytes, RANKED));
+    IS(p.result[0], 3);
+    IS(p.ranks[0] + p.ranks[3], 258); /* the fields before the one refused */
+    bytes[FIRST + ENTRY + 5]++; /* 10,000 */
+    GIVES(14, REPLAY(bytes, RANKED));
+    IS(p.result[0], 3);
+    bytes[FIRST + ENTRY + 5]--;
+    bytes[FIRST] = WAVE_PLAN_ADD_TAG; /* an add of banks 0 and 258 */
+    GIVES(4, REPLAY(bytes, RANKED));
+    IS(p.result[0], 2);
+    bytes[FIRST + 5] = 1;
+    bytes[FIRST + 6] = 0; /* now of banks 0 and 1 */
+    GIVES(18, REPLAY(bytes, RANKED));
+    IS(p.result[0], 3);
+    IS(p.tally[1], 1);
     free(bytes);
     bytes = calloc(WAVE_PLAN_MOST_JOURNAL_BYTES + 1, 1);
     if (!bytes) exit(2);
@@ -409,6 +501,9 @@ static void of_replay(void) {
 }
 
 enum { PLACE = WAVE_PLAN_PLACE_CELLS(4), SHELF = WAVE_PLAN_SHELF_CELLS(4) };
+
+/* Where a place has its tally and its ranks. */
+enum { BANKS = 1 + ROW * 4 + 4 + 4 + COUNT * 4, RANKS = BANKS + TALLY };
 
 /* An open shelf for four banks; its other cells are 7. */
 static uint16_t *open_shelf(void) {
@@ -465,6 +560,8 @@ static void of_keep(void) {
     p.counts_cells--;
     GIVES(2, keep(p, shelf, SHELF, "NOON    "));
     p.counts_cells++;
+    WRONG_RANKS(p, keep(p, shelf, SHELF, "NOON    "));
+    p.ranks[3] = 5; /* the last of all still */
     for (int i = 0; i < SHELF; i++) IS(shelf[i], i % PLACE ? 7 : 0);
     GIVES(0, keep(p, shelf, SHELF, "NOON    "));
     for (int i = 0; i < SHELF; i++)
@@ -476,20 +573,25 @@ static void of_keep(void) {
         IS(place[1 + ROW * 4 + 4 + b], b % 2);
     }
     IS(memcmp(place + 1 + ROW * 4 + 8, p.counts, COUNT * 4 * sizeof *place), 0);
-    IS(place[PLACE - 3], 4);
-    IS(place[PLACE - 2], 4);
-    IS(place[PLACE - 1], 2);
+    IS(place[BANKS], 4);
+    IS(place[BANKS + 1], 4);
+    IS(place[BANKS + 2], 2);
+    for (int b = 0; b < 4; b++) IS(place[RANKS + b], b == 3 ? 5 : 0);
     GIVES(0, keep(p, shelf, SHELF, "MORNING "));
     GIVES(0, keep(p, shelf, SHELF, "CLOSE   "));
     for (int i = 0; i < PLACE; i++) IS(shelf[i] == place[i] && place[PLACE + i] == place[i], 1);
     GIVES(0, read_list(p, "N 4\n+ 0 1"));
     GIVES(0, keep(p, shelf, SHELF, "NOON    ")); /* kept again */
-    IS(place[PLACE - 2], 1);
-    IS(shelf[PLACE - 2] + place[2 * PLACE - 2], 8);
+    IS(place[BANKS + 1], 1);
+    IS(place[RANKS + 3], 0);
+    IS(shelf[BANKS + 1] + place[PLACE + BANKS + 1], 8);
     place[0] = 2;
     GIVES(3, keep(p, shelf, SHELF, "CLOSE   "));
     place[0] = 1;
-    place[PLACE - 3] = 3; /* the clash is one of three banks as well */
+    place[RANKS + 3] = WAVE_PLAN_MOST_RANK + 1;
+    GIVES(3, keep(p, shelf, SHELF, "CLOSE   "));
+    place[RANKS + 3] = 0;
+    place[BANKS] = 3; /* the clash is one of three banks as well */
     GIVES(3, keep(p, shelf, SHELF, "NOON    ")); /* the place to be replaced is asked about too */
     GIVES(3, keep(p, shelf, SHELF, ""));
     GIVES(2, keep(p, shelf, SHELF - 1, ""));
@@ -508,6 +610,7 @@ static void of_come_back(void) {
     uint16_t *shelf = open_shelf();
     GIVES(17, come_back(p, shelf, SHELF, "NOON    "));
     IS(p.result[0], 0);
+    p.ranks[3] = 5;
     GIVES(0, keep(p, shelf, SHELF, "NOON    "));
     uint16_t *copy_of_shelf = cells(SHELF);
     memcpy(copy_of_shelf, shelf, SHELF * sizeof *shelf);
@@ -523,6 +626,7 @@ static void of_come_back(void) {
     GIVES(2, come_back(p, shelf, SHELF, "NOON    "));
     IS(p.result[0], 0);
     p.moved_cells++;
+    WRONG_RANKS(p, come_back(p, shelf, SHELF, "NOON    "));
     p.result[0] = 9;
     SHORT_RESULT(p, come_back(p, shelf, SHELF, "NOON    "));
     IS(p.result[0], 9);
@@ -533,6 +637,7 @@ static void of_come_back(void) {
         IS(p.moved[b], b < 3 ? b + 1 : 7);
         IS(p.waves[b], b % 2);
         IS(p.degrees[b], 2);
+        IS(p.ranks[b], b == 3 ? 5 : 0);
     }
     IS(p.trail[0], 7);
     IS(p.tally[1], 4);
@@ -540,10 +645,13 @@ static void of_come_back(void) {
     IS(memcmp(shelf, copy_of_shelf, SHELF * sizeof *shelf), 0);
     GIVES(0, keep(p, shelf, SHELF, "NOON    "));
     IS(memcmp(shelf, copy_of_shelf, SHELF * sizeof *shelf), 0); /* the same plan, cell by cell */
-    shelf[2 * PLACE - 3] = 3;
+    shelf[PLACE + BANKS] = 3;
     GIVES(3, come_back(p, shelf, SHELF, "MORNING "));
     GIVES(3, come_back(p, shelf, SHELF, ""));
-    shelf[2 * PLACE - 3] = 4;
+    shelf[PLACE + BANKS] = 4;
+    shelf[PLACE + RANKS] = 6; /* bank 0 is then later than bank 1 */
+    GIVES(3, come_back(p, shelf, SHELF, "NOON    "));
+    shelf[PLACE + RANKS] = 0;
     p.counts[0]++;
     GIVES(3, come_back(p, shelf, SHELF, "NOON    "));
     p.tally[0] = WAVE_PLAN_MOST_BANKS + 1;

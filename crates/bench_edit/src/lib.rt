@@ -22,6 +22,7 @@ fn bench_edit(
     degrees: &mut [u16],
     waves: &mut [u16],
     counts: &mut [u16],
+    ranks: &[u16],
     trail: &mut [u16],
     moved: &mut [u16],
     tally: &mut [u16],
@@ -30,11 +31,11 @@ fn bench_edit(
     b: u16,
 ) -> u16
     requires { ⌜ (tallySize ≤ length (now tally)) × (2 ≤ length (now result)) ⌝ }
-    requires { ⌜ HoldsPlan (memoryIn (cellsGiven neighbours degrees waves counts trail moved tally result)) ⌝ }
+    requires { ⌜ HoldsPlan (memoryIn (cellsGiven neighbours degrees waves counts ranks trail moved tally result)) ⌝ }
     ensures { λ r. ⌜ ((G : Graph)
-        → Ready G (memoryIn (cellsBefore neighbours degrees waves counts trail moved tally result))
-        → answered r (cellsAfter neighbours degrees waves counts trail moved tally result)
-        ≡ heldCall kind G a b (cellsBefore neighbours degrees waves counts trail moved tally result)) ⌝ }
+        → Ready G (memoryIn (cellsBefore neighbours degrees waves counts ranks trail moved tally result))
+        → answered r (cellsAfter neighbours degrees waves counts ranks trail moved tally result)
+        ≡ heldCall kind G a b (cellsBefore neighbours degrees waves counts ranks trail moved tally result)) ⌝ }
 {
     let t = tally_in(tally);
     let r = edit_held(
@@ -43,6 +44,7 @@ fn bench_edit(
         degrees,
         waves,
         counts,
+        ranks,
         trail,
         moved,
         t,
@@ -60,6 +62,7 @@ pub extern "C" fn bench_add(
     degrees: &mut [u16],
     waves: &mut [u16],
     counts: &mut [u16],
+    ranks: &[u16],
     trail: &mut [u16],
     moved: &mut [u16],
     tally: &mut [u16],
@@ -68,11 +71,11 @@ pub extern "C" fn bench_add(
     b: u16,
 ) -> u16
     requires { ⌜ (tallySize ≤ length (now tally)) × (2 ≤ length (now result)) ⌝ }
-    requires { ⌜ HoldsPlan (memoryIn (cellsGiven neighbours degrees waves counts trail moved tally result)) ⌝ }
+    requires { ⌜ HoldsPlan (memoryIn (cellsGiven neighbours degrees waves counts ranks trail moved tally result)) ⌝ }
     ensures { λ r. ⌜ ((G : Graph)
-        → Ready G (memoryIn (cellsBefore neighbours degrees waves counts trail moved tally result))
-        → answered r (cellsAfter neighbours degrees waves counts trail moved tally result)
-        ≡ heldCall Adding G a b (cellsBefore neighbours degrees waves counts trail moved tally result)) ⌝ }
+        → Ready G (memoryIn (cellsBefore neighbours degrees waves counts ranks trail moved tally result))
+        → answered r (cellsAfter neighbours degrees waves counts ranks trail moved tally result)
+        ≡ heldCall Adding G a b (cellsBefore neighbours degrees waves counts ranks trail moved tally result)) ⌝ }
 {
     bench_edit(
         Kind::Adding,
@@ -80,6 +83,7 @@ pub extern "C" fn bench_add(
         degrees,
         waves,
         counts,
+        ranks,
         trail,
         moved,
         tally,
@@ -96,6 +100,7 @@ pub extern "C" fn bench_strike(
     degrees: &mut [u16],
     waves: &mut [u16],
     counts: &mut [u16],
+    ranks: &[u16],
     trail: &mut [u16],
     moved: &mut [u16],
     tally: &mut [u16],
@@ -104,11 +109,11 @@ pub extern "C" fn bench_strike(
     b: u16,
 ) -> u16
     requires { ⌜ (tallySize ≤ length (now tally)) × (2 ≤ length (now result)) ⌝ }
-    requires { ⌜ HoldsPlan (memoryIn (cellsGiven neighbours degrees waves counts trail moved tally result)) ⌝ }
+    requires { ⌜ HoldsPlan (memoryIn (cellsGiven neighbours degrees waves counts ranks trail moved tally result)) ⌝ }
     ensures { λ r. ⌜ ((G : Graph)
-        → Ready G (memoryIn (cellsBefore neighbours degrees waves counts trail moved tally result))
-        → answered r (cellsAfter neighbours degrees waves counts trail moved tally result)
-        ≡ heldCall Striking G a b (cellsBefore neighbours degrees waves counts trail moved tally result)) ⌝ }
+        → Ready G (memoryIn (cellsBefore neighbours degrees waves counts ranks trail moved tally result))
+        → answered r (cellsAfter neighbours degrees waves counts ranks trail moved tally result)
+        ≡ heldCall Striking G a b (cellsBefore neighbours degrees waves counts ranks trail moved tally result)) ⌝ }
 {
     bench_edit(
         Kind::Striking,
@@ -116,6 +121,7 @@ pub extern "C" fn bench_strike(
         degrees,
         waves,
         counts,
+        ranks,
         trail,
         moved,
         tally,

@@ -19,6 +19,7 @@ pub fn edit_in(
     degrees: &mut [u16],
     waves: &mut [u16],
     counts: &mut [u16],
+    ranks: &[u16],
     trail: &mut [u16],
     moved: &mut [u16],
     tally: &mut [u16],
@@ -26,8 +27,8 @@ pub fn edit_in(
     a: u16,
     b: u16,
 ) -> u16
-    ensures { λ r. ⌜ answered r (cellsAfter neighbours degrees waves counts trail moved tally result)
-        ≡ editCall kind a b (cellsBefore neighbours degrees waves counts trail moved tally result) ⌝ }
+    ensures { λ r. ⌜ answered r (cellsAfter neighbours degrees waves counts ranks trail moved tally result)
+        ≡ editCall kind a b (cellsBefore neighbours degrees waves counts ranks trail moved tally result) ⌝ }
 {
     let short = room(tally.len(), result.len(), EDIT_RESULTS);
     if short != 0 {
@@ -40,6 +41,7 @@ pub fn edit_in(
         degrees,
         waves,
         counts,
+        ranks,
         trail,
         moved,
         t,

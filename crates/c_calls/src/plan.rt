@@ -24,18 +24,19 @@ pub fn open_in(
     degrees: &mut [u16],
     waves: &mut [u16],
     counts: &mut [u16],
+    ranks: &mut [u16],
     tally: &mut [u16],
     banks: u16,
 ) -> u16
-    ensures { λ r. ⌜ openAnswered r (slicesAfter neighbours degrees waves counts) (now (tally .exit))
-        ≡ openCall banks (slicesBefore neighbours degrees waves counts) (now (tally .entry)) ⌝ }
+    ensures { λ r. ⌜ openAnswered r (slicesAfter neighbours degrees waves counts ranks) (now (tally .exit))
+        ≡ openCall banks (slicesBefore neighbours degrees waves counts ranks) (now (tally .entry)) ⌝ }
 {
     let short = room(tally.len(), 0, 0);
     if short != 0 {
         return short;
     }
     let t = tally_in(tally);
-    let r = open_core(neighbours, degrees, waves, counts, banks, t);
+    let r = open_core(neighbours, degrees, waves, counts, ranks, banks, t);
     put_tally(tally, r.tally);
     r.number
 }
@@ -46,19 +47,20 @@ pub fn wave_of_in(
     degrees: &[u16],
     waves: &[u16],
     counts: &[u16],
+    ranks: &[u16],
     tally: &[u16],
     result: &mut [u16],
     b: u16,
 ) -> u16
     ensures { λ r. ⌜ bankAnswered r (now (result .exit))
-        ≡ waveCall b (slicesBefore neighbours degrees waves counts) (now (tally .entry)) (now (result .entry)) ⌝ }
+        ≡ waveCall b (slicesBefore neighbours degrees waves counts ranks) (now (tally .entry)) (now (result .entry)) ⌝ }
 {
     let short = room(tally.len(), result.len(), WAVE_RESULTS);
     if short != 0 {
         return short;
     }
     let t = tally_in(tally);
-    let r = wave_of(neighbours, degrees, waves, counts, t, Bank(b));
+    let r = wave_of(neighbours, degrees, waves, counts, ranks, t, Bank(b));
     put_front(result, &[r.wave.0]);
     r.number
 }
@@ -81,20 +83,21 @@ pub fn clashes_of_in(
     degrees: &[u16],
     waves: &[u16],
     counts: &[u16],
+    ranks: &[u16],
     tally: &[u16],
     result: &mut [u16],
     b: u16,
 ) -> u16
     ensures { λ r. ⌜ bankAnswered r (now (result .exit))
-        ≡ clashesCall b (slicesBefore neighbours degrees waves counts) (now (tally .entry)) (now (result .entry)) ⌝ }
+        ≡ clashesCall b (slicesBefore neighbours degrees waves counts ranks) (now (tally .entry)) (now (result .entry)) ⌝ }
 {
     let short = room(tally.len(), result.len(), CLASHES_RESULTS);
     if short != 0 {
         return short;
     }
     let t = tally_in(tally);
-    let r = wave_of(neighbours, degrees, waves, counts, t, Bank(b));
-    let part = clashes_of(neighbours, degrees, waves, counts, t, Bank(b));
+    let r = wave_of(neighbours, degrees, waves, counts, ranks, t, Bank(b));
+    let part = clashes_of(neighbours, degrees, waves, counts, ranks, t, Bank(b));
     let start = row_start(r.number, b);
     put_front(result, &[start, part.len() as u16]);
     r.number

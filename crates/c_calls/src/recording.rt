@@ -18,6 +18,7 @@ pub fn record_in(
     degrees: &mut [u16],
     waves: &mut [u16],
     counts: &mut [u16],
+    ranks: &[u16],
     trail: &mut [u16],
     moved: &mut [u16],
     tally: &mut [u16],
@@ -27,8 +28,8 @@ pub fn record_in(
     b: u16,
     length: usize,
 ) -> u16
-    ensures { λ r. ⌜ recordAnswered r (cellsAfter neighbours degrees waves counts trail moved tally result) (now (journal .exit))
-        ≡ recordCall kind a b (cellsBefore neighbours degrees waves counts trail moved tally result) length (now (journal .entry)) ⌝ }
+    ensures { λ r. ⌜ recordAnswered r (cellsAfter neighbours degrees waves counts ranks trail moved tally result) (now (journal .exit))
+        ≡ recordCall kind a b (cellsBefore neighbours degrees waves counts ranks trail moved tally result) length (now (journal .entry)) ⌝ }
 {
     let short = room(tally.len(), result.len(), RECORD_RESULTS);
     if short != 0 {
@@ -41,6 +42,7 @@ pub fn record_in(
         degrees,
         waves,
         counts,
+        ranks,
         trail,
         moved,
         t,

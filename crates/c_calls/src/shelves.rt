@@ -17,19 +17,20 @@ pub fn keep_in(
     degrees: &[u16],
     waves: &[u16],
     counts: &[u16],
+    ranks: &[u16],
     tally: &[u16],
     shelf: &mut [u16],
     name: &[u8],
 ) -> u16
     ensures { λ r. ⌜ shelfResult r (now (shelf .exit))
-        ≡ keepCall (now (name .entry)) (slicesBefore neighbours degrees waves counts) (now (tally .entry)) (now (shelf .entry)) ⌝ }
+        ≡ keepCall (now (name .entry)) (slicesBefore neighbours degrees waves counts ranks) (now (tally .entry)) (now (shelf .entry)) ⌝ }
 {
     let short = room(tally.len(), 0, 0);
     if short != 0 {
         return short;
     }
     let t = tally_in(tally);
-    keep(neighbours, degrees, waves, counts, t, shelf, name)
+    keep(neighbours, degrees, waves, counts, ranks, t, shelf, name)
 }
 
 // Comes back to the plan kept under a name. The result is the moved count.
@@ -38,14 +39,15 @@ pub fn come_back_in(
     degrees: &mut [u16],
     waves: &mut [u16],
     counts: &mut [u16],
+    ranks: &mut [u16],
     moved: &mut [u16],
     tally: &mut [u16],
     shelf: &[u16],
     name: &[u8],
     result: &mut [u16],
 ) -> u16
-    ensures { λ r. ⌜ backAnswered r (slicesAfter neighbours degrees waves counts) (now (moved .exit)) (now (tally .exit)) (now (result .exit))
-        ≡ comeBackCall (now (name .entry)) (slicesBefore neighbours degrees waves counts) (now (moved .entry)) (now (tally .entry))
+    ensures { λ r. ⌜ backAnswered r (slicesAfter neighbours degrees waves counts ranks) (now (moved .exit)) (now (tally .exit)) (now (result .exit))
+        ≡ comeBackCall (now (name .entry)) (slicesBefore neighbours degrees waves counts ranks) (now (moved .entry)) (now (tally .entry))
         (now (shelf .entry)) (now (result .entry)) ⌝ }
 {
     let short = room(tally.len(), result.len(), BACK_RESULTS);
@@ -53,7 +55,17 @@ pub fn come_back_in(
         return short;
     }
     let t = tally_in(tally);
-    let r = come_back_core(neighbours, degrees, waves, counts, moved, t, shelf, name);
+    let r = come_back_core(
+        neighbours,
+        degrees,
+        waves,
+        counts,
+        ranks,
+        moved,
+        t,
+        shelf,
+        name,
+    );
     put_answer(tally, result, r.tally, &[r.answer.moved]);
     r.answer.number
 }

@@ -45,13 +45,14 @@ fn make_plan(
     degrees: &mut [u16],
     waves: &mut [u16],
     counts: &mut [u16],
+    ranks: &mut [u16],
     trail: &mut [u16],
     moved: &mut [u16],
     tally: Tally,
 ) -> Made
     ensures { λ r. ⌜ MadeFrom source (now (bytes .entry))
-        (before neighbours degrees waves counts trail moved tally) r
-        (after neighbours degrees waves counts trail moved (r .tally)) ⌝ }
+        (before neighbours degrees waves counts ranks trail moved tally) r
+        (after neighbours degrees waves counts ranks trail moved (r .tally)) ⌝ }
 {
     match source {
         Source::FromList => {
@@ -61,6 +62,7 @@ fn make_plan(
                 degrees,
                 waves,
                 counts,
+                ranks,
                 trail,
                 moved,
                 tally,
@@ -80,6 +82,7 @@ fn make_plan(
                 degrees,
                 waves,
                 counts,
+                ranks,
                 trail,
                 moved,
                 tally,
@@ -103,13 +106,14 @@ pub fn make_plan_in(
     degrees: &mut [u16],
     waves: &mut [u16],
     counts: &mut [u16],
+    ranks: &mut [u16],
     trail: &mut [u16],
     moved: &mut [u16],
     tally: &mut [u16],
     result: &mut [u16],
 ) -> u16
-    ensures { λ r. ⌜ answered r (cellsAfter neighbours degrees waves counts trail moved tally result)
-        ≡ sourceCall source (now (bytes .entry)) (cellsBefore neighbours degrees waves counts trail moved tally result) ⌝ }
+    ensures { λ r. ⌜ answered r (cellsAfter neighbours degrees waves counts ranks trail moved tally result)
+        ≡ sourceCall source (now (bytes .entry)) (cellsBefore neighbours degrees waves counts ranks trail moved tally result) ⌝ }
 {
     let count = results_of(source);
     let short = room(tally.len(), result.len(), count);
@@ -124,6 +128,7 @@ pub fn make_plan_in(
         degrees,
         waves,
         counts,
+        ranks,
         trail,
         moved,
         t,

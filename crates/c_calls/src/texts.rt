@@ -33,29 +33,30 @@ fn write_text(
     degrees: &[u16],
     waves: &[u16],
     counts: &[u16],
+    ranks: &[u16],
     tally: Tally,
     out: &mut [u8],
 ) -> Wrote
     ensures { λ r. ⌜ textOutcome (r .number) (r .length) (now (out .exit))
-        ≡ writing text (slicesBefore neighbours degrees waves counts) tally (now (out .entry)) ⌝ }
+        ≡ writing text (slicesBefore neighbours degrees waves counts ranks) tally (now (out .entry)) ⌝ }
 {
     match text {
         Text::Sheet => {
-            let r = write_sheet(neighbours, degrees, waves, counts, tally, out);
+            let r = write_sheet(neighbours, degrees, waves, counts, ranks, tally, out);
             Wrote {
                 number: r.number,
                 length: r.length as u16,
             }
         }
         Text::Poster => {
-            let r = write_poster(neighbours, degrees, waves, counts, tally, out);
+            let r = write_poster(neighbours, degrees, waves, counts, ranks, tally, out);
             Wrote {
                 number: r.number,
                 length: r.length as u16,
             }
         }
         Text::Journal => {
-            let r = start_journal(neighbours, degrees, waves, counts, tally, out);
+            let r = start_journal(neighbours, degrees, waves, counts, ranks, tally, out);
             Wrote {
                 number: r.number,
                 length: r.length,
@@ -71,19 +72,20 @@ pub fn write_in(
     degrees: &[u16],
     waves: &[u16],
     counts: &[u16],
+    ranks: &[u16],
     tally: &[u16],
     out: &mut [u8],
     result: &mut [u16],
 ) -> u16
     ensures { λ r. ⌜ textAnswered r (now (out .exit)) (now (result .exit))
-        ≡ textCall (writing text) (slicesBefore neighbours degrees waves counts) (now (tally .entry)) (now (out .entry)) (now (result .entry)) ⌝ }
+        ≡ textCall (writing text) (slicesBefore neighbours degrees waves counts ranks) (now (tally .entry)) (now (out .entry)) (now (result .entry)) ⌝ }
 {
     let short = room(tally.len(), result.len(), TEXT_RESULTS);
     if short != 0 {
         return short;
     }
     let t = tally_in(tally);
-    let r = write_text(text, neighbours, degrees, waves, counts, t, out);
+    let r = write_text(text, neighbours, degrees, waves, counts, ranks, t, out);
     put_front(result, &[r.length]);
     r.number
 }

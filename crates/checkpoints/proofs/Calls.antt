@@ -12,7 +12,7 @@ use Rattle.memory.specs.inner.View.{Long}
 use Rattle.text.specs.Places.{put, Puts}
 use Rattle.text.proofs.Putting.{puts-one}
 use Rattle.shelf.specs.Names.{placeOf}
-use Rattle.shelf.specs.Shelf.{placeSize, part, place, slicesIn, tallyIn, placeCells}
+use Rattle.shelf.specs.Shelf.{degreesAt, wavesAt, countsAt, tallyAt, ranksAt, placeSize, part, place, slicesIn, tallyIn, placeCells}
 use Rattle.checkpoints.specs.Calls.{openShelfNumber, keepNumber, backNumber, shelfResult, unusedShelf, openShelfBy, openShelf}
 use Rattle.checkpoints.specs.Calls.{keptUnder, keepBy, keep, backResult, overAll, cameBack, backBy, comeBack}
 use Rattle.shelf.specs.inner.Copies.{Copied}
@@ -68,9 +68,15 @@ module _ (s : Slices) (t : Tally) (l : Long (t .banks) s) where
   abbrev pub tally : List ℕ
   tally = t .banks ∷ t .clashes ∷ t .waves ∷ []
 
+  abbrev pub ranks : List ℕ
+  ranks = take n (s .ranks)
+
   -- what is left to put
+  abbrev pub from-tally : List ℕ
+  from-tally = tally ++ ranks
+
   abbrev pub from-counts : List ℕ
-  from-counts = counts ++ tally
+  from-counts = counts ++ from-tally
 
   abbrev pub from-waves : List ℕ
   from-waves = waves ++ from-counts
@@ -93,63 +99,75 @@ module _ (s : Slices) (t : Tally) (l : Long (t .banks) s) where
   pub length-counts : length counts ≡ 24 * n
   length-counts = length-take-le (24 * n) (s .counts) (l .counts)
 
-  pub length-from-counts : length from-counts ≡ 24 * n + 3
-  length-from-counts = omega (arith, length-counts, length-append counts tally)
+  pub length-ranks : length ranks ≡ n
+  length-ranks = length-take-le n (s .ranks) (l .ranks)
 
-  pub length-from-waves : length from-waves ≡ 25 * n + 3
+  pub length-from-tally : tallyAt n + length from-tally ≡ placeSize n
+  length-from-tally = omega (arith, length-ranks, length-append tally ranks)
+
+  pub length-from-counts : countsAt n + length from-counts ≡ placeSize n
+  length-from-counts = omega (arith, length-counts, length-from-tally, length-append counts from-tally)
+
+  pub length-from-waves : wavesAt n + length from-waves ≡ placeSize n
   length-from-waves = omega (arith, length-waves, length-from-counts, length-append waves from-counts)
 
-  pub length-from-degrees : length from-degrees ≡ 26 * n + 3
+  pub length-from-degrees : degreesAt n + length from-degrees ≡ placeSize n
   length-from-degrees = omega (arith, length-degrees, length-from-waves, length-append degrees from-waves)
 
-  pub length-from-rows : length from-rows ≡ 49 * n + 3
+  pub length-from-rows : 1 + length from-rows ≡ placeSize n
   length-from-rows = omega (arith, length-rows, length-from-degrees, length-append rows from-degrees)
 
   pub length-placeCells : length (placeCells s t) ≡ placeSize n
   unfolding placeCells
   length-placeCells = omega (arith, length-from-rows, length-append (1 ∷ []) from-rows)
 
-  pub plan-put : (at : ℕ) (shelf : List ℕ) → at + placeSize n ≤ length shelf → (rs ds cs r₀ r₁ r₂ r₃ r₄ r₅ : ℕ) (s₀ s₁ s₂ s₃ s₄ s₅ : List ℕ)
+  pub plan-put : (at : ℕ) (shelf : List ℕ) → at + placeSize n ≤ length shelf → (rs ds cs r₀ r₁ r₂ r₃ r₄ r₅ r₆ : ℕ) (s₀ s₁ s₂ s₃ s₄ s₅ s₆ : List ℕ)
       → rs ≡ 23 * n → ds ≡ n → cs ≡ 24 * n
       → Copied (1 ∷ []) 1 at shelf r₀ s₀ → Copied (s .neighbours) rs r₀ s₀ r₁ s₁ → Copied (s .degrees) ds r₁ s₁ r₂ s₂
-      → Copied (s .waves) ds r₂ s₂ r₃ s₃ → Copied (s .counts) cs r₃ s₃ r₄ s₄ → Copied tally 3 r₄ s₄ r₅ s₅ → s₅ ≡ put (placeCells s t) at shelf
+      → Copied (s .waves) ds r₂ s₂ r₃ s₃ → Copied (s .counts) cs r₃ s₃ r₄ s₄ → Copied tally 3 r₄ s₄ r₅ s₅ → Copied (s .ranks) ds r₅ s₅ r₆ s₆
+      → s₆ ≡ put (placeCells s t) at shelf
   unfolding placeCells
-  plan-put at shelf room rs ds cs r₀ r₁ r₂ r₃ r₄ r₅ s₀ s₁ s₂ s₃ s₄ s₅ er ed ec c₀ c₁ c₂ c₃ c₄ c₅ =
+  plan-put at shelf room rs ds cs r₀ r₁ r₂ r₃ r₄ r₅ r₆ s₀ s₁ s₂ s₃ s₄ s₅ s₆ er ed ec c₀ c₁ c₂ c₃ c₄ c₅ c₆ =
       let p₀ : Puts (1 ∷ []) at shelf r₀ s₀ = copied-puts (1 ∷ []) 1 at shelf r₀ s₀ (omega arith) c₀ in
       let p₁ : Puts rows r₀ s₀ r₁ s₁ = copied-puts (s .neighbours) (23 * n) r₀ s₀ r₁ s₁ (l .neighbours) (rw er at c₁) in
       let p₂ : Puts degrees r₁ s₁ r₂ s₂ = copied-puts (s .degrees) n r₁ s₁ r₂ s₂ (l .degrees) (rw ed at c₂) in
       let p₃ : Puts waves r₂ s₂ r₃ s₃ = copied-puts (s .waves) n r₂ s₂ r₃ s₃ (l .waves) (rw ed at c₃) in
       let p₄ : Puts counts r₃ s₃ r₄ s₄ = copied-puts (s .counts) (24 * n) r₃ s₃ r₄ s₄ (l .counts) (rw ec at c₄) in
       let p₅ : Puts tally r₄ s₄ r₅ s₅ = copied-puts tally 3 r₄ s₄ r₅ s₅ (omega arith) c₅ in
+      let p₆ : Puts ranks r₅ s₅ r₆ s₆ = copied-puts (s .ranks) n r₅ s₅ r₆ s₆ (l .ranks) (rw ed at c₆) in
       let e₀ : length s₀ ≡ length shelf = puts-long (1 ∷ []) at shelf r₀ s₀ p₀ (omega arith) in
       let n₀ : r₀ ≡ at + 1 = c₀ .next in
       let e₁ : length s₁ ≡ length shelf = puts-long rows r₀ s₀ r₁ s₁ p₁ (omega (arith, length-rows)) ∙ e₀ in
-      let n₁ : r₁ ≡ at + 1 + 23 * n = omega (arith, c₁ .next) in
+      let n₁ : r₁ ≡ at + degreesAt n = omega (arith, c₁ .next) in
       let e₂ : length s₂ ≡ length shelf = puts-long degrees r₁ s₁ r₂ s₂ p₂ (omega (arith, length-degrees)) ∙ e₁ in
-      let n₂ : r₂ ≡ at + 1 + 24 * n = omega (arith, c₂ .next) in
+      let n₂ : r₂ ≡ at + wavesAt n = omega (arith, c₂ .next) in
       let e₃ : length s₃ ≡ length shelf = puts-long waves r₂ s₂ r₃ s₃ p₃ (omega (arith, length-waves)) ∙ e₂ in
-      let n₃ : r₃ ≡ at + 1 + 25 * n = omega (arith, c₃ .next) in
-      let q₄ = puts-more counts r₃ s₃ r₄ s₄ p₄ tally r₅ s₅ (omega (arith, length-from-counts)) p₅ in
-      let q₃ = puts-more waves r₂ s₂ r₃ s₃ p₃ from-counts r₅ s₅ (omega (arith, length-from-waves)) q₄ in
-      let q₂ = puts-more degrees r₁ s₁ r₂ s₂ p₂ from-waves r₅ s₅ (omega (arith, length-from-degrees)) q₃ in
-      let q₁ = puts-more rows r₀ s₀ r₁ s₁ p₁ from-degrees r₅ s₅ (omega (arith, length-from-rows)) q₂ in
-      puts-more (1 ∷ []) at shelf r₀ s₀ p₀ from-rows r₅ s₅ (omega (arith, length-from-rows, length-append (1 ∷ []) from-rows)) q₁ .left
+      let n₃ : r₃ ≡ at + countsAt n = omega (arith, c₃ .next) in
+      let e₄ : length s₄ ≡ length shelf = puts-long counts r₃ s₃ r₄ s₄ p₄ (omega (arith, length-counts)) ∙ e₃ in
+      let n₄ : r₄ ≡ at + tallyAt n = omega (arith, c₄ .next) in
+      let q₅ = puts-more tally r₄ s₄ r₅ s₅ p₅ ranks r₆ s₆ (omega (arith, length-from-tally)) p₆ in
+      let q₄ = puts-more counts r₃ s₃ r₄ s₄ p₄ from-tally r₆ s₆ (omega (arith, length-from-counts)) q₅ in
+      let q₃ = puts-more waves r₂ s₂ r₃ s₃ p₃ from-counts r₆ s₆ (omega (arith, length-from-waves)) q₄ in
+      let q₂ = puts-more degrees r₁ s₁ r₂ s₂ p₂ from-waves r₆ s₆ (omega (arith, length-from-degrees)) q₃ in
+      let q₁ = puts-more rows r₀ s₀ r₁ s₁ p₁ from-degrees r₆ s₆ (omega (arith, length-from-rows)) q₂ in
+      puts-more (1 ∷ []) at shelf r₀ s₀ p₀ from-rows r₆ s₆ (omega (arith, length-from-rows, length-append (1 ∷ []) from-rows)) q₁ .left
 
 -- coming back
 module _ (n : ℕ) (cells : List ℕ) (s : Slices) where
-  pub brought : (rows parts d w c : ℕ) (ns ds ws cs : List ℕ) → rows ≡ 23 * n → parts ≡ 24 * n → d ≡ 1 + 23 * n → w ≡ 1 + 24 * n → c ≡ 1 + 25 * n
+  pub brought : (rows parts d w c k : ℕ) (ns ds ws cs ks : List ℕ)
+      → rows ≡ 23 * n → parts ≡ 24 * n → d ≡ degreesAt n → w ≡ wavesAt n → c ≡ countsAt n → k ≡ ranksAt n
       → ns ≡ over (part 1 rows cells) (s .neighbours) → ds ≡ over (part d n cells) (s .degrees)
-      → ws ≡ over (part w n cells) (s .waves) → cs ≡ over (part c parts cells) (s .counts)
-      → slicesOf ns ds ws cs ≡ overAll (slicesIn n cells) s
+      → ws ≡ over (part w n cells) (s .waves) → cs ≡ over (part c parts cells) (s .counts) → ks ≡ over (part k n cells) (s .ranks)
+      → slicesOf ns ds ws cs ks ≡ overAll (slicesIn n cells) s
   unfolding overAll slicesIn
-  brought rows parts d w c ns ds ws cs er ep ed ew ec hn hd hw hc = rw (hn, hd, hw, hc, er, ep, ed, ew, ec) refl
+  brought rows parts d w c k ns ds ws cs ks er ep ed ew ec ek hn hd hw hc hk = rw (hn, hd, hw, hc, hk, er, ep, ed, ew, ec, ek) refl
 
   -- the waves as they are lent
-  pub lent-waves : (m w c : ℕ) → m ≡ n → w ≡ 1 + m * 24 → c ≡ w + m → take (c - w) (drop w cells) ≡ part (1 + 24 * n) n cells
-  lent-waves m w c e h k = let at : w ≡ 1 + 24 * n = omega arith in lent-part w c n cells (omega arith) ∙ rw at refl
+  pub lent-waves : (m w c : ℕ) → m ≡ n → w ≡ 1 + m * 24 → c ≡ w + m → take (c - w) (drop w cells) ≡ part (wavesAt n) n cells
+  lent-waves m w c e h k = let at : w ≡ wavesAt n = omega arith in lent-part w c n cells (omega arith) ∙ rw at refl
 
 module _ (n : ℕ) (cells : List ℕ) (s : Slices) (moved : List ℕ) where
-  pub came : (r : ℕ) (s′ : Slices) (t : Tally) (moved′ : List ℕ) → Listed n (s .waves) (part (1 + 24 * n) n cells) moved r moved′
+  pub came : (r : ℕ) (s′ : Slices) (t : Tally) (moved′ : List ℕ) → Listed n (s .waves) (part (wavesAt n) n cells) moved r moved′
       → s′ ≡ overAll (slicesIn n cells) s → t ≡ tallyIn n cells → backResult 0 r s′ t moved′ ≡ cameBack n cells s moved
   unfolding cameBack slicesIn
   came r s′ t moved′ l e f = rw (l .count, l .cells, e, f) refl

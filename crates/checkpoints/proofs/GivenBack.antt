@@ -66,6 +66,7 @@ module _ (name : List ℕ) (near : placeOf name < 3) (s : Slices) (t : Tally) (e
               over-front n (s .degrees) (s′ .degrees) (l .degrees),
               over-front n (s .waves) (s′ .waves) (l .waves),
               over-front (24 * n) (s .counts) (s′ .counts) (l .counts),
+              over-front n (s .ranks) (s′ .ranks) (l .ranks),
             ) refl;
         tally = kept-tally s t l;
       })

@@ -5,23 +5,24 @@ use Prim.Native.Nat.{ℕ, _+_, _*_}
 use native.Mathlib.Nat.{add-zero}
 use native.Mathlib.Omega.{arith}
 use lib.ListN.{length, getD, take, drop}
-use lib.Seq.{drop-length}
+use lib.Seq.{drop-length, take-all, getD-drop}
 use Rattle.rule.specs.Graph.{Graph}
 use Rattle.rule.specs.Wave.{waves}
 use Rattle.memory.specs.declared.Tally.{Tally}
 use Rattle.memory.specs.Cells.{over}
-use Rattle.memory.specs.Plan.{Slices, slicesOf, neighbourCells, degreeCells, countCells, planIn, PlanOf}
+use Rattle.memory.specs.Plan.{Slices, slicesOf, neighbourCells, degreeCells, countCells, rankCells, planIn, PlanOf}
 use Rattle.memory.specs.inner.View.{Long}
 use Rattle.memory.proofs.Views.{tally-banks}
 use Rattle.memory.proofs.Theorems.{long, long-enough, length-neighbourCells, length-degreeCells, length-waves, length-countCells}
-use Rattle.shelf.specs.Shelf.{part, place, slicesIn, tallyIn, placeCells}
+use Rattle.memory.proofs.Theorems.{length-rankCells}
+use Rattle.shelf.specs.Shelf.{degreesAt, wavesAt, countsAt, tallyAt, ranksAt, part, place, slicesIn, tallyIn, placeCells}
 use Rattle.checkpoints.specs.Calls.{overAll}
-use Rattle.shelf.proofs.Putting.{skip, skip-cell, first}
+use Rattle.shelf.proofs.Putting.{skip, first}
 use Rattle.checkpoints.proofs.Calls as cells
 
 -- the plan cells of n banks at the fronts of the slices, as slices
 abbrev pub fronts : ℕ → Slices → Slices
-fronts n s = slicesOf (take (23 * n) (s .neighbours)) (take n (s .degrees)) (take n (s .waves)) (take (24 * n) (s .counts))
+fronts n s = slicesOf (take (23 * n) (s .neighbours)) (take n (s .degrees)) (take n (s .waves)) (take (24 * n) (s .counts)) (take n (s .ranks))
 
 -- the cells of a place in which a plan is kept
 module _ (s : Slices) (t : Tally) (l : Long (t .banks) s) where
@@ -33,54 +34,62 @@ module _ (s : Slices) (t : Tally) (l : Long (t .banks) s) where
   kept-cell = refl
 
   -- from a place in it on
-  past-rows : (m : ℕ) → drop (1 + 23 * n + m) (placeCells s t) ≡ drop m (cells.from-degrees s t l)
+  past-rows : (m : ℕ) → drop (degreesAt n + m) (placeCells s t) ≡ drop m (cells.from-degrees s t l)
   unfolding placeCells
   past-rows m =
-      skip (1 ∷ []) (cells.from-rows s t l) (1 + 23 * n + m) (23 * n + m) (omega arith)
+      skip (1 ∷ []) (cells.from-rows s t l) (degreesAt n + m) (23 * n + m) (omega arith)
       ∙ skip (cells.rows s t l) (cells.from-degrees s t l) (23 * n + m) m (omega (arith, cells.length-rows s t l))
 
-  past-degrees : (m : ℕ) → drop (1 + 24 * n + m) (placeCells s t) ≡ drop m (cells.from-waves s t l)
+  past-degrees : (m : ℕ) → drop (wavesAt n + m) (placeCells s t) ≡ drop m (cells.from-waves s t l)
   past-degrees m =
-      let e : 1 + 24 * n + m ≡ 1 + 23 * n + (n + m) = omega arith in
+      let e : wavesAt n + m ≡ degreesAt n + (n + m) = omega arith in
       rw e (past-rows (n + m)) ∙ skip (cells.degrees s t l) (cells.from-waves s t l) (n + m) m (omega (arith, cells.length-degrees s t l))
 
-  past-waves : (m : ℕ) → drop (1 + 25 * n + m) (placeCells s t) ≡ drop m (cells.from-counts s t l)
+  past-waves : (m : ℕ) → drop (countsAt n + m) (placeCells s t) ≡ drop m (cells.from-counts s t l)
   past-waves m =
-      let e : 1 + 25 * n + m ≡ 1 + 24 * n + (n + m) = omega arith in
+      let e : countsAt n + m ≡ wavesAt n + (n + m) = omega arith in
       rw e (past-degrees (n + m)) ∙ skip (cells.waves s t l) (cells.from-counts s t l) (n + m) m (omega (arith, cells.length-waves s t l))
+
+  past-counts : (m : ℕ) → drop (tallyAt n + m) (placeCells s t) ≡ drop m (cells.from-tally s t l)
+  past-counts m =
+      let e : tallyAt n + m ≡ countsAt n + (24 * n + m) = omega arith in
+      rw e (past-waves (24 * n + m)) ∙ skip (cells.counts s t l) (cells.from-tally s t l) (24 * n + m) m (omega (arith, cells.length-counts s t l))
+
+  past-tally : drop (ranksAt n) (placeCells s t) ≡ cells.ranks s t l
+  past-tally = let e : ranksAt n ≡ tallyAt n + 3 = omega arith in rw e (past-counts 3)
 
   part-rows : part 1 (23 * n) (placeCells s t) ≡ cells.rows s t l
   unfolding placeCells
   part-rows = first (cells.rows s t l) (cells.from-degrees s t l) (23 * n) (cells.length-rows s t l)
 
-  part-degrees : part (1 + 23 * n) n (placeCells s t) ≡ cells.degrees s t l
-  part-degrees = ap (take n) (rw (add-zero (1 + 23 * n)) at (past-rows 0)) ∙ first (cells.degrees s t l) (cells.from-waves s t l) n (cells.length-degrees s t l)
+  part-degrees : part (degreesAt n) n (placeCells s t) ≡ cells.degrees s t l
+  part-degrees = ap (take n) (rw (add-zero (degreesAt n)) at (past-rows 0)) ∙ first (cells.degrees s t l) (cells.from-waves s t l) n (cells.length-degrees s t l)
 
-  part-waves : part (1 + 24 * n) n (placeCells s t) ≡ cells.waves s t l
-  part-waves = ap (take n) (rw (add-zero (1 + 24 * n)) at (past-degrees 0)) ∙ first (cells.waves s t l) (cells.from-counts s t l) n (cells.length-waves s t l)
+  part-waves : part (wavesAt n) n (placeCells s t) ≡ cells.waves s t l
+  part-waves = ap (take n) (rw (add-zero (wavesAt n)) at (past-degrees 0)) ∙ first (cells.waves s t l) (cells.from-counts s t l) n (cells.length-waves s t l)
 
-  part-counts : part (1 + 25 * n) (24 * n) (placeCells s t) ≡ cells.counts s t l
+  part-counts : part (countsAt n) (24 * n) (placeCells s t) ≡ cells.counts s t l
   part-counts =
-      ap (take (24 * n)) (rw (add-zero (1 + 25 * n)) at (past-waves 0))
-      ∙ first (cells.counts s t l) (cells.tally s t l) (24 * n) (cells.length-counts s t l)
+      ap (take (24 * n)) (rw (add-zero (countsAt n)) at (past-waves 0))
+      ∙ first (cells.counts s t l) (cells.from-tally s t l) (24 * n) (cells.length-counts s t l)
+
+  part-ranks : part (ranksAt n) n (placeCells s t) ≡ cells.ranks s t l
+  part-ranks = ap (take n) past-tally ∙ take-all n (cells.ranks s t l) (omega (arith, cells.length-ranks s t l))
 
   pub kept-slices : slicesIn n (placeCells s t) ≡ fronts n s
   unfolding slicesIn
-  kept-slices = rw (part-rows, part-degrees, part-waves, part-counts) refl
+  kept-slices = rw (part-rows, part-degrees, part-waves, part-counts, part-ranks) refl
 
   -- a cell of the tally
-  tally-cell : (j : ℕ) → getD (placeCells s t) (49 * n + (j + 1)) 0 ≡ getD (cells.tally s t l) j 0
-  unfolding placeCells
+  tally-cell : (j : ℕ) → getD (placeCells s t) (tallyAt n + j) 0 ≡ getD (cells.from-tally s t l) j 0
   tally-cell j =
-      skip-cell (1 ∷ []) (cells.from-rows s t l) (49 * n + (j + 1)) (49 * n + j) (omega arith)
-      ∙ skip-cell (cells.rows s t l) (cells.from-degrees s t l) (49 * n + j) (26 * n + j) (omega (arith, cells.length-rows s t l))
-      ∙ skip-cell (cells.degrees s t l) (cells.from-waves s t l) (26 * n + j) (25 * n + j) (omega (arith, cells.length-degrees s t l))
-      ∙ skip-cell (cells.waves s t l) (cells.from-counts s t l) (25 * n + j) (24 * n + j) (omega (arith, cells.length-waves s t l))
-      ∙ skip-cell (cells.counts s t l) (cells.tally s t l) (24 * n + j) j (omega (arith, cells.length-counts s t l))
+      rw (add-zero (tallyAt n + j)) at (sym (getD-drop (tallyAt n + j) (placeCells s t) 0 0))
+      ∙ ap (λ (x : List ℕ). getD x 0 0) (past-counts j)
+      ∙ rw (add-zero j) at (getD-drop j (cells.from-tally s t l) 0 0)
 
   pub kept-tally : tallyIn n (placeCells s t) ≡ t
   unfolding tallyIn
-  kept-tally = rw (tally-cell 0, tally-cell 1, tally-cell 2) refl
+  kept-tally = rw (rw (add-zero (tallyAt n)) at (tally-cell 0), tally-cell 1, tally-cell 2) refl
 
 -- a slice that starts with these cells
 front-is : (front xs : List ℕ) (k : ℕ) → length front ≡ k → over front xs ≡ xs → take k xs ≡ front
@@ -93,7 +102,7 @@ over-itself front = rw (drop-length front) (append-nil front)
 
 -- the plan of G, and nothing beyond
 abbrev pub exactly : Graph → Slices
-exactly G = slicesOf (neighbourCells G) (degreeCells G) (waves G) (countCells G)
+exactly G = slicesOf (neighbourCells G) (degreeCells G) (waves G) (countCells G) (rankCells G)
 
 module _ (G : Graph) (s : Slices) (t : Tally) (p : PlanOf G s t) where
   banks-are : G .banks ≡ t .banks
@@ -108,6 +117,7 @@ module _ (G : Graph) (s : Slices) (t : Tally) (p : PlanOf G s t) where
         front-is (degreeCells G) (s .degrees) (t .banks) (omega (arith, length-degreeCells G)) (ap (λ (x : Slices). x .degrees) (p .cells)),
         front-is (waves G) (s .waves) (t .banks) (omega (arith, length-waves G)) (ap (λ (x : Slices). x .waves) (p .cells)),
         front-is (countCells G) (s .counts) (24 * t .banks) (omega (arith, length-countCells G)) (ap (λ (x : Slices). x .counts) (p .cells)),
+        front-is (rankCells G) (s .ranks) (t .banks) (omega (arith, length-rankCells G)) (ap (λ (x : Slices). x .ranks) (p .cells)),
       ) refl
 
   -- the plan without what lies beyond it is a plan
@@ -121,8 +131,9 @@ module _ (G : Graph) (s : Slices) (t : Tally) (p : PlanOf G s t) where
           degrees = omega (arith, length-degreeCells G);
           waves = omega (arith, length-waves G);
           counts = omega (arith, length-countCells G);
+          ranks = omega (arith, length-rankCells G);
         });
-    cells = rw (over-itself (neighbourCells G), over-itself (degreeCells G), over-itself (waves G), over-itself (countCells G)) refl;
+    cells = rw (over-itself (neighbourCells G), over-itself (degreeCells G), over-itself (waves G), over-itself (countCells G), over-itself (rankCells G)) refl;
     tally = p .tally;
   }
 

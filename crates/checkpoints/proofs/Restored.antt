@@ -21,7 +21,7 @@ use Rattle.memory.specs.Plan.{Slices, longEnough, planIn, graphIn, holds, PlanO
 use Rattle.memory.proofs.Theorems.{long, holds-plan, plan-again, long-again, held-of}
 use Rattle.planner.proofs.Numbers.{none}
 use Rattle.shelf.specs.Names.{placeOf, known}
-use Rattle.shelf.specs.Shelf.{placeSize, part, place, used, slicesIn, tallyIn, holdsIn, placeRight, shelfRight}
+use Rattle.shelf.specs.Shelf.{degreesAt, wavesAt, countsAt, ranksAt, placeSize, part, place, used, slicesIn, tallyIn, holdsIn, placeRight, shelfRight}
 use Rattle.checkpoints.specs.Calls.{shelfLong, backNumber, differing, overAll, cameBack, backBy, comeBack, backResult}
 use Rattle.checkpoints.specs.Between.{clashesKept}
 use Rattle.shelf.proofs.Putting.{first}
@@ -103,7 +103,14 @@ module _ (name : List ℕ) (s : Slices) (t : Tally) (moved shelf : List ℕ) whe
     -- its parts have just the plan's cells
     fronts-whole : fronts banks (slicesIn banks cells) ≡ slicesIn banks cells
     unfolding slicesIn
-    fronts-whole = rw (whole 1 (23 * banks), whole (1 + 23 * banks) banks, whole (1 + 24 * banks) banks, whole (1 + 25 * banks) (24 * banks)) refl
+    fronts-whole =
+        rw (
+          whole 1 (23 * banks),
+          whole (degreesAt banks) banks,
+          whole (wavesAt banks) banks,
+          whole (countsAt banks) (24 * banks),
+          whole (ranksAt banks) banks,
+        ) refl
       where
         whole : (from k : ℕ) → take k (part from k cells) ≡ part from k cells
         whole from k = take-all k (part from k cells) (omega (arith, length-take k (drop from cells)))

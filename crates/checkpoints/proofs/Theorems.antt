@@ -65,7 +65,7 @@ module _ (name : List ℕ) (s : Slices) (t : Tally) (shelf : List ℕ) (accepted
   kept-again s′ t′ e again =
       Returns.kept-again s t name shelf yes s′ t′ e (sym (Returns.keep-number s′ t′ name (keep name s t shelf .shelf)) ∙ again)
 
--- 4. keeping and coming back: the plan cells and the tally of the moment of keeping, whatever memory s′, t′ and moved the calls between left,
+-- 4. keeping and coming back: the plan cells, ranks included, and the tally of the moment of keeping, whatever memory s′, t′ and moved the calls between left,
 -- if it holds a plan of as many banks, and whatever keepings were made, if those accepted are of as many banks and under other names
 pub come-back-kept : (name : List ℕ) (s : Slices) (t : Tally) (shelf : List ℕ) → keep name s t shelf .number ≡ 0
     → (ks : List Keeping) → Others (t .banks) name ks (keep name s t shelf .shelf)
@@ -79,7 +79,7 @@ come-back-kept name s t shelf accepted ks o G s′ t′ plan same moved room =
 
 -- 5. after an accepted coming back
 module _ (name : List ℕ) (s : Slices) (t : Tally) (moved shelf : List ℕ) (accepted : comeBack name s t moved shelf .number ≡ 0) where
-  -- memory holds the plan of the clashes of the state returned to,
+  -- memory holds the plan of the clashes and ranks of the state returned to,
   pub back-plan : PlanOf (clashesKept (t .banks) name shelf) (comeBack name s t moved shelf .slices) (comeBack name s t moved shelf .tally)
   back-plan = Restored.back-plan name s t moved shelf accepted
 

@@ -38,6 +38,6 @@ pub record GivesBack (n : ℕ) (s : Slices) (t : Tally) (r : BackResult) : Type 
   pub cells : planCells n (r .slices) ≡ planCells n s
   pub tally : r .tally ≡ t
 
--- the clashes of the state that is kept under a name on a shelf of n banks
+-- the clashes and ranks of the state that is kept under a name on a shelf of n banks
 abbrev pub clashesKept : ℕ → List ℕ → List ℕ → Graph
 clashesKept n name shelf = graphIn n (slicesIn n (place n (placeOf name) shelf))

@@ -100,6 +100,7 @@ overAll cells s = record {
   degrees = over (cells .degrees) (s .degrees);
   waves = over (cells .waves) (s .waves);
   counts = over (cells .counts) (s .counts);
+  ranks = over (cells .ranks) (s .ranks);
 }
 
 -- plan memory of n banks becomes what the place holds; the banks whose wave differs are listed and counted

@@ -8,6 +8,7 @@ use rule::COUNT_CELLS;
 use rule::MOST_BANKS;
 use rule::ROW_CELLS;
 use rule::wide;
+use shelf::TALLY_CELLS;
 use shelf::place_of;
 use shelf::place_size;
 use shelf::put_part;
@@ -29,15 +30,16 @@ fn check_back(
     degrees: &[u16],
     waves: &[u16],
     counts: &[u16],
+    ranks: &[u16],
     moved: &[u16],
     tally: Tally,
     shelf: &[u16],
     name: &[u8],
 ) -> u16
     ensures number { λ r. ⌜ r
-        ≡ backNumber (slicesBefore neighbours degrees waves counts) tally (now (moved .entry)) (now (name .entry)) (now (shelf .entry)) ⌝ }
+        ≡ backNumber (slicesBefore neighbours degrees waves counts ranks) tally (now (moved .entry)) (now (name .entry)) (now (shelf .entry)) ⌝ }
     ensures ready { λ r. ⌜ (r ≡ 0
-        → KeepReady (slicesBefore neighbours degrees waves counts) tally (now (name .entry)) (now (shelf .entry))
+        → KeepReady (slicesBefore neighbours degrees waves counts ranks) tally (now (name .entry)) (now (shelf .entry))
         × (tally .banks ≤ length (now (moved .entry)))) ⌝ }
 {
     let n = wide(tally.banks);
@@ -47,7 +49,16 @@ fn check_back(
     if moved.len() < n {
         return 2;
     }
-    let number = check_keep(neighbours, degrees, waves, counts, tally, shelf, name);
+    let number = check_keep(
+        neighbours,
+        degrees,
+        waves,
+        counts,
+        ranks,
+        tally,
+        shelf,
+        name,
+    );
     if number != 0 {
         return number;
     }
@@ -95,22 +106,25 @@ fn bring_back(
     degrees: &mut [u16],
     waves: &mut [u16],
     counts: &mut [u16],
+    ranks: &mut [u16],
     place: &[u16],
     n: usize,
 )
     requires { ⌜ length (now place) ≡ placeSize n ⌝ }
     requires { ⌜ n ≤ 1024 ⌝ }
-    requires { ⌜ longEnough n (slicesGiven neighbours degrees waves counts) ≡ true ⌝ }
-    ensures { λ r. ⌜ slicesAfter neighbours degrees waves counts
-        ≡ overAll (slicesIn n (now (place .entry))) (slicesBefore neighbours degrees waves counts) ⌝ }
+    requires { ⌜ longEnough n (slicesGiven neighbours degrees waves counts ranks) ≡ true ⌝ }
+    ensures { λ r. ⌜ slicesAfter neighbours degrees waves counts ranks
+        ≡ overAll (slicesIn n (now (place .entry))) (slicesBefore neighbours degrees waves counts ranks) ⌝ }
 {
     let degree = 1 + n * ROW_CELLS;
     let wave = degree + n;
     let count = wave + n;
+    let rank = count + n * COUNT_CELLS + TALLY_CELLS;
     put_part(neighbours, place, 1, n * ROW_CELLS);
     put_part(degrees, place, degree, n);
     put_part(waves, place, wave, n);
     put_part(counts, place, count, n * COUNT_CELLS);
+    put_part(ranks, place, rank, n);
 }
 
 // Plan memory and tally become what the place holds, and the banks whose wave differs are listed.
@@ -119,20 +133,21 @@ fn return_to(
     degrees: &mut [u16],
     waves: &mut [u16],
     counts: &mut [u16],
+    ranks: &mut [u16],
     moved: &mut [u16],
     banks: u16,
     place: &[u16],
 ) -> CameBack
     requires { ⌜ (banks ≤ 1024) × (length (now place) ≡ placeSize banks) × (banks ≤ length (now moved)) ⌝ }
-    requires { ⌜ longEnough banks (slicesGiven neighbours degrees waves counts) ≡ true ⌝ }
-    ensures { λ r. ⌜ backResult (r .answer .number) (r .answer .moved) (slicesAfter neighbours degrees waves counts) (r .tally) (now (moved .exit))
-        ≡ cameBack banks (now (place .entry)) (slicesBefore neighbours degrees waves counts) (now (moved .entry)) ⌝ }
+    requires { ⌜ longEnough banks (slicesGiven neighbours degrees waves counts ranks) ≡ true ⌝ }
+    ensures { λ r. ⌜ backResult (r .answer .number) (r .answer .moved) (slicesAfter neighbours degrees waves counts ranks) (r .tally) (now (moved .exit))
+        ≡ cameBack banks (now (place .entry)) (slicesBefore neighbours degrees waves counts ranks) (now (moved .entry)) ⌝ }
 {
     let n = wide(banks);
     let wave = 1 + n * (ROW_CELLS + 1);
     let count = wave + n;
     let differing = list_moved(waves, &place[wave..count], moved, banks);
-    bring_back(neighbours, degrees, waves, counts, place, n);
+    bring_back(neighbours, degrees, waves, counts, ranks, place, n);
     CameBack {
         answer: Returned {
             number: 0,
@@ -148,19 +163,21 @@ pub fn come_back_core(
     degrees: &mut [u16],
     waves: &mut [u16],
     counts: &mut [u16],
+    ranks: &mut [u16],
     moved: &mut [u16],
     tally: Tally,
     shelf: &[u16],
     name: &[u8],
 ) -> CameBack
-    ensures { λ r. ⌜ backResult (r .answer .number) (r .answer .moved) (slicesAfter neighbours degrees waves counts) (r .tally) (now (moved .exit))
-        ≡ comeBack (now (name .entry)) (slicesBefore neighbours degrees waves counts) tally (now (moved .entry)) (now (shelf .entry)) ⌝ }
+    ensures { λ r. ⌜ backResult (r .answer .number) (r .answer .moved) (slicesAfter neighbours degrees waves counts ranks) (r .tally) (now (moved .exit))
+        ≡ comeBack (now (name .entry)) (slicesBefore neighbours degrees waves counts ranks) tally (now (moved .entry)) (now (shelf .entry)) ⌝ }
 {
     let number = check_back(
         neighbours,
         degrees,
         waves,
         counts,
+        ranks,
         moved,
         tally,
         shelf,
@@ -183,6 +200,7 @@ pub fn come_back_core(
         degrees,
         waves,
         counts,
+        ranks,
         moved,
         tally.banks,
         &shelf[at..end],

@@ -6,6 +6,7 @@ use rule::MOST_BANKS;
 use rule::ROW_CELLS;
 use rule::wide;
 use shelf::PLACES;
+use shelf::TALLY_CELLS;
 use shelf::place_of;
 use shelf::place_size;
 use shelf::put_cells;
@@ -56,19 +57,20 @@ pub fn check_keep(
     degrees: &[u16],
     waves: &[u16],
     counts: &[u16],
+    ranks: &[u16],
     tally: Tally,
     shelf: &[u16],
     name: &[u8],
 ) -> u16
-    ensures number { λ r. ⌜ r ≡ keepNumber (slicesBefore neighbours degrees waves counts) tally (now (name .entry)) (now (shelf .entry)) ⌝ }
+    ensures number { λ r. ⌜ r ≡ keepNumber (slicesBefore neighbours degrees waves counts ranks) tally (now (name .entry)) (now (shelf .entry)) ⌝ }
     ensures ready { λ r. ⌜ (r ≡ 0
-        → KeepReady (slicesBefore neighbours degrees waves counts) tally (now (name .entry)) (now (shelf .entry))) ⌝ }
+        → KeepReady (slicesBefore neighbours degrees waves counts ranks) tally (now (name .entry)) (now (shelf .entry))) ⌝ }
 {
     let number = check_shelf(shelf, tally.banks);
     if number != 0 {
         return number;
     }
-    let plan = check_plan(neighbours, degrees, waves, counts, tally);
+    let plan = check_plan(neighbours, degrees, waves, counts, ranks, tally);
     if plan != 0 {
         return plan;
     }
@@ -89,19 +91,26 @@ fn put_plan(
     degrees: &[u16],
     waves: &[u16],
     counts: &[u16],
+    ranks: &[u16],
     tally: Tally,
 )
     requires { ⌜ at + placeSize (tally .banks) ≤ length (now shelf) ⌝ }
-    requires { ⌜ longEnough (tally .banks) (slicesGiven neighbours degrees waves counts) ≡ true ⌝ }
-    ensures { λ r. ⌜ now (shelf .exit) ≡ put (placeCells (slicesBefore neighbours degrees waves counts) tally) at (now (shelf .entry)) ⌝ }
+    requires { ⌜ longEnough (tally .banks) (slicesGiven neighbours degrees waves counts ranks) ≡ true ⌝ }
+    ensures { λ r. ⌜ now (shelf .exit) ≡ put (placeCells (slicesBefore neighbours degrees waves counts ranks) tally) at (now (shelf .entry)) ⌝ }
 {
     let n = wide(tally.banks);
     let row = put_cells(shelf, at, &[1], 1);
     let degree = put_cells(shelf, row, neighbours, n * ROW_CELLS);
     let wave = put_cells(shelf, degree, degrees, n);
     let count = put_cells(shelf, wave, waves, n);
-    let end = put_cells(shelf, count, counts, n * COUNT_CELLS);
-    put_cells(shelf, end, &[tally.banks, tally.clashes, tally.waves], 3);
+    let tally_at = put_cells(shelf, count, counts, n * COUNT_CELLS);
+    let rank = put_cells(
+        shelf,
+        tally_at,
+        &[tally.banks, tally.clashes, tally.waves],
+        TALLY_CELLS,
+    );
+    put_cells(shelf, rank, ranks, n);
 }
 
 // Keeps the plan under a name. Answers 0, or changes nothing and answers the number of the first no.
@@ -110,18 +119,28 @@ pub fn keep(
     degrees: &[u16],
     waves: &[u16],
     counts: &[u16],
+    ranks: &[u16],
     tally: Tally,
     shelf: &mut [u16],
     name: &[u8],
 ) -> u16
     ensures { λ r. ⌜ shelfResult r (now (shelf .exit))
-        ≡ kept (now (name .entry)) (slicesBefore neighbours degrees waves counts) tally (now (shelf .entry)) ⌝ }
+        ≡ kept (now (name .entry)) (slicesBefore neighbours degrees waves counts ranks) tally (now (shelf .entry)) ⌝ }
 {
-    let number = check_keep(neighbours, degrees, waves, counts, tally, shelf, name);
+    let number = check_keep(
+        neighbours,
+        degrees,
+        waves,
+        counts,
+        ranks,
+        tally,
+        shelf,
+        name,
+    );
     if number != 0 {
         return number;
     }
     let at = wide(place_of(name)) * place_size(tally.banks);
-    put_plan(shelf, at, neighbours, degrees, waves, counts, tally);
+    put_plan(shelf, at, neighbours, degrees, waves, counts, ranks, tally);
     0
 }

@@ -13,16 +13,27 @@ pub fn come_back(
     degrees: &mut [u16],
     waves: &mut [u16],
     counts: &mut [u16],
+    ranks: &mut [u16],
     moved: &mut [u16],
     tally: &mut Tally,
     shelf: &[u16],
     name: &[u8],
 ) -> Returned
-    ensures { λ r. ⌜ backResult (r .number) (r .moved) (slicesAfter neighbours degrees waves counts) (now (tally .exit)) (now (moved .exit))
-        ≡ comeBack (now (name .entry)) (slicesBefore neighbours degrees waves counts) (now (tally .entry)) (now (moved .entry)) (now (shelf .entry)) ⌝ }
+    ensures { λ r. ⌜ backResult (r .number) (r .moved) (slicesAfter neighbours degrees waves counts ranks) (now (tally .exit)) (now (moved .exit))
+        ≡ comeBack (now (name .entry)) (slicesBefore neighbours degrees waves counts ranks) (now (tally .entry)) (now (moved .entry)) (now (shelf .entry)) ⌝ }
 {
     let t = *tally;
-    let back = come_back_core(neighbours, degrees, waves, counts, moved, t, shelf, name);
+    let back = come_back_core(
+        neighbours,
+        degrees,
+        waves,
+        counts,
+        ranks,
+        moved,
+        t,
+        shelf,
+        name,
+    );
     *tally = back.tally;
     back.answer
 }

@@ -22,8 +22,8 @@ use Rattle.rule.proofs.Theorems.{wave-small, start, edited-one, trail-taken}
 use Rattle.memory.specs.declared.Tally.{Tally}
 use Rattle.memory.specs.Cells.{over, Beyond}
 use Rattle.memory.specs.inner.Counts.{standing, mostOf}
-use Rattle.memory.specs.Plan.{slicesOf, neighbourCells, degreeCells, clashCount, tallyOf, planIn, PlanOf}
-use Rattle.memory.specs.inner.View.{Rowed, Shown}
+use Rattle.memory.specs.Plan.{slicesOf, neighbourCells, degreeCells, rankCells, clashCount, tallyOf, planIn, PlanOf}
+use Rattle.memory.specs.inner.View.{Ranked, Rowed, Shown}
 use Rattle.memory.proofs.Cells.{cells-over}
 use Rattle.memory.proofs.Fronts.{beyond-refl, over-long}
 use Rattle.memory.proofs.Standing.{standing-cong}
@@ -42,7 +42,10 @@ use Rattle.queue.proofs.Queues.{empty-queue, no-one}
 use Rattle.steps.proofs.Notices.{memb-none}
 use Rattle.steps.proofs.Stepping.{progress}
 
--- rows and degrees as whole slices
+beyond-same : (k : ℕ) (xs was : List ℕ) → xs ≡ was → Beyond k xs was
+beyond-same k xs was e = rw e (beyond-refl k was)
+
+-- rows, degrees and ranks as whole slices
 module _ {G : Graph} {ns ds was : List ℕ} (rd : Rowed G ns ds) where
   rows-over : Beyond (G .banks * 23) ns was → ns ≡ over (neighbourCells G) was
   unfolding neighbourCells
@@ -54,6 +57,10 @@ module _ {G : Graph} {ns ds was : List ℕ} (rd : Rowed G ns ds) where
   degrees-over : Beyond (G .banks) ds was → ds ≡ over (degreeCells G) was
   unfolding degreeCells
   degrees-over beyond = cells-over (G .banks) (degree G) ds was (rd .wide-degrees) (rd .degrees) beyond
+
+ranks-over : {G : Graph} {rs was : List ℕ} → Ranked G rs → rs ≡ was → rs ≡ over (rankCells G) was
+unfolding rankCells
+ranks-over {G} {rs} {was} rk e = cells-over (G .banks) (G .rank) rs was (rk .wide) (rk .cells) (beyond-same (G .banks) rs was e)
 
 -- trail and moved name no more banks than there are
 trail-few : (k : Kind) (old new : Graph) (a b : ℕ) → length (trail k old new a b) ≤ new .banks
@@ -75,9 +82,6 @@ list-cong old new a b done queued done′ queued′ d q l = record {
   after = λ v x hv hx t u. l .after v x hv hx (T-along (sym (d v)) t) (T-along (sym (q x hx)) u);
 }
 
-beyond-same : (k : ℕ) (xs was : List ℕ) → xs ≡ was → Beyond k xs was
-beyond-same k xs was e = rw e (beyond-refl k was)
-
 filter-none : (p : ℕ → Bool) → [] ≡ filter p []
 unfolding filter
 filter-none p = refl
@@ -92,8 +96,15 @@ module _ {e : Edit} {m : Memory} {before : Degrees} {n clashes : ℕ} (ch : Rows
   banks : n ≡ G .banks
   banks = ch .held .banks ∙ edit .sameBanks
 
-  shows : Shown G (m .slices .neighbours) (m .slices .degrees)
-  shows = shown (ch .rewritten .rowed)
+  -- the edit changes no rank
+  ranks-kept : Ranked G (m .slices .ranks)
+  ranks-kept = record {
+    wide = rw (ch .sameRanks) (omega (arith, ch .held .ranked .wide, edit .sameBanks));
+    cells = λ b l. rw (ch .sameRanks) (ch .held .ranked .cells b (omega (arith, edit .sameBanks)) ∙ edit .sameRanks b l);
+  }
+
+  shows : Shown G (m .slices .neighbours) (m .slices .degrees) (m .slices .ranks)
+  shows = shown (ch .rewritten .rowed) ranks-kept
 
   stored : (x : ℕ) → x < G .banks → getD (m .slices .waves) x 0 ≡ wave (e .old) x
   stored x l = rw (ch .sameWaves) (ch .held .waves x (omega (arith, edit .sameBanks)))
@@ -167,7 +178,7 @@ module _ {e : Edit} {m : Memory} {before : Degrees} {n clashes : ℕ} (ch : Rows
 
   -- nothing waits
   module _ {ws cs tr mv : List ℕ} {p : Progress}
-      (st : Settled e (memoryOf (slicesOf (m .slices .neighbours) (m .slices .degrees) ws cs) tr mv (m .tally)) p) where
+      (st : Settled e (memoryOf (slicesOf (m .slices .neighbours) (m .slices .degrees) ws cs (m .slices .ranks)) tr mv (m .tally)) p) where
     -- the tally, with k waves
     abbrev tallied : ℕ → Tally
     tallied k = record { banks = n; clashes = clashes; waves = k }
@@ -190,11 +201,11 @@ module _ {e : Edit} {m : Memory} {before : Degrees} {n clashes : ℕ} (ch : Rows
         λ i. record { banks = banks i; clashes = ch .number i; waves = number i }
 
     pub outcome : (k : ℕ) → k ≡ mostOf ws n → let t = tallied k in
-        Outcome (e .kind) (e .old) (new e) (e .a) (e .b) (e .was) (memoryOf (slicesOf (m .slices .neighbours) (m .slices .degrees) ws cs) tr mv t)
+        Outcome (e .kind) (e .old) (new e) (e .a) (e .b) (e .was) (memoryOf (slicesOf (m .slices .neighbours) (m .slices .degrees) ws cs (m .slices .ranks)) tr mv t)
         (record { moved = p .moved; trail = p .taken; tally = t })
     unfolding planIn
     outcome k most = record {
-      slices = λ i. record { neighbours = rows i; degrees = ds i; waves = st .rightWaves i; counts = st .rightCounts i };
+      slices = λ i. record { neighbours = rows i; degrees = ds i; waves = st .rightWaves i; counts = st .rightCounts i; ranks = rs i };
       tally = tally-is k most;
       trail = trail-is;
       moved = st .rightMoved;
@@ -212,6 +223,9 @@ module _ {e : Edit} {m : Memory} {before : Degrees} {n clashes : ℕ} (ch : Rows
         ds : m .slices .degrees ≡ over (degreeCells G) (e .was .slices .degrees)
         ds = degrees-over (ch .rewritten .rowed) (rw (← same) (ch .rewritten .degreesBeyond))
 
+        rs : m .slices .ranks ≡ over (rankCells G) (e .was .slices .ranks)
+        rs = ranks-over ranks-kept (ch .sameRanks)
+
         bridge : trail (e .kind) (e .old) G (e .a) (e .b) ≡ taken (e .old) G (e .a) (e .b)
         bridge =
             let ac = ch .acceptable in
@@ -220,10 +234,18 @@ module _ {e : Edit} {m : Memory} {before : Degrees} {n clashes : ℕ} (ch : Rows
         trail-is : tr ≡ over (trail (e .kind) (e .old) G (e .a) (e .b)) (e .was .trail)
         trail-is = rw bridge (st .rightTrail)
 
-        plan : (k : ℕ) → k ≡ mostOf ws n → PlanOf G (slicesOf (m .slices .neighbours) (m .slices .degrees) ws cs) (tallied k)
+        plan : (k : ℕ) → k ≡ mostOf ws n → PlanOf G (slicesOf (m .slices .neighbours) (m .slices .degrees) ws cs (m .slices .ranks)) (tallied k)
         plan k most =
             plan-of G _ (tallied k) n
-            (record { banks = banks; rowed = ch .rewritten .rowed; wide-waves = count-in; waves = st .stored; counted = st .counted })
+            (record {
+              banks = banks;
+              rowed = ch .rewritten .rowed;
+              wide-waves = count-in;
+              waves = st .stored;
+              counted = st .counted;
+              ranked = ranks-kept;
+              low = λ x l. omega (arith, ch .held .low x (omega (arith, edit .sameBanks)), edit .sameRanks x l);
+            })
             (tally-is k most)
 
         trail-room : G .banks ≤ length tr
@@ -245,7 +267,7 @@ rowed-before {G = G} {m = m} ed = held-of G (m .slices) (m .tally) (ed .ready .p
 
 pub changed-from : {k : Kind} {G : Graph} {m : Memory} {a b : ℕ} {ns ds : List ℕ} {before : Degrees} {clashes : ℕ}
     → Editable k G m a b → Rewritten k G a b (m .slices .neighbours) (m .slices .degrees) ns ds before → clashes ≡ clashCount (edited k G a b)
-    → RowsChanged (editAt (originOf k G m) a b) (memoryOf (slicesOf ns ds (m .slices .waves) (m .slices .counts)) (m .trail) (m .moved) (m .tally))
+    → RowsChanged (editAt (originOf k G m) a b) (memoryOf (slicesOf ns ds (m .slices .waves) (m .slices .counts) (m .slices .ranks)) (m .trail) (m .moved) (m .tally))
     before (m .tally .banks) clashes
 changed-from {G = G} {m = m} ed rewritten number =
     let held = held-of G (m .slices) (m .tally) (ed .ready .plan) in
@@ -255,6 +277,7 @@ changed-from {G = G} {m = m} ed rewritten number =
       rewritten = rewritten;
       sameWaves = refl;
       sameCounts = refl;
+      sameRanks = refl;
       sameTrail = refl;
       sameMoved = refl;
       wide-trail = omega (arith, held .banks, ed .ready .trailRoom);

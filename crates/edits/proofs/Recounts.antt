@@ -35,7 +35,7 @@ module _ {G : Graph} {s : Slices} {was queue : List ℕ} {n v : ℕ} (rc : Recou
   v-bank : v < G .banks
   v-bank = omega (arith, rc .banks)
 
-  pub v-countable : Countable (s .neighbours) (s .degrees) (s .waves) n v
+  pub v-countable : Countable (s .neighbours) (s .degrees) (s .ranks) (s .waves) n v
   v-countable = countable (rc .shown) (rc .banks) (rc .wide-waves) (rc .small) lt
 
   pub part-in : v * 24 + 24 ≤ length (s .counts)
@@ -45,7 +45,7 @@ module _ {G : Graph} {s : Slices} {was queue : List ℕ} {n v : ℕ} (rc : Recou
   enqueuable = enqueuable-of (rc .shown) (rc .queue) v-bank
 
   module _ {cs queue′ : List ℕ} (same : length cs ≡ length (s .counts))
-      (one : Recounted (s .counts) cs v (countsOf (s .neighbours) (s .degrees) (s .waves) v)) (put : Enqueued G queue queue′ v true) where
+      (one : Recounted (s .counts) cs v (countsOf (s .neighbours) (s .degrees) (s .ranks) (s .waves) v)) (put : Enqueued G queue queue′ v true) where
     other : (y c : ℕ) → y ≢ v → c < 24 → getD cs (y * 24 + c) 0 ≡ getD (s .counts) (y * 24 + c) 0
     other y c d l = go (decLt y v)
       where

@@ -29,6 +29,7 @@ fn propagate(
     degrees: &[u16],
     waves: &mut [u16],
     counts: &mut [u16],
+    ranks: &[u16],
     trail: &mut [u16],
     moved: &mut [u16],
     banks: u16,
@@ -38,10 +39,10 @@ fn propagate(
     old: Degrees,
 ) -> Accepted
     requires { ⌜ ((o : Origin)
-        × RowsChanged (editAt o (a .0) (b .0)) (given neighbours degrees waves counts trail moved (o .memory .tally)) old banks clashes) ⌝ }
+        × RowsChanged (editAt o (a .0) (b .0)) (given neighbours degrees waves counts ranks trail moved (o .memory .tally)) old banks clashes) ⌝ }
     ensures { λ r. ⌜ ((o : Origin)
-        → RowsChanged (editAt o (a .0) (b .0)) (before neighbours degrees waves counts trail moved (o .memory .tally)) old banks clashes
-        → Result (o .kind) (o .graph) (a .0) (b .0) (o .memory) (after neighbours degrees waves counts trail moved (r .tally)) r) ⌝ }
+        → RowsChanged (editAt o (a .0) (b .0)) (before neighbours degrees waves counts ranks trail moved (o .memory .tally)) old banks clashes
+        → Result (o .kind) (o .graph) (a .0) (b .0) (o .memory) (after neighbours degrees waves counts ranks trail moved (r .tally)) r) ⌝ }
 {
     let mut queue = [0u64; WORDS];
     queue_seeds(
@@ -49,6 +50,7 @@ fn propagate(
         degrees,
         waves,
         counts,
+        ranks,
         &mut queue,
         banks,
         a,
@@ -61,6 +63,7 @@ fn propagate(
         degrees,
         waves,
         counts,
+        ranks,
         trail,
         moved,
         &mut queue,
@@ -97,17 +100,18 @@ pub fn make_edit(
     degrees: &mut [u16],
     waves: &mut [u16],
     counts: &mut [u16],
+    ranks: &[u16],
     trail: &mut [u16],
     moved: &mut [u16],
     tally: Tally,
     a: Bank,
     b: Bank,
 ) -> Accepted
-    requires { ⌜ ((G : Graph) × Editable kind G (given neighbours degrees waves counts trail moved tally) (a .0) (b .0)) ⌝ }
+    requires { ⌜ ((G : Graph) × Editable kind G (given neighbours degrees waves counts ranks trail moved tally) (a .0) (b .0)) ⌝ }
     ensures { λ r. ⌜ ((G : Graph)
-        → Editable kind G (before neighbours degrees waves counts trail moved tally) (a .0) (b .0)
-        → Result kind G (a .0) (b .0) (before neighbours degrees waves counts trail moved tally)
-        (after neighbours degrees waves counts trail moved (r .tally)) r) ⌝ }
+        → Editable kind G (before neighbours degrees waves counts ranks trail moved tally) (a .0) (b .0)
+        → Result kind G (a .0) (b .0) (before neighbours degrees waves counts ranks trail moved tally)
+        (after neighbours degrees waves counts ranks trail moved (r .tally)) r) ⌝ }
 {
     let banks = tally.banks;
     let clashes = count_after(kind, tally.clashes);
@@ -117,6 +121,7 @@ pub fn make_edit(
         degrees,
         waves,
         counts,
+        ranks,
         trail,
         moved,
         banks,

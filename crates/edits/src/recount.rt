@@ -13,12 +13,13 @@ pub fn recount_one(
     degrees: &[u16],
     waves: &[u16],
     counts: &mut [u16],
+    ranks: &[u16],
     banks: u16,
     b: Bank,
 )
-    requires { ⌜ Countable (now neighbours) (now degrees) (now waves) banks (b .0) ⌝ }
+    requires { ⌜ Countable (now neighbours) (now degrees) (now ranks) (now waves) banks (b .0) ⌝ }
     requires { ⌜ b .0 * 24 + 24 ≤ length (now counts) ⌝ }
-    ensures { λ _. ⌜ Recounts neighbours degrees waves counts (b .0) ⌝ }
+    ensures { λ _. ⌜ Recounts neighbours degrees waves counts ranks (b .0) ⌝ }
 {
     let at = b.0 as usize;
     let start = at * COUNT_CELLS;
@@ -26,6 +27,7 @@ pub fn recount_one(
     count_earlier(
         neighbours,
         degrees,
+        ranks,
         waves,
         &mut counts[start..end],
         banks,

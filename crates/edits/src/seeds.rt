@@ -23,18 +23,19 @@ fn queue_seed(
     degrees: &[u16],
     waves: &[u16],
     counts: &mut [u16],
+    ranks: &[u16],
     queue: &mut [u64; WORDS],
     banks: u16,
     v: Bank,
 )
     requires { ⌜ ((G : Graph) × (was : List ℕ)
-        × Recounting G (slicesGiven neighbours degrees waves counts) was (now queue) banks) ⌝ }
+        × Recounting G (slicesGiven neighbours degrees waves counts ranks) was (now queue) banks) ⌝ }
     requires { ⌜ v .0 < banks ⌝ }
     ensures { λ _. ⌜ ((G : Graph) → (was : List ℕ)
-        → Recounting G (slicesBefore neighbours degrees waves counts) was (now (queue .entry)) banks
-        → SeedQueued G (slicesAfter neighbours degrees waves counts) was (now (queue .entry)) (now (queue .exit)) banks (v .0)) ⌝ }
+        → Recounting G (slicesBefore neighbours degrees waves counts ranks) was (now (queue .entry)) banks
+        → SeedQueued G (slicesAfter neighbours degrees waves counts ranks) was (now (queue .entry)) (now (queue .exit)) banks (v .0)) ⌝ }
 {
-    recount_one(neighbours, degrees, waves, counts, banks, v);
+    recount_one(neighbours, degrees, waves, counts, ranks, banks, v);
     enqueue(degrees, queue, v, true);
 }
 
@@ -44,27 +45,28 @@ fn queue_turned_one(
     degrees: &[u16],
     waves: &[u16],
     counts: &mut [u16],
+    ranks: &[u16],
     queue: &mut [u64; WORDS],
     banks: u16,
     b: Bank,
     old: u16,
     i: usize,
 )
-    requires { ⌜ ((s : Search) × Turning s (slicesGiven neighbours degrees waves counts) (now queue) banks (b .0) old i) ⌝ }
+    requires { ⌜ ((s : Search) × Turning s (slicesGiven neighbours degrees waves counts ranks) (now queue) banks (b .0) old i) ⌝ }
     requires { ⌜ i < getD (now degrees) (b .0) 0 ⌝ }
     ensures { λ _. ⌜ ((s : Search)
-        → Turning s (slicesBefore neighbours degrees waves counts) (now (queue .entry)) banks (b .0) old i
-        → Turning s (slicesAfter neighbours degrees waves counts) (now (queue .exit)) banks (b .0) old (i + 1)) ⌝ }
+        → Turning s (slicesBefore neighbours degrees waves counts ranks) (now (queue .entry)) banks (b .0) old i
+        → Turning s (slicesAfter neighbours degrees waves counts ranks) (now (queue .exit)) banks (b .0) old (i + 1)) ⌝ }
 {
     let at = b.0 as usize;
     let v = Bank(neighbours[at * ROW_CELLS + i]);
     let at_v = v.0 as usize;
-    let was = earlier(degrees[at_v], v, old, b);
-    let is = is_earlier(degrees, v, b);
+    let was = earlier(degrees[at_v], ranks[at_v], v, old, ranks[at], b);
+    let is = is_earlier(degrees, ranks, v, b);
     if was == is {
         return;
     }
-    queue_seed(neighbours, degrees, waves, counts, queue, banks, v);
+    queue_seed(neighbours, degrees, waves, counts, ranks, queue, banks, v);
 }
 
 // The same for every neighbour of b.
@@ -73,22 +75,34 @@ fn queue_turned(
     degrees: &[u16],
     waves: &[u16],
     counts: &mut [u16],
+    ranks: &[u16],
     queue: &mut [u64; WORDS],
     banks: u16,
     b: Bank,
     old: u16,
 )
-    requires { ⌜ ((s : Search) × Turning s (slicesGiven neighbours degrees waves counts) (now queue) banks (b .0) old 0) ⌝ }
+    requires { ⌜ ((s : Search) × Turning s (slicesGiven neighbours degrees waves counts ranks) (now queue) banks (b .0) old 0) ⌝ }
     ensures { λ _. ⌜ ((s : Search)
-        → Turning s (slicesBefore neighbours degrees waves counts) (now (queue .entry)) banks (b .0) old 0
-        → Turning s (slicesAfter neighbours degrees waves counts) (now (queue .exit)) banks (b .0) old
+        → Turning s (slicesBefore neighbours degrees waves counts ranks) (now (queue .entry)) banks (b .0) old 0
+        → Turning s (slicesAfter neighbours degrees waves counts ranks) (now (queue .exit)) banks (b .0) old
         (getD (now (degrees .entry)) (b .0) 0)) ⌝ }
 {
     let at = b.0 as usize;
     let degree = degrees[at] as usize;
     let mut i = 0;
     while i < degree {
-        queue_turned_one(neighbours, degrees, waves, counts, queue, banks, b, old, i);
+        queue_turned_one(
+            neighbours,
+            degrees,
+            waves,
+            counts,
+            ranks,
+            queue,
+            banks,
+            b,
+            old,
+            i,
+        );
         i += 1;
     }
 }
@@ -99,6 +113,7 @@ pub fn queue_seeds(
     degrees: &[u16],
     waves: &[u16],
     counts: &mut [u16],
+    ranks: &[u16],
     queue: &mut [u64; WORDS],
     banks: u16,
     a: Bank,
@@ -106,15 +121,35 @@ pub fn queue_seeds(
     before: Degrees,
 )
     requires { ⌜ ((o : Origin)
-        × Seedable (editAt o (a .0) (b .0)) (slicesGiven neighbours degrees waves counts) (now queue) banks before) ⌝ }
+        × Seedable (editAt o (a .0) (b .0)) (slicesGiven neighbours degrees waves counts ranks) (now queue) banks before) ⌝ }
     ensures { λ _. ⌜ ((o : Origin)
-        → Seedable (editAt o (a .0) (b .0)) (slicesBefore neighbours degrees waves counts) (now (queue .entry)) banks before
-        → Seeded (editAt o (a .0) (b .0)) (slicesAfter neighbours degrees waves counts) (now (counts .entry)) (now (queue .exit)) banks) ⌝ }
+        → Seedable (editAt o (a .0) (b .0)) (slicesBefore neighbours degrees waves counts ranks) (now (queue .entry)) banks before
+        → Seeded (editAt o (a .0) (b .0)) (slicesAfter neighbours degrees waves counts ranks) (now (counts .entry)) (now (queue .exit)) banks) ⌝ }
 {
     let old_a = before.a;
     let old_b = before.b;
-    queue_seed(neighbours, degrees, waves, counts, queue, banks, a);
-    queue_seed(neighbours, degrees, waves, counts, queue, banks, b);
-    queue_turned(neighbours, degrees, waves, counts, queue, banks, a, old_a);
-    queue_turned(neighbours, degrees, waves, counts, queue, banks, b, old_b);
+    queue_seed(neighbours, degrees, waves, counts, ranks, queue, banks, a);
+    queue_seed(neighbours, degrees, waves, counts, ranks, queue, banks, b);
+    queue_turned(
+        neighbours,
+        degrees,
+        waves,
+        counts,
+        ranks,
+        queue,
+        banks,
+        a,
+        old_a,
+    );
+    queue_turned(
+        neighbours,
+        degrees,
+        waves,
+        counts,
+        ranks,
+        queue,
+        banks,
+        b,
+        old_b,
+    );
 }

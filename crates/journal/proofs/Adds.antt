@@ -11,14 +11,17 @@ use borrow.Author.Tests.{lt-ltb, le-ltb}
 use Rattle.rule.specs.Lists.{filter}
 use Rattle.rule.specs.Graph.{Graph, neighbours, degree}
 use Rattle.rule.specs.declared.Kind.the-variants.{Adding}
+use Rattle.rule.specs.declared.Entry.{Entry}
 use Rattle.rule.proofs.Lists.{filter-append}
 use Rattle.memory.specs.declared.Tally.{Tally}
 use Rattle.memory.specs.Plan.{Slices, PlanOf}
 use Rattle.memory.proofs.Views.{tally-banks}
-use Rattle.journal_fields.specs.declared.field.Entry.{Entry}
-use Rattle.journal_fields.specs.Fields.{entryBytes, entriesBytes}
-use Rattle.journal_fields.proofs.Entries.{entries-append}
+use Rattle.memory.proofs.Theorems.{held-of}
+use Rattle.journal_fields.specs.Fields.{entryBytes, entriesBytes, rankFits}
+use Rattle.journal_fields.specs.Bounds.{RanksFit}
+use Rattle.journal_fields.proofs.Entries.{entries-append, fit-append}
 use Rattle.journal.specs.Calls.{entryFor, addsOf, addsBelow}
+use Rattle.journal.proofs.Growing.{grow-empty, grow-bytes, grow-room, grow-count}
 
 -- one bank after others
 pub adds-append : (a : ℕ) (xs ys : List ℕ) → addsOf a (xs ++ ys) ≡ addsOf a xs ++ addsOf a ys
@@ -75,45 +78,39 @@ module _ (a : ℕ) (row : List ℕ) (i : ℕ) (h : i < length row) where
 
 -- of all banks below k
 module _ (G : Graph) where
+  abbrev of : ℕ → List Entry
+  of a = addsOf a (neighbours G a)
+
   pub below-none : addsBelow G 0 ≡ []
   unfolding addsBelow
   below-none = refl
 
-  pub below-next : (a : ℕ) → addsBelow G (a + 1) ≡ addsBelow G a ++ addsOf a (neighbours G a)
+  below-step : (a : ℕ) → addsBelow G (suc a) ≡ addsBelow G a ++ of a
   unfolding addsBelow
-  below-next a = ap (addsBelow G) (add-one a)
+  below-step a = refl
 
-  pub below-bytes : (a : ℕ) → entriesBytes (addsBelow G (a + 1)) ≡ entriesBytes (addsBelow G a) ++ entriesBytes (addsOf a (neighbours G a))
-  below-bytes a = ap entriesBytes (below-next a) ∙ entries-append (addsBelow G a) (addsOf a (neighbours G a))
+  pub below-empty : entriesBytes (addsBelow G 0) ≡ []
+  below-empty = grow-empty (addsBelow G) of below-none below-step
 
-  -- they grow
-  below-more : (a d : ℕ) → length (entriesBytes (addsBelow G a)) ≤ length (entriesBytes (addsBelow G (d + a)))
-  unfolding addsBelow
-  below-more a zero = let e : 0 + a ≡ a = omega arith in omega (arith, ap (λ (k : ℕ). length (entriesBytes (addsBelow G k))) e)
-  below-more a (suc d) =
-      let e : suc d + a ≡ suc (d + a) = omega arith in
-      let more : List Entry = addsOf (d + a) (neighbours G (d + a)) in
-      omega (
-        arith,
-        below-more a d,
-        ap (λ (k : ℕ). length (entriesBytes (addsBelow G k))) e,
-        ap length (entries-append (addsBelow G (d + a)) more),
-        length-append (entriesBytes (addsBelow G (d + a))) (entriesBytes more),
-      )
+  pub below-bytes : (a : ℕ) → entriesBytes (addsBelow G (a + 1)) ≡ entriesBytes (addsBelow G a) ++ entriesBytes (of a)
+  below-bytes = grow-bytes (addsBelow G) of below-none below-step
 
-  pub below-room : (a n : ℕ) → a < n → length (entriesBytes (addsBelow G a)) + length (entriesBytes (addsOf a (neighbours G a))) ≤ length (entriesBytes (addsBelow G n))
-  below-room a n h =
-      let e : n - (a + 1) + (a + 1) ≡ n = omega arith in
-      omega (
-        arith,
-        ap length (below-bytes a),
-        length-append (entriesBytes (addsBelow G a)) (entriesBytes (addsOf a (neighbours G a))),
-        below-more (a + 1) (n - (a + 1)),
-        ap (λ (k : ℕ). length (entriesBytes (addsBelow G k))) e,
-      )
+  pub below-room : (a n : ℕ) → a < n → length (entriesBytes (addsBelow G a)) + length (entriesBytes (of a)) ≤ length (entriesBytes (addsBelow G n))
+  below-room = grow-room (addsBelow G) of below-none below-step
 
-  pub below-count : (a : ℕ) → length (addsBelow G (a + 1)) ≡ length (addsBelow G a) + length (addsOf a (neighbours G a))
-  below-count a = ap length (below-next a) ∙ length-append (addsBelow G a) (addsOf a (neighbours G a))
+  pub below-count : (a : ℕ) → length (addsBelow G (a + 1)) ≡ length (addsBelow G a) + length (of a)
+  below-count = grow-count (addsBelow G) of below-none below-step
+
+  -- they set no rank
+  rows-fit : (a : ℕ) (bs : List ℕ) → RanksFit (map (entryFor Adding a) bs)
+  unfolding rankFits
+  rows-fit a [] = tt
+  rows-fit a (b ∷ bs) = (refl, rows-fit a bs)
+
+  pub adds-fit : (k : ℕ) → RanksFit (addsBelow G k)
+  unfolding addsBelow addsOf
+  adds-fit zero = tt
+  adds-fit (suc a) = fit-append (addsBelow G a) (of a) (adds-fit a) (rows-fit a (filter (ltb a) (neighbours G a)))
 
 -- in a plan
 module _ (G : Graph) (s : Slices) (t : Tally) (p : PlanOf G s t) where
@@ -123,6 +120,10 @@ module _ (G : Graph) (s : Slices) (t : Tally) (p : PlanOf G s t) where
   pub plan-few : t .banks ≤ 1024
   plan-few = omega (arith, plan-banks, p .clashes .most)
 
+  -- each bank has a rank
+  pub plan-ranks : t .banks ≤ length (s .ranks)
+  plan-ranks = omega (arith, plan-banks, held-of G s t p .ranked .wide)
+
   -- a row that names the clashes of a has room for its adds
   pub row-room : (a : ℕ) → a < t .banks → (row : List ℕ) → row ≡ neighbours G a
       → length (entriesBytes (addsBelow G a)) + length (entriesBytes (addsOf a row)) ≤ length (entriesBytes (addsBelow G (G .banks)))
@@ -131,7 +132,3 @@ module _ (G : Graph) (s : Slices) (t : Tally) (p : PlanOf G s t) where
   pub row-few : (a : ℕ) → a < t .banks → length (neighbours G a) ≤ 23
   unfolding degree
   row-few a h = p .clashes .few a (omega (arith, plan-banks))
-
-pub below-empty : (G : Graph) → entriesBytes (addsBelow G 0) ≡ []
-unfolding entriesBytes
-below-empty G = ap entriesBytes (below-none G)

@@ -1,16 +1,17 @@
--- The clashes of a plan as adds, the lowest pair first: made in turn from no clash, none is refused, and they end in these clashes.
-use mathlib.Core.Bool.{Bool, _&&_, _||_, or-assoc}
+-- The clashes of a plan as adds, the lowest pair first: made in turn from no clash, none is refused, and they end in these clashes; they change no rank.
+use mathlib.Core.Bool.{Bool, false, _&&_, _||_, or-assoc}
 use mathlib.Core.List.{List, [], _∷_, map}
 use mathlib.Core.Logic.{_⊎_, inl, inr, _≢_}
-use mathlib.Core.Path.{_≡_, refl, sym, _∙_, subst}
+use mathlib.Core.Path.{_≡_, refl, sym, ap, _∙_, subst}
 use Prim.Native.Nat.{ℕ, zero, suc, _≤_, _<_}
 use native.Mathlib.Omega.{arith}
 use lib.Dec.{T, ltb, eqb, eqb→eq, ltb→lt, lt→ltb}
 use borrow.Author.Tests.{lt-ltb, le-ltb}
 use Rattle.rule.specs.Lists.{upto, filter, some, memb, Once}
-use Rattle.rule.specs.Graph.{Graph, neighbours, degree, empty, pair, added, Same}
+use Rattle.rule.specs.Graph.{Graph, neighbours, degree, pair, added, Same}
 use Rattle.rule.specs.Reach.{edited}
 use Rattle.rule.specs.declared.Kind.the-variants.{Adding}
+use Rattle.rule.specs.declared.Entry.{Entry}
 use Rattle.rule.proofs.Booleans.{and-l, and-r, both, or-l, or-r, or-cases, or-false, and-true, and-false, T-along, test-ext, is-false, lt-or-ge}
 use Rattle.rule.proofs.Lists.{in-head, in-tail, in-upto, in-filter, filter-in, upto-below, count-lt, some-in, in-some}
 use Rattle.rule.proofs.Neighbours.{neighbours-in, in-neighbours, neighbours-sorted}
@@ -24,11 +25,10 @@ use Rattle.planner.specs.Calls.{editNumber}
 use Rattle.planner.proofs.Numbers.{two-banks, add-fine}
 use Rattle.planner.proofs.Outcomes.{acceptable}
 use Rattle.planner.proofs.After.{pair-clash, clashes-edited}
-use Rattle.journal_fields.specs.declared.field.Entry.{Entry}
 use Rattle.journal.specs.Calls.{entryFor, addsOf, addsBelow}
-use Rattle.journal_replay.specs.Ends.{afterEntries}
-use Rattle.journal_replay.specs.Replay.{entryNumber}
-use Rattle.journal.proofs.Turns.{NoneRefused, after-append, none-append, no-clashes}
+use Rattle.planner.specs.States.{begunBy}
+use Rattle.journal_replay.specs.Ends.{afterEntry, afterEntries}
+use Rattle.journal.proofs.Turns.{dueNumber, NoneRefused, begunAfter, after-append, none-append}
 
 -- one of a pair with a is a
 pair-near : (a b x y : ℕ) → T (pair a b x y) → T (ltb x (suc a) || ltb y (suc a))
@@ -44,9 +44,15 @@ adds a bs = map (entryFor Adding a) bs
 
 -- the clashes after them
 adds-clash : (a : ℕ) (bs : List ℕ) (H : Graph) (x y : ℕ) → afterEntries (adds a bs) H .clash x y ≡ (H .clash x y || some (λ b. pair a b x y) bs)
-unfolding afterEntries edited some
+unfolding afterEntries afterEntry edited some
 adds-clash a [] H x y = sym (or-false (H .clash x y))
 adds-clash a (b ∷ bs) H x y = adds-clash a bs (added H a b) x y ∙ or-assoc (H .clash x y) (pair a b x y) (some (λ b. pair a b x y) bs)
+
+-- and the ranks
+adds-rank : (a : ℕ) (bs : List ℕ) (H : Graph) (x : ℕ) → afterEntries (adds a bs) H .rank x ≡ H .rank x
+unfolding afterEntries afterEntry edited
+adds-rank a [] H x = refl
+adds-rank a (b ∷ bs) H x = adds-rank a bs (added H a b) x
 
 -- one of two numbers is at most a: one is below a, or one is a and the other no less
 data Near (a x y : ℕ) : Type 0 where
@@ -118,13 +124,14 @@ module _ (G : Graph) (c : Clashes G) where
   abbrev Missing : ℕ → List ℕ → Graph → Type 0
   Missing a bs H = (b : ℕ) → T (memb b bs) → (b < n) × T (G .clash a b) × (T (H .clash a b) → ⊥)
 
-  adds-fine : (a : ℕ) → a < n → (bs : List ℕ) (H : Graph) → Part H → Once bs → Missing a bs H → NoneRefused (adds a bs) H × Part (afterEntries (adds a bs) H)
-  unfolding afterEntries entryNumber edited
-  adds-fine a ha [] H p o w = (tt, p)
-  adds-fine a ha (b ∷ bs) H p o w =
+  adds-fine : (a : ℕ) → a < n → (begun : Bool) (bs : List ℕ) (H : Graph) → Part H → Once bs → Missing a bs H
+      → NoneRefused begun (adds a bs) H × Part (afterEntries (adds a bs) H)
+  unfolding afterEntries afterEntry dueNumber edited
+  adds-fine a ha begun [] H p o w = (tt, p)
+  adds-fine a ha begun (b ∷ bs) H p o w =
       let u = w b (in-head b b bs refl) in
       let p′ = part-added H p a b ha (u .0) (u .1) (u .2) in
-      let r = adds-fine a ha bs (added H a b) p′ (o .1) (λ x m.
+      let r = adds-fine a ha (begunBy (entryFor Adding a b) begun) bs (added H a b) p′ (o .1) (λ x m.
       let v = w x (in-tail x b bs m) in (
         v .0,
         v .1,
@@ -201,39 +208,46 @@ module _ (G : Graph) (c : Clashes G) where
         ∙ test-ext (H .clash x y || new x y) (G .clash x y && (ltb x (suc a) || ltb y (suc a))) (to x y hx hy)
         (λ t. fro x y hx hy (and-l (G .clash x y) _ t) (near a x y (and-r (G .clash x y) _ t)))
 
-  -- the adds of all banks below k
-  record Below (k : ℕ) : Type 0 where
-    none : NoneRefused (addsBelow G k) (empty n)
-    part : Part (afterEntries (addsBelow G k) (empty n))
-    listed : Listed k (afterEntries (addsBelow G k) (empty n))
+  -- from a plan of the same banks and ranks, without clashes
+  module _ (E : Graph) (same : E .banks ≡ n) (bare : (x y : ℕ) → E .clash x y ≡ false) (ranks : (x : ℕ) → x < n → E .rank x ≡ G .rank x) (of : Clashes E) where
+    -- the adds of all banks below k
+    record Below (k : ℕ) : Type 0 where
+      none : (begun : Bool) → NoneRefused begun (addsBelow G k) E
+      part : Part (afterEntries (addsBelow G k) E)
+      listed : Listed k (afterEntries (addsBelow G k) E)
+      rank : (x : ℕ) → afterEntries (addsBelow G k) E .rank x ≡ E .rank x
 
-  adds-below : (k : ℕ) → k ≤ n → Below k
-  unfolding addsBelow addsOf afterEntries
-  adds-below zero h = record {
-    none = tt;
-    part = record { banks = refl; clashes = no-clashes n (c .most); within = λ x y hx hy t. absurd t };
-    listed = λ x y hx hy. sym (rw (le-ltb x 0 (omega arith), le-ltb y 0 (omega arith)) (and-false (G .clash x y)));
-  }
-  adds-below (suc a) h =
-      let b = adds-below a (omega arith) in
-      let H = afterEntries (addsBelow G a) (empty n) in
-      let once = sorted-once ltb (ltb-strict .irrefl) (larger a) (sorted-filter ltb (ltb a) (neighbours G a) (neighbours-sorted G a)) in
-      let r = adds-fine a h (larger a) H (b .part) once (not-yet a h H (b .listed)) in
-      let e = after-append (addsBelow G a) (adds a (larger a)) (empty n) in
-      record {
-        none = none-append (addsBelow G a) (adds a (larger a)) (empty n) (b .none) (r .0);
-        part = rw e (r .1);
-        listed = rw e (listed-next a h H (b .listed));
-      }
+    adds-below : (k : ℕ) → k ≤ n → Below k
+    unfolding addsBelow addsOf afterEntries
+    adds-below zero h = record {
+      none = λ begun. tt;
+      part = record { banks = same; clashes = of; within = λ x y hx hy t. absurd (T-along (bare x y) t) };
+      listed = λ x y hx hy. bare x y ∙ sym (rw (le-ltb x 0 (omega arith), le-ltb y 0 (omega arith)) (and-false (G .clash x y)));
+      rank = λ x. refl;
+    }
+    adds-below (suc a) h =
+        let b = adds-below a (omega arith) in
+        let H = afterEntries (addsBelow G a) E in
+        let once = sorted-once ltb (ltb-strict .irrefl) (larger a) (sorted-filter ltb (ltb a) (neighbours G a) (neighbours-sorted G a)) in
+        let missing = not-yet a h H (b .listed) in
+        let e = after-append (addsBelow G a) (adds a (larger a)) E in
+        record {
+          none = λ begun. none-append begun (addsBelow G a) (adds a (larger a)) E (b .none begun)
+              (adds-fine a h (begunAfter (addsBelow G a) begun) (larger a) H (b .part) once missing .0);
+          part = rw e (adds-fine a h false (larger a) H (b .part) once missing .1);
+          listed = rw e (listed-next a h H (b .listed));
+          rank = λ x. ap (λ (F : Graph). F .rank x) e ∙ adds-rank a (larger a) H x ∙ b .rank x;
+        }
 
-  -- none of the adds is refused, and they end in the clashes of G
-  pub adds-none : NoneRefused (addsBelow G n) (empty n)
-  adds-none = adds-below n (omega arith) .none
+    -- none of the adds is refused, and they end in the clashes and ranks of G
+    pub adds-none : (begun : Bool) → NoneRefused begun (addsBelow G n) E
+    adds-none = adds-below n (omega arith) .none
 
-  pub adds-same : Same (afterEntries (addsBelow G n) (empty n)) G
-  adds-same =
-      let b = adds-below n (omega arith) in
-      record {
-        banks = b .part .banks;
-        clash = λ x y hx hy. b .listed x y hx hy ∙ rw (lt-ltb x n hx) (and-true (G .clash x y));
-      }
+    pub adds-same : Same (afterEntries (addsBelow G n) E) G
+    adds-same =
+        let b = adds-below n (omega arith) in
+        record {
+          banks = b .part .banks;
+          clash = λ x y hx hy. b .listed x y hx hy ∙ rw (lt-ltb x n hx) (and-true (G .clash x y));
+          rank = λ x hx. b .rank x ∙ ranks x hx;
+        }

@@ -1,36 +1,71 @@
 -- A new journal replays to the plan of which it was started.
-use mathlib.Core.Bool.{true}
+use mathlib.Core.Bool.{true, false}
 use mathlib.Core.List.{List, [], _∷_}
 use mathlib.Core.Path.{_≡_, refl}
 use Prim.Native.Nat.{ℕ, zero, suc, _≤_}
 use native.Mathlib.Omega.{arith}
 use lib.ListN.{length, take, drop}
 use lib.Seq.{take-at}
-use Rattle.rule.specs.Graph.{Graph}
+use Rattle.rule.specs.Graph.{Graph, empty, Same}
+use Rattle.rule.specs.declared.Entry.{Entry}
 use Rattle.memory.specs.declared.Tally.{Tally}
 use Rattle.memory.specs.Cells.{over}
 use Rattle.memory.specs.Plan.{Slices, graphIn, Clashes, PlanOf}
 use Rattle.memory.specs.Memory.{Memory}
 use Rattle.planner.specs.Calls.{allLong, planNumber}
 use Rattle.planner.proofs.Numbers.{number-plan}
-use Rattle.journal.specs.Calls.{addsBelow, startBytes, startNumber, startBy, started}
+use Rattle.journal.specs.Calls.{ranksBelow, addsBelow, startEntries, startBytes, startNumber, startBy, started}
 use Rattle.journal_fields.specs.Numbers.{spaceNumber}
+use Rattle.journal_fields.specs.Bounds.{RanksFit}
 use Rattle.journal_replay.specs.Replay.{replayed}
 use Rattle.journal_fields.proofs.Numbers.{first-zero, space-room}
 use Rattle.planner.proofs.Made.{begin-fine}
 use Rattle.journal_replay.proofs.Replaying.{journal-reads}
-use Rattle.journal.proofs.Turns.{Ends}
+use Rattle.journal_fields.proofs.Entries.{fit-append}
+use Rattle.journal_replay.specs.Ends.{afterEntries}
+use Rattle.journal.proofs.Ranks.{ranks-fit}
+use Rattle.journal.proofs.Adds.{adds-fit}
+use Rattle.journal.proofs.Turns.{Ends, NoneRefused, after-append, none-append}
+use Rattle.journal.proofs.RanksInTurn.{sets-none, sets-banks, sets-clash, sets-rank, sets-clashes}
 use Rattle.journal.proofs.AddsInTurn.{adds-none, adds-same}
 use Rattle.journal.specs.Present.{ReplaysTo}
 use Rattle.journal.proofs.Presents.{reads-ends, ends-same, ends-replay}
 
--- the bytes of a new journal
-pub start-ends : (G : Graph) → Clashes G → (m : Memory) → allLong (G .banks) m ≡ true → length (startBytes G) ≤ 60000
-    → Ends (m .slices) G 0 (replayed (startBytes G) m)
-unfolding startBytes
-start-ends G c m room h =
-    ends-same (adds-same G c)
-    (reads-ends m (journal-reads (G .banks) (addsBelow G (G .banks)) h) (begin-fine (G .banks) m (c .most) room) (adds-none G c))
+-- the ranks and the adds of a new journal, in turn
+module _ (G : Graph) (c : Clashes G) where
+  abbrev n : ℕ
+  n = G .banks
+
+  abbrev ranks : List Entry
+  ranks = ranksBelow (G .rank) n
+
+  abbrev ranked : Graph
+  ranked = afterEntries ranks (empty n)
+
+  of : Clashes ranked
+  of = sets-clashes (G .rank) n (c .most) (c .ranks)
+
+  start-none : NoneRefused false (startEntries G) (empty n)
+  unfolding startEntries
+  start-none =
+      none-append false ranks (addsBelow G n) (empty n) (sets-none (G .rank) n)
+      (adds-none G c ranked (sets-banks (G .rank) n) (sets-clash (G .rank) n) (sets-rank (G .rank) n) of _)
+
+  start-same : Same (afterEntries (startEntries G) (empty n)) G
+  unfolding startEntries
+  start-same =
+      rw (after-append ranks (addsBelow G n) (empty n))
+      (adds-same G c ranked (sets-banks (G .rank) n) (sets-clash (G .rank) n) (sets-rank (G .rank) n) of)
+
+  start-fit : RanksFit (startEntries G)
+  unfolding startEntries
+  start-fit = fit-append ranks (addsBelow G n) (ranks-fit (G .rank) n (c .ranks)) (adds-fit G n)
+
+  -- its bytes
+  pub start-ends : (m : Memory) → allLong n m ≡ true → length (startBytes G) ≤ 60000 → Ends (m .slices) G 0 (replayed (startBytes G) m)
+  unfolding startBytes
+  start-ends m room h =
+      ends-same start-same (reads-ends m (journal-reads n (startEntries G) start-fit h) (begin-fine n m (c .most) room) start-none)
 
 -- the call that starts a journal, not refused, puts its bytes at the front
 module _ (s : Slices) (t : Tally) (journal : List ℕ) where

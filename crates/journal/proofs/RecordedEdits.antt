@@ -1,48 +1,50 @@
 -- A journal that replays to the present plan does so after an edit that is recorded.
 use mathlib.Core.Bool.{Bool, true, false, _&&_, _||_, not}
 use mathlib.Core.List.{List, [], _∷_, _++_, append-nil}
-use mathlib.Core.Path.{_≡_, refl, sym, ap, _∙_}
+use mathlib.Core.Path.{_≡_, refl, sym, ap, _∙_, subst}
 use Prim.Native.Nat.{ℕ, zero, suc, _+_, _*_, _≤_, _<_}
 use native.Mathlib.Omega.{arith}
 use lib.Dec.{eqb}
-use lib.ListN.{length, take, drop, length-append, length-drop, take-append-drop, List·getD-append}
-use lib.Seq.{take-at, take-append-add, take-append-le, drop-append-le, length-take-le}
+use lib.ListN.{length, getD, take, drop, length-append, length-drop, take-append-drop, List·getD-append}
+use lib.Seq.{getD-take, take-at, take-append-add, take-append-le, drop-append-le, length-take-le}
 use borrow.Author.Tests.{eqb-true, not-true}
 use Rattle.rule.specs.Lists.{memb}
 use Rattle.rule.specs.Graph.{Graph, empty, Same}
 use Rattle.rule.specs.Reach.{edited}
 use Rattle.rule.specs.declared.Kind.{Kind}
+use Rattle.rule.specs.declared.Entry.{Entry}
 use Rattle.rule.proofs.Booleans.{both-true}
 use Rattle.memory.specs.declared.Tally.{Tally}
 use Rattle.memory.specs.Plan.{Slices, longEnough, graphIn, PlanOf}
 use Rattle.memory.specs.PlanCells.{PlanCells, planCells}
-use Rattle.memory.proofs.Theorems.{rows-give-clashes, long}
+use Rattle.memory.proofs.Theorems.{cells-give, long}
 use Rattle.memory.proofs.Views.{tally-banks}
 use Rattle.memory.specs.Memory.{Memory, Ready}
 use Rattle.planner.specs.Calls.{editResult, memoryNumber, editNumber, accepted, editBy, editOf, checkedBy, edit}
 use Rattle.planner.specs.States.{begin, beginNumber}
 use Rattle.planner.specs.inner.Held.{ReadyIn}
-use Rattle.planner.proofs.Numbers.{none, memory-passed, number-ready}
+use Rattle.planner.proofs.Numbers.{memory-passed, number-ready}
 use Rattle.planner.proofs.Outcomes.{acceptable}
 use Rattle.planner.proofs.After.{plan-in, after-plan}
 use Rattle.planner.proofs.EditCalls.{number-agree, edited-same}
 use Rattle.planner.proofs.Made.{begin-passed}
 use Rattle.text.specs.Places.{put}
-use Rattle.journal_fields.specs.declared.field.Entry.{Entry}
-use Rattle.journal_fields.specs.Fields.{firstSize, entrySize, entryBytes, entriesBytes, hasFirst, banksIn, Fields, fields, areWhole}
+use Rattle.journal_fields.specs.Fields.{firstSize, entrySize, entryBytes, entriesBytes, hasFirst, banksIn, rankFits, Fields, fields, areWhole}
 use Rattle.journal_fields.specs.Numbers.{spaceNumber, headNumber, fieldsNumber}
+use Rattle.journal_fields.specs.Bounds.{RanksFit}
 use Rattle.journal.specs.Calls.{entryFor, clashesIn, recordNumber, RecordResult, recordedAs, recordedBy, recorded}
-use Rattle.journal_replay.specs.Replay.{ReplayResult, replayAnswer, entryNumber, replayed}
+use Rattle.journal_replay.specs.Replay.{ReplayResult, replayAnswer, replayed}
 use Rattle.journal_fields.proofs.Numbers.{first-zero, space-room, size-inside, size-first}
 use Rattle.journal_fields.proofs.Entries.{length-entry, whole, following, fields-written}
-use Rattle.journal_fields.proofs.Bytes.{first-long, first-same, fields-more}
+use Rattle.journal_fields.proofs.Bytes.{first-long, first-same, fields-more, fields-fit}
+use Rattle.journal_fields.proofs.Later.{later-passed}
 use Rattle.journal_replay.proofs.Replaying.{replayFrom, Reads, replay-is}
-use Rattle.journal_replay.specs.Ends.{afterEntries}
+use Rattle.journal_replay.specs.Ends.{afterEntry, afterEntries}
 use Rattle.journal.specs.Present.{ReplaysTo, editAnswer}
-use Rattle.journal.proofs.Turns.{no-clashes, NoneRefused, after-banks, after-clashes, after-append, none-append, Ends, enter-passed}
+use Rattle.journal.proofs.Turns.{no-clashes, dueNumber, NoneRefused, begunAfter, after-banks, after-clashes, after-append, none-append, Ends, enter-passed}
 use Rattle.journal.proofs.Presents.{reads-ends, ends-same, ends-replay}
 
--- equal plan cells have equal rows
+-- equal plan cells have equal rows and ranks
 front-part : (i k n : ℕ) (l : List ℕ) → i + k ≤ n → n ≤ length l → take k (drop i l) ≡ take k (drop i (take n l))
 front-part i k n l h w =
     let t = length-take-le n l w in
@@ -58,7 +60,12 @@ same-rows n s s′ e l l′ x y h =
     ∙ ap (λ (c : PlanCells). take 23 (drop (23 * x) (c .neighbours))) e
     ∙ sym (front-part (23 * x) 23 (23 * n) (s′ .neighbours) (omega arith) (long n s′ l′ .neighbours)))
 
--- so two plans with equal cells and tallies have the same clashes
+same-ranks : (n : ℕ) (s s′ : Slices) → planCells n s ≡ planCells n s′ → (x : ℕ) → x < n → graphIn n s .rank x ≡ graphIn n s′ .rank x
+unfolding graphIn
+same-ranks n s s′ e x h =
+    sym (getD-take n (s .ranks) x 0 h) ∙ ap (λ (c : PlanCells). getD (c .ranks) x 0) e ∙ getD-take n (s′ .ranks) x 0 h
+
+-- so two plans with equal cells and tallies have the same clashes and ranks
 plans-same : (H G : Graph) (s s′ : Slices) (t : Tally) → PlanOf H s t → PlanOf G s′ t → planCells (t .banks) s ≡ planCells (t .banks) s′ → Same H G
 unfolding graphIn
 plans-same H G s s′ t p q e =
@@ -67,9 +74,10 @@ plans-same H G s s′ t p q e =
     record {
       banks = sym b ∙ b′;
       clash = λ x y hx hy.
-          sym (rows-give-clashes s t H p x y (omega arith) (omega arith))
+          sym (cells-give s t H p .clash x y (omega arith) (omega arith))
           ∙ same-rows (t .banks) s s′ e (rw b (p .long)) (rw b′ (q .long)) x y (omega arith)
-          ∙ rows-give-clashes s′ t G q x y hx hy;
+          ∙ cells-give s′ t G q .clash x y hx hy;
+      rank = λ x hx. sym (cells-give s t H p .rank x (omega arith)) ∙ same-ranks (t .banks) s s′ e x (omega arith) ∙ cells-give s′ t G q .rank x hx;
     }
 
 -- whole fields are those of entries
@@ -82,7 +90,8 @@ are-whole f e =
     λ i. record { entries = f .entries; wrong = w i; leftOver = l i }
 
 -- a journal of whole fields, and one entry more
-module _ {bytes : List ℕ} {n : ℕ} {es : List Entry} (r : Reads bytes n (whole es)) (e : Entry) (space : length bytes + entrySize ≤ 60000) where
+module _ {bytes : List ℕ} {n : ℕ} {es : List Entry} (r : Reads bytes n (whole es)) (e : Entry) (fit : rankFits e ≡ true)
+    (space : length bytes + entrySize ≤ 60000) where
   has-first : firstSize ≤ length bytes
   has-first = first-long bytes (r .first)
 
@@ -100,16 +109,16 @@ module _ {bytes : List ℕ} {n : ℕ} {es : List Entry} (r : Reads bytes n (whol
     fields-are =
         ap fields (drop-append-le firstSize bytes (entryBytes e) has-first)
         ∙ fields-more es (drop firstSize bytes) (entryBytes e) (r .fields-are)
-        ∙ ap (following es) (ap fields (sym (append-nil (entryBytes e))) ∙ fields-written (e ∷ []));
+        ∙ ap (following es) (ap fields (sym (append-nil (entryBytes e))) ∙ fields-written (e ∷ []) (fit, tt));
   }
 
 -- what the number 0 of a replay says: its plan was opened, and none of its entries was refused
 replay-passed : {bytes : List ℕ} {n : ℕ} {es : List Entry} (m : Memory) → Reads bytes n (whole es) → replayed bytes m .answer .number ≡ 0
-    → (beginNumber n m ≡ 0) × NoneRefused es (empty n)
+    → (beginNumber n m ≡ 0) × NoneRefused false es (empty n)
 unfolding replayFrom begin
 replay-passed {bytes} {n} {es} m r z = by (beginNumber n m) refl (ap (λ (x : ReplayResult). x .answer .number) (sym (replay-is r m)) ∙ z)
   where
-    by : (c : ℕ) → beginNumber n m ≡ c → replayFrom c n (whole es) m .answer .number ≡ 0 → (beginNumber n m ≡ 0) × NoneRefused es (empty n)
+    by : (c : ℕ) → beginNumber n m ≡ c → replayFrom c n (whole es) m .answer .number ≡ 0 → (beginNumber n m ≡ 0) × NoneRefused false es (empty n)
     by zero e z = (e, enter-passed 2 es false 0 (begin n m) z)
     by (suc c) e z = absurd (omega arith)
 
@@ -123,8 +132,11 @@ module _ {bytes : List ℕ} {n : ℕ} {es : List Entry} (r : Reads bytes n (whol
   opened : beginNumber n m₀ ≡ 0
   opened = replay-passed m₀ r (before .number) .0
 
-  passed : NoneRefused es (empty n)
+  passed : NoneRefused false es (empty n)
   passed = replay-passed m₀ r (before .number) .1
+
+  fit : RanksFit es
+  fit = subst (λ (f : Fields). RanksFit (f .entries)) (r .fields-are) (fields-fit (drop firstSize bytes))
 
   ends-before : Ends (m₀ .slices) H 0 (replayed bytes m₀)
   ends-before = reads-ends m₀ r opened passed
@@ -133,7 +145,7 @@ module _ {bytes : List ℕ} {n : ℕ} {es : List Entry} (r : Reads bytes n (whol
   plan-before =
       let o = begin-passed n m₀ opened in
       rw (ends-before .over .slices, ← (before .tally), ends-before .over .tally)
-      (plan-in H (m₀ .slices) (after-clashes es (empty n) passed (no-clashes n (o .0))) (rw (after-banks es (empty n)) (o .1)))
+      (plan-in H (m₀ .slices) (after-clashes false es (empty n) fit passed (no-clashes n (o .0))) (rw (after-banks es (empty n)) (o .1)))
 
   same-before : Same H G
   same-before = plans-same H G (replayed bytes m₀ .memory .slices) (m .slices) (m .tally) plan-before (ready .plan) (before .cells)
@@ -141,16 +153,16 @@ module _ {bytes : List ℕ} {n : ℕ} {es : List Entry} (r : Reads bytes n (whol
   abbrev e : Entry
   e = entryFor k a b
 
-  due-after : NoneRefused (e ∷ []) H
-  unfolding entryNumber
+  due-after : NoneRefused (begunAfter es false) (e ∷ []) H
+  unfolding dueNumber
   due-after = (number-agree same-before k a b ∙ due, tt)
 
   entry-ends : Ends (m₀ .slices) (edited k G a b) 0 (replayed (bytes ++ entryBytes e) m₀)
-  unfolding afterEntries
+  unfolding afterEntries afterEntry rankFits
   entry-ends =
       let g : afterEntries (es ++ (e ∷ [])) (empty n) ≡ edited k H a b = after-append es (e ∷ []) (empty n) in
       ends-same (edited-same same-before k a b)
-      (rw g at (reads-ends m₀ (more-reads r e space) opened (none-append es (e ∷ []) (empty n) passed due-after)))
+      (rw g at (reads-ends m₀ (more-reads r e refl space) opened (none-append false es (e ∷ []) (empty n) passed due-after)))
 
 -- the call: what the number 0 says, and what it leaves
 pub record Passes (k : Kind) (a b : ℕ) (m : Memory) (size : ℕ) (journal : List ℕ) : Type 0 where
@@ -165,7 +177,7 @@ pub record Passes (k : Kind) (a b : ℕ) (m : Memory) (size : ℕ) (journal : Li
 module _ (k : Kind) (a b : ℕ) (m : Memory) (size : ℕ) (journal : List ℕ) where
   fields-passed : fieldsNumber size journal ≡ 0 → areWhole (fields (drop firstSize (take size journal))) ≡ true
   unfolding fieldsNumber
-  fields-passed z = none (areWhole (fields (drop firstSize (take size journal)))) 13 [] z .0
+  fields-passed z = later-passed (fields (drop firstSize (take size journal))) z .1
 
   memory-ready : memoryNumber m ≡ 0 → ReadyIn m
   memory-ready z = let p = memory-passed m z in number-ready m (p .0) (p .1) (p .2)

@@ -1,5 +1,4 @@
 -- An edit that is recorded, as the functions make it.
-use mathlib.Core.Bool.{true, false}
 use mathlib.Core.List.{List, [], _∷_}
 use mathlib.Core.Path.{_≡_, refl, sym, ap, _∙_}
 use Prim.Native.Nat.{ℕ, zero, suc, _+_, _-_}
@@ -9,15 +8,14 @@ use Rattle.rule.specs.Graph.{Graph}
 use Rattle.rule.specs.declared.Kind.{Kind}
 use Rattle.planner.specs.declared.Answer.{Answer}
 use Rattle.planner.specs.declared.Edited.{Edited}
-use Rattle.planner.specs.Questions.{firstNo}
 use Rattle.memory.specs.Memory.{Memory, Ready}
 use Rattle.planner.specs.Calls.{EditResult, memoryNumber, editNumber, accepted, editBy, editOf}
 use Rattle.planner.specs.inner.Held.{ReadyIn, EditMade}
 use Rattle.text.specs.Places.{put, Puts}
-use Rattle.journal_fields.specs.declared.field.Entry.{Entry}
+use Rattle.rule.specs.declared.Entry.{Entry}
 use Rattle.journal.specs.declared.record.Recorded.{Recorded}
-use Rattle.journal_fields.specs.Fields.{firstSize, entrySize, fields, areWhole, entryBytes}
-use Rattle.journal_fields.specs.Numbers.{firstOf, spaceNumber, headNumber, fieldsNumber}
+use Rattle.journal_fields.specs.Fields.{firstSize, entrySize, fields, entryBytes}
+use Rattle.journal_fields.specs.Numbers.{firstOf, spaceNumber, headNumber, laterNumber, fieldsNumber}
 use Rattle.journal.specs.Calls.{clashesIn, recordNumber, recordResult, noRecord, entryFor, recordedAs, recordedBy, recorded}
 use Rattle.journal.specs.inner.Recording.{Checked, Accepts, RecordedOf}
 use Rattle.journal_fields.proofs.Reading.{drop-take}
@@ -32,13 +30,9 @@ module _ (size : ℕ) (journal : List ℕ) (z : headNumber size journal ≡ 0) w
       let e : firstSize + (size - firstSize) ≡ size = omega (arith, five) in
       ap fields (sym (drop-take firstSize (size - firstSize) journal (omega (arith, five, size-inside size journal z))) ∙ ap (λ (k : ℕ). drop firstSize (take k journal)) e)
 
-  pub fields-no : areWhole (fields (take (size - firstSize) (drop firstSize journal))) ≡ false → 14 ≡ fieldsNumber size journal
-  unfolding fieldsNumber firstNo
-  fields-no e = rw (← later, e)
-
-  pub fields-yes : areWhole (fields (take (size - firstSize) (drop firstSize journal))) ≡ true → 0 ≡ fieldsNumber size journal
-  unfolding fieldsNumber firstNo
-  fields-yes e = rw (← later, e)
+  pub later-number : laterNumber (fields (take (size - firstSize) (drop firstSize journal))) ≡ fieldsNumber size journal
+  unfolding fieldsNumber
+  later-number = ap laterNumber later
 
 -- the first of several numbers, where those before are 0
 module _ (c d : ℕ) (cs : List ℕ) (z : c ≡ 0) where

@@ -16,7 +16,7 @@ use Rattle.journal_replay.specs.Replay.{replayAnswer, replayed}
 use Rattle.journal.proofs.NewJournals as NewJournals
 use Rattle.journal.proofs.RecordedEdits as RecordedEdits
 
--- 1. a new journal of the clashes of G replays with nothing refused or left over, to the plan of G and its tally
+-- 1. a new journal of the clashes and ranks of G replays with nothing refused or left over, to the plan of G and its tally
 module _ (G : Graph) (clashes : Clashes G) (m : Memory) (room : allLong (G .banks) m ≡ true) (within : length (startBytes G) ≤ 60000) where
   pub start-answer : replayed (startBytes G) m .answer ≡ replayAnswer 0 0 0
   start-answer = NewJournals.start-ends G clashes m room within .answer

@@ -1,12 +1,15 @@
--- What starting a journal, and an edit that is recorded, answer and leave, of what they are lent (02, N2).
+-- What starting a journal, and an edit that is recorded, answer and leave, of what they are lent (02, N2 and N6).
+use mathlib.Core.Bool.{cond}
 use mathlib.Core.List.{List, [], _∷_, _++_, map}
 use Prim.Native.Nat.{ℕ, zero, suc, _+_}
-use lib.Dec.{ltb}
+use lib.Dec.{ltb, eqb}
 use lib.ListN.{length}
 use Rattle.rule.specs.Lists.{filter}
 use Rattle.rule.specs.Graph.{Graph, neighbours}
 use Rattle.rule.specs.declared.Kind.{Kind}
 use Rattle.rule.specs.declared.Kind.the-variants.{Adding}
+use Rattle.rule.specs.declared.Entry.{Entry}
+use Rattle.rule.specs.declared.Entry.the-variants.{Clash, Rank}
 use Rattle.rule.specs.Numbers.{bank}
 use Rattle.memory.specs.declared.Tally.{Tally}
 use Rattle.memory.specs.Cells.{over}
@@ -14,7 +17,6 @@ use Rattle.memory.specs.Plan.{Slices, graphIn}
 use Rattle.memory.specs.Memory.{Memory}
 use Rattle.planner.specs.Calls.{planNumber, memoryNumber, editNumber, accepted}
 use Rattle.text.specs.Places.{put}
-use Rattle.journal_fields.specs.declared.field.Entry.{Entry}
 use Rattle.journal.specs.declared.start.Started.{Started}
 use Rattle.journal.specs.declared.record.Recorded.{Recorded}
 use Rattle.journal_fields.specs.Fields.{entrySize, entryBytes, journalBytes}
@@ -22,7 +24,16 @@ use Rattle.journal_fields.specs.Numbers.{firstOf, spaceNumber, headNumber, fiel
 
 -- the entry of an edit
 abbrev pub entryFor : Kind → ℕ → ℕ → Entry
-entryFor k a b = record { kind = k; a = bank a; b = bank b }
+entryFor k a b = Clash k (bank a) (bank b)
+
+-- the rank r of b, if it is other than 0
+unfoldable pub rankOf : ℕ → ℕ → List Entry
+rankOf b r = cond (eqb r 0) [] (Rank (bank b) r ∷ [])
+
+-- the ranks other than 0 of the banks below k, ascending
+unfoldable pub ranksBelow : (ℕ → ℕ) → ℕ → List Entry
+ranksBelow rank zero = []
+ranksBelow rank (suc b) = ranksBelow rank b ++ rankOf b (rank b)
 
 -- the clashes of a with those of these banks that are larger, as adds
 unfoldable pub addsOf : ℕ → List ℕ → List Entry
@@ -33,9 +44,12 @@ unfoldable pub addsBelow : Graph → ℕ → List Entry
 addsBelow G zero = []
 addsBelow G (suc a) = addsBelow G a ++ addsOf a (neighbours G a)
 
--- a new journal: the first field, then the clashes now listed as adds
+-- a new journal: the first field, then the ranks other than 0, then the clashes now listed as adds
+unfoldable pub startEntries : Graph → List Entry
+startEntries G = ranksBelow (G .rank) (G .banks) ++ addsBelow G (G .banks)
+
 unfoldable pub startBytes : Graph → List ℕ
-startBytes G = journalBytes (G .banks) (addsBelow G (G .banks))
+startBytes G = journalBytes (G .banks) (startEntries G)
 
 -- questions 3 to 5, then 15
 unfoldable pub startNumber : Slices → Tally → List ℕ → ℕ
@@ -58,11 +72,11 @@ startBy (suc c) bytes journal = startResult (record { number = suc c; length = 0
 unfoldable pub started : Slices → Tally → List ℕ → StartResult
 started s t journal = startBy (startNumber s t journal) (startBytes (graphIn (t .banks) s)) journal
 
--- the clashes that the memory's rows name
+-- the clashes that the memory's rows name, and the ranks in it
 abbrev pub clashesIn : Memory → Graph
 clashesIn m = graphIn (m .tally .banks) (m .slices)
 
--- all questions of an edit that is recorded
+-- all questions of an edit that is recorded: those about the journal's later fields, 14 and 18, field by field
 unfoldable pub recordNumber : Kind → ℕ → ℕ → Memory → ℕ → List ℕ → ℕ
 recordNumber k a b m size journal =
     firstOf

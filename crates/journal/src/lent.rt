@@ -16,6 +16,7 @@ pub fn add_recorded(
     degrees: &mut [u16],
     waves: &mut [u16],
     counts: &mut [u16],
+    ranks: &[u16],
     trail: &mut [u16],
     moved: &mut [u16],
     tally: &mut Tally,
@@ -24,8 +25,8 @@ pub fn add_recorded(
     journal: &mut [u8],
     size: usize,
 ) -> Recorded
-    ensures { λ r. ⌜ recordResult r (after neighbours degrees waves counts trail moved (now (tally .exit))) (now (journal .exit))
-        ≡ recorded Adding (a .0) (b .0) (before neighbours degrees waves counts trail moved (now (tally .entry))) size (now (journal .entry)) ⌝ }
+    ensures { λ r. ⌜ recordResult r (after neighbours degrees waves counts ranks trail moved (now (tally .exit))) (now (journal .exit))
+        ≡ recorded Adding (a .0) (b .0) (before neighbours degrees waves counts ranks trail moved (now (tally .entry))) size (now (journal .entry)) ⌝ }
 {
     let t = *tally;
     let added = add_recorded_core(
@@ -33,6 +34,7 @@ pub fn add_recorded(
         degrees,
         waves,
         counts,
+        ranks,
         trail,
         moved,
         t,
@@ -51,6 +53,7 @@ pub fn strike_recorded(
     degrees: &mut [u16],
     waves: &mut [u16],
     counts: &mut [u16],
+    ranks: &[u16],
     trail: &mut [u16],
     moved: &mut [u16],
     tally: &mut Tally,
@@ -59,8 +62,8 @@ pub fn strike_recorded(
     journal: &mut [u8],
     size: usize,
 ) -> Recorded
-    ensures { λ r. ⌜ recordResult r (after neighbours degrees waves counts trail moved (now (tally .exit))) (now (journal .exit))
-        ≡ recorded Striking (a .0) (b .0) (before neighbours degrees waves counts trail moved (now (tally .entry))) size (now (journal .entry)) ⌝ }
+    ensures { λ r. ⌜ recordResult r (after neighbours degrees waves counts ranks trail moved (now (tally .exit))) (now (journal .exit))
+        ≡ recorded Striking (a .0) (b .0) (before neighbours degrees waves counts ranks trail moved (now (tally .entry))) size (now (journal .entry)) ⌝ }
 {
     let t = *tally;
     let struck = strike_recorded_core(
@@ -68,6 +71,7 @@ pub fn strike_recorded(
         degrees,
         waves,
         counts,
+        ranks,
         trail,
         moved,
         t,

@@ -1,17 +1,17 @@
 // The calls that make an edit and record it.
 use journal_fields::ENTRY_BYTES;
-use journal_fields::Entry;
 use journal_fields::FIRST_BYTES;
+use journal_fields::fields_number;
 use journal_fields::head_number;
 use journal_fields::put_entry;
 use journal_fields::space_number;
-use journal_fields::whole_fields;
 use memory::Tally;
 use planner::Answer;
 use planner::check_memory;
 use planner::edit_held;
 use planner::edit_number;
 use rule::Bank;
+use rule::Entry;
 use rule::Kind;
 ghost use mathlib.Core.Path.{_≡_};
 ghost use Prim.Native.Nat.{_+_, _≤_};
@@ -42,26 +42,33 @@ fn check_record(
     degrees: &[u16],
     waves: &[u16],
     counts: &[u16],
+    ranks: &[u16],
     trail: &[u16],
     moved: &[u16],
     tally: Tally,
     journal: &[u8],
     size: usize,
 ) -> u16
-    ensures { λ r. ⌜ Checked (before neighbours degrees waves counts trail moved tally) size (now (journal .entry)) r ⌝ }
+    ensures { λ r. ⌜ Checked (before neighbours degrees waves counts ranks trail moved tally) size (now (journal .entry)) r ⌝ }
 {
     let head = head_number(journal, size);
     if head != 0 {
         return head;
     }
-    let memory = check_memory(neighbours, degrees, waves, counts, trail, moved, tally);
+    let memory = check_memory(
+        neighbours,
+        degrees,
+        waves,
+        counts,
+        ranks,
+        trail,
+        moved,
+        tally,
+    );
     if memory != 0 {
         return memory;
     }
-    if !whole_fields(&journal[FIRST_BYTES..size]) {
-        return 14;
-    }
-    0
+    fields_number(&journal[FIRST_BYTES..size])
 }
 
 // All questions of an edit that is recorded: 0, or the number of the first no.
@@ -71,6 +78,7 @@ fn check_edit(
     degrees: &[u16],
     waves: &[u16],
     counts: &[u16],
+    ranks: &[u16],
     trail: &[u16],
     moved: &[u16],
     tally: Tally,
@@ -79,13 +87,14 @@ fn check_edit(
     journal: &[u8],
     size: usize,
 ) -> u16
-    ensures { λ r. ⌜ Accepts kind (a .0) (b .0) (before neighbours degrees waves counts trail moved tally) size (now (journal .entry)) r ⌝ }
+    ensures { λ r. ⌜ Accepts kind (a .0) (b .0) (before neighbours degrees waves counts ranks trail moved tally) size (now (journal .entry)) r ⌝ }
 {
     let checked = check_record(
         neighbours,
         degrees,
         waves,
         counts,
+        ranks,
         trail,
         moved,
         tally,
@@ -95,7 +104,7 @@ fn check_edit(
     if checked != 0 {
         return checked;
     }
-    let edit = edit_number(kind, neighbours, degrees, waves, counts, tally, a, b);
+    let edit = edit_number(kind, neighbours, degrees, waves, counts, ranks, tally, a, b);
     if edit != 0 {
         return edit;
     }
@@ -138,6 +147,7 @@ pub fn record_core(
     degrees: &mut [u16],
     waves: &mut [u16],
     counts: &mut [u16],
+    ranks: &[u16],
     trail: &mut [u16],
     moved: &mut [u16],
     tally: Tally,
@@ -146,8 +156,8 @@ pub fn record_core(
     journal: &mut [u8],
     size: usize,
 ) -> RecordedEdit
-    ensures { λ r. ⌜ recordResult (r .answer) (after neighbours degrees waves counts trail moved (r .tally)) (now (journal .exit))
-        ≡ recorded kind (a .0) (b .0) (before neighbours degrees waves counts trail moved tally) size (now (journal .entry)) ⌝ }
+    ensures { λ r. ⌜ recordResult (r .answer) (after neighbours degrees waves counts ranks trail moved (r .tally)) (now (journal .exit))
+        ≡ recorded kind (a .0) (b .0) (before neighbours degrees waves counts ranks trail moved tally) size (now (journal .entry)) ⌝ }
 {
     let number = check_edit(
         kind,
@@ -155,6 +165,7 @@ pub fn record_core(
         degrees,
         waves,
         counts,
+        ranks,
         trail,
         moved,
         tally,
@@ -172,6 +183,7 @@ pub fn record_core(
         degrees,
         waves,
         counts,
+        ranks,
         trail,
         moved,
         tally,
@@ -179,12 +191,7 @@ pub fn record_core(
         b,
     );
     let after = done.tally;
-    let entry = Entry {
-        kind: kind,
-        a: a,
-        b: b,
-    };
-    let answer = record_entry(journal, size, entry, done.answer);
+    let answer = record_entry(journal, size, Entry::Clash(kind, a, b), done.answer);
     RecordedEdit {
         answer: answer,
         tally: after,
@@ -197,6 +204,7 @@ pub fn add_recorded_core(
     degrees: &mut [u16],
     waves: &mut [u16],
     counts: &mut [u16],
+    ranks: &[u16],
     trail: &mut [u16],
     moved: &mut [u16],
     tally: Tally,
@@ -205,8 +213,8 @@ pub fn add_recorded_core(
     journal: &mut [u8],
     size: usize,
 ) -> RecordedEdit
-    ensures { λ r. ⌜ recordResult (r .answer) (after neighbours degrees waves counts trail moved (r .tally)) (now (journal .exit))
-        ≡ recorded Adding (a .0) (b .0) (before neighbours degrees waves counts trail moved tally) size (now (journal .entry)) ⌝ }
+    ensures { λ r. ⌜ recordResult (r .answer) (after neighbours degrees waves counts ranks trail moved (r .tally)) (now (journal .exit))
+        ≡ recorded Adding (a .0) (b .0) (before neighbours degrees waves counts ranks trail moved tally) size (now (journal .entry)) ⌝ }
 {
     record_core(
         Kind::Adding,
@@ -214,6 +222,7 @@ pub fn add_recorded_core(
         degrees,
         waves,
         counts,
+        ranks,
         trail,
         moved,
         tally,
@@ -230,6 +239,7 @@ pub fn strike_recorded_core(
     degrees: &mut [u16],
     waves: &mut [u16],
     counts: &mut [u16],
+    ranks: &[u16],
     trail: &mut [u16],
     moved: &mut [u16],
     tally: Tally,
@@ -238,8 +248,8 @@ pub fn strike_recorded_core(
     journal: &mut [u8],
     size: usize,
 ) -> RecordedEdit
-    ensures { λ r. ⌜ recordResult (r .answer) (after neighbours degrees waves counts trail moved (r .tally)) (now (journal .exit))
-        ≡ recorded Striking (a .0) (b .0) (before neighbours degrees waves counts trail moved tally) size (now (journal .entry)) ⌝ }
+    ensures { λ r. ⌜ recordResult (r .answer) (after neighbours degrees waves counts ranks trail moved (r .tally)) (now (journal .exit))
+        ≡ recorded Striking (a .0) (b .0) (before neighbours degrees waves counts ranks trail moved tally) size (now (journal .entry)) ⌝ }
 {
     record_core(
         Kind::Striking,
@@ -247,6 +257,7 @@ pub fn strike_recorded_core(
         degrees,
         waves,
         counts,
+        ranks,
         trail,
         moved,
         tally,

@@ -10,17 +10,18 @@ use lib.ListN.{length, getD, drop, length-append, List·getD-append}
 use lib.Seq.{getD-drop, drop-cons, drop-append-le}
 use borrow.Author.Tests.{le-leb, leb-true, eqb-true}
 use Rattle.rule.proofs.Booleans.{both-true}
-use Rattle.rule.specs.declared.Kind.{Kind}
+use Rattle.rule.specs.Numbers.{bank}
 use Rattle.rule.specs.declared.Kind.the-variants.{Adding, Striking}
-use Rattle.journal_fields.specs.declared.field.Entry.{Entry}
+use Rattle.rule.specs.declared.Entry.{Entry}
+use Rattle.rule.specs.declared.Entry.the-variants.{Clash, Rank}
 use Rattle.journal_fields.specs.declared.field.Field.{Field}
-use Rattle.journal_fields.specs.declared.field.Field.the-variants.{Edit, Wrong, Short}
-use Rattle.journal_fields.specs.Fields.{headSize, firstSize, valueSize, entrySize, firstTag, tagOf, twoBytes, numberAt, fieldBytes, firstBytes}
-use Rattle.journal_fields.specs.Fields.{entryBytes, entriesBytes, journalBytes, hasFirst, banksIn, isEntryTag, kindOf, isEntry, entryIn}
-use Rattle.journal_fields.specs.Fields.{fieldOf, Fields, fieldsBy, fields}
-use Rattle.journal_fields.specs.Bounds.{AreBytes, Below, AllBelow}
+use Rattle.journal_fields.specs.declared.field.Field.the-variants.{Whole, Wrong, Short}
+use Rattle.journal_fields.specs.Fields.{headSize, firstSize, valueSize, entrySize, firstTag, rankTag, kindTag, tagOf, firstIn, secondIn, twoBytes}
+use Rattle.journal_fields.specs.Fields.{numberAt, fieldBytes, firstBytes, entryBytes, entriesBytes, journalBytes, hasFirst, banksIn, isEntryTag, kindOf}
+use Rattle.journal_fields.specs.Fields.{isEntry, entryOf, entryIn, rankFits, wholeOf, fieldOf, Fields, fieldsBy, fieldsIn, fields}
+use Rattle.journal_fields.specs.Bounds.{AreBytes, Below, AllBelow, RanksFit}
 use Rattle.journal_fields.proofs.Reading.{fields-step}
-use Rattle.journal_fields.proofs.Forms.{edit-long}
+use Rattle.journal_fields.proofs.Forms.{whole-long}
 use Rattle.journal_fields.proofs.Entries.{length-entries, whole, following, two-back, long-field, fields-written}
 
 -- the first field, and the rest
@@ -85,39 +86,57 @@ module _ (bytes : List ℕ) where
         field-at tag valueSize _ (omega arith) t s
         (two-at headSize a (twoBytes b ++ drop entrySize bytes) (omega arith) refl (two-at (headSize + 2) b (drop entrySize bytes) (omega arith) refl refl))
 
--- an entry's tag is that of its kind
-tag-only : (tag : ℕ) → isEntryTag tag ≡ true → tag ≡ tagOf (kindOf tag)
-unfolding isEntryTag kindOf
-tag-only tag h = by (eqb tag (tagOf Adding)) refl h
-  where
-    by : (c : Bool) → eqb tag (tagOf Adding) ≡ c → (c || eqb tag (tagOf Striking)) ≡ true → tag ≡ tagOf (cond c Adding Striking)
-    by true u v = eqb-true tag (tagOf Adding) u
-    by false u v = eqb-true tag (tagOf Striking) v
+-- the entry of an entry's tag and two numbers has this tag and these numbers
+module _ (tag x y : ℕ) where
+  tag-only : isEntryTag tag ≡ true → tagOf (entryOf tag x y) ≡ tag
+  unfolding isEntryTag entryOf kindOf tagOf
+  tag-only h = by (eqb tag (kindTag Adding)) (eqb tag (kindTag Striking)) (eqb tag rankTag) refl refl refl h
+    where
+      by : (c d r : Bool) → eqb tag (kindTag Adding) ≡ c → eqb tag (kindTag Striking) ≡ d → eqb tag rankTag ≡ r → (c || (d || r)) ≡ true
+          → tagOf (cond r (Rank (bank x) y) (Clash (cond c Adding Striking) (bank x) (bank y))) ≡ tag
+      by c d true u v w h = sym (eqb-true tag rankTag w)
+      by true d false u v w h = sym (eqb-true tag (kindTag Adding) u)
+      by false true false u v w h = sym (eqb-true tag (kindTag Striking) v)
+      by false false false u v w h = let z : _≡_ {A = ℕ} 0 1 = cc in absurd (omega arith)
 
--- what a field that is an entry says of its bytes
-edit-field : (bytes : List ℕ) (e : Entry) → fieldOf bytes ≡ Edit e → (entrySize ≤ length bytes) × (isEntry bytes ≡ true) × (entryIn bytes ≡ e)
-edit-field bytes e q =
-    let l = edit-long bytes e (sym q) in
-    let r = by (isEntry bytes) (sym (long-field bytes l) ∙ q) in
-    (l, r .0, r .1)
+  numbers-only : (firstIn (entryOf tag x y) ≡ x) × (secondIn (entryOf tag x y) ≡ y)
+  unfolding entryOf firstIn secondIn
+  numbers-only = by (eqb tag rankTag)
+    where
+      by : (r : Bool) → let e : Entry = cond r (Rank (bank x) y) (Clash (kindOf tag) (bank x) (bank y)) in (firstIn e ≡ x) × (secondIn e ≡ y)
+      by true = (refl, refl)
+      by false = (refl, refl)
+
+-- what a whole field says of its bytes
+pub whole-field : (bytes : List ℕ) (e : Entry) → fieldOf bytes ≡ Whole e → (entrySize ≤ length bytes) × (isEntry bytes ≡ true) × (entryIn bytes ≡ e) × (rankFits e ≡ true)
+unfolding wholeOf
+whole-field bytes e q =
+    let l = whole-long bytes e (sym q) in
+    let r = by (isEntry bytes) (rankFits (entryIn bytes)) refl (sym (long-field bytes l) ∙ q) in
+    (l, r .0, r .1, ap rankFits (sym (r .1)) ∙ r .2)
   where
-    by : (i : Bool) → cond i (Edit (entryIn bytes)) Wrong ≡ Edit e → (i ≡ true) × (entryIn bytes ≡ e)
-    by true q = (refl, cc)
-    by false q = let z : _≡_ {A = ℕ} 0 1 = cc in absurd (omega arith)
+    by : (i c : Bool) → rankFits (entryIn bytes) ≡ c → cond i (cond c (Whole (entryIn bytes)) Wrong) Wrong ≡ Whole e
+        → (i ≡ true) × (entryIn bytes ≡ e) × (rankFits (entryIn bytes) ≡ true)
+    by true true f q = (refl, cc, f)
+    by true false f q = let z : _≡_ {A = ℕ} 0 1 = cc in absurd (omega arith)
+    by false c f q = let z : _≡_ {A = ℕ} 0 1 = cc in absurd (omega arith)
 
 -- bytes with an entry at the front start with its bytes
-entry-only : (bytes : List ℕ) (e : Entry) → AreBytes bytes → fieldOf bytes ≡ Edit e → bytes ≡ entryBytes e ++ drop entrySize bytes
+entry-only : (bytes : List ℕ) (e : Entry) → AreBytes bytes → fieldOf bytes ≡ Whole e → bytes ≡ entryBytes e ++ drop entrySize bytes
 unfolding isEntry entryIn entryBytes
 entry-only bytes e b q =
-    let f = edit-field bytes e q in
+    let f = whole-field bytes e q in
     let t = getD bytes 0 0 in
+    let x = numberAt headSize bytes in
+    let y = numberAt (headSize + 2) bytes in
     let p = both-true (isEntryTag t) (eqb (numberAt 1 bytes) valueSize) (f .1) in
-    rw (← (f .2)) (pair-only bytes b (tagOf (kindOf t)) (f .0) (tag-only t (p .0)) (eqb-true (numberAt 1 bytes) valueSize (p .1)))
+    let n = numbers-only t x y in
+    rw (← (f .2), tag-only t x y (p .0), n .0, n .1) (pair-only bytes b t (f .0) refl (eqb-true (numberAt 1 bytes) valueSize (p .1)))
 
 -- fields that are whole: none, or one and the others
 whole-none : (f : Field) (size : ℕ) (rest : Fields) → fieldsBy f size rest ≡ whole [] → size ≡ 0
 unfolding fieldsBy
-whole-none (Edit e) size rest q =
+whole-none (Whole e) size rest q =
     let l : e ∷ rest .entries ≡ [] = ap (λ (x : Fields). x .entries) q in
     let z : _≡_ {A = ℕ} 0 1 = cc in
     absurd (omega arith)
@@ -128,11 +147,11 @@ whole-none Wrong size rest q =
 whole-none Short size rest q = ap (λ (x : Fields). x .leftOver) q
 
 entries-more : (f : Field) (size : ℕ) (rest : Fields) (e : Entry) (es : List Entry) → fieldsBy f size rest .entries ≡ e ∷ es
-    → (f ≡ Edit e) × (rest .entries ≡ es)
+    → (f ≡ Whole e) × (rest .entries ≡ es)
 unfolding fieldsBy
-entries-more (Edit d) size rest e es q =
+entries-more (Whole d) size rest e es q =
     let h : d ≡ e = cc in
-    (ap Edit h, cc)
+    (ap Whole h, cc)
 entries-more Wrong size rest e es q = let z : _≡_ {A = ℕ} 0 1 = cc in absurd (omega arith)
 entries-more Short size rest e es q = let z : _≡_ {A = ℕ} 0 1 = cc in absurd (omega arith)
 
@@ -145,11 +164,11 @@ read-none bytes q = no-bytes bytes (whole-none (fieldOf bytes) (length bytes) (f
 
 -- bytes with an entry first: the field at the front is it, and the rest have the other entries
 module _ (bytes : List ℕ) (e : Entry) (es : List Entry) where
-  pub read-first : fields bytes .entries ≡ e ∷ es → (fieldOf bytes ≡ Edit e) × (fields (drop entrySize bytes) .entries ≡ es)
+  pub read-first : fields bytes .entries ≡ e ∷ es → (fieldOf bytes ≡ Whole e) × (fields (drop entrySize bytes) .entries ≡ es)
   read-first q =
       entries-more (fieldOf bytes) (length bytes) (fields (drop entrySize bytes)) e es (ap (λ (x : Fields). x .entries) (sym (fields-step bytes)) ∙ q)
 
-  read-more : fields bytes ≡ whole (e ∷ es) → (fieldOf bytes ≡ Edit e) × (fields (drop entrySize bytes) ≡ whole es)
+  read-more : fields bytes ≡ whole (e ∷ es) → (fieldOf bytes ≡ Whole e) × (fields (drop entrySize bytes) ≡ whole es)
   unfolding fieldsBy
   read-more q =
       let r = read-first (ap (λ (x : Fields). x .entries) q) in
@@ -164,6 +183,22 @@ fields-only [] bytes b q = read-none bytes q
 fields-only (e ∷ es) bytes b q =
     let r = read-more bytes e es q in
     entry-only bytes e b (r .0) ∙ ap (λ (l : List ℕ). entryBytes e ++ l) (fields-only es (drop entrySize bytes) (bytes-drop entrySize bytes b) (r .1))
+
+-- entries that are read have ranks that fit
+fit-by : (bytes : List ℕ) (f : Field) (rest : Fields) → fieldOf bytes ≡ f → RanksFit (rest .entries) → RanksFit (fieldsBy f (length bytes) rest .entries)
+unfolding fieldsBy
+fit-by bytes (Whole e) rest q h = (whole-field bytes e q .3, h)
+fit-by bytes Wrong rest q h = tt
+fit-by bytes Short rest q h = tt
+
+fit-in : (depth : ℕ) (bytes : List ℕ) → RanksFit (fieldsIn depth bytes .entries)
+unfolding fieldsIn fieldsBy
+fit-in zero bytes = tt
+fit-in (suc depth) bytes = fit-by bytes (fieldOf bytes) (fieldsIn depth (drop entrySize bytes)) refl (fit-in depth (drop entrySize bytes))
+
+pub fields-fit : (bytes : List ℕ) → RanksFit (fields bytes .entries)
+unfolding fields
+fields-fit bytes = fit-in (length bytes) bytes
 
 pub first-long : (bytes : List ℕ) → hasFirst bytes ≡ true → firstSize ≤ length bytes
 unfolding hasFirst
@@ -191,7 +226,7 @@ unfolding fieldsBy
 fields-more [] bytes more q = ap (λ (l : List ℕ). fields (l ++ more)) (read-none bytes q)
 fields-more (e ∷ es) bytes more q =
     let r = read-more bytes e es q in
-    let l = edit-field bytes e (r .0) .0 in
+    let l = whole-field bytes e (r .0) .0 in
     let f = field-same (bytes ++ more) bytes (omega (arith, length-append bytes more)) l (λ i h. List·getD-append bytes more 0 i (omega arith)) in
     fields-step (bytes ++ more)
     ∙ rw (f ∙ r .0, drop-append-le entrySize bytes more l) (ap (following (e ∷ [])) (fields-more es (drop entrySize bytes) more (r .1)))
@@ -209,16 +244,17 @@ bytes-two x xs h b = bytes-cons (x % 256) (x / 256 ∷ xs) (omega arith) (bytes-
 bytes-field : (tag size : ℕ) (value : List ℕ) → tag < 256 → size < 65536 → AreBytes value → AreBytes (tag ∷ (twoBytes size ++ value))
 bytes-field tag size value t s r = bytes-cons tag (twoBytes size ++ value) t (bytes-two size value s r)
 
-tag-byte : (k : Kind) → tagOf k < 256
-unfolding tagOf
-tag-byte Adding = omega arith
-tag-byte Striking = omega arith
+tag-byte : (e : Entry) → tagOf e < 256
+unfolding tagOf kindTag
+tag-byte (Clash Adding a b) = omega arith
+tag-byte (Clash Striking a b) = omega arith
+tag-byte (Rank b r) = omega arith
 
 bytes-entry : (e : Entry) (xs : List ℕ) → Below 65536 e → AreBytes xs → AreBytes (entryBytes e ++ xs)
 unfolding entryBytes fieldBytes twoBytes
 bytes-entry e xs h r =
-    bytes-field (tagOf (e .kind)) valueSize (twoBytes (e .a .0) ++ (twoBytes (e .b .0) ++ xs)) (tag-byte (e .kind)) (omega arith)
-    (bytes-two (e .a .0) (twoBytes (e .b .0) ++ xs) (h .0) (bytes-two (e .b .0) xs (h .1) r))
+    bytes-field (tagOf e) valueSize (twoBytes (firstIn e) ++ (twoBytes (secondIn e) ++ xs)) (tag-byte e) (omega arith)
+    (bytes-two (firstIn e) (twoBytes (secondIn e) ++ xs) (h .0) (bytes-two (secondIn e) xs (h .1) r))
 
 bytes-entries : (es : List Entry) → AllBelow 65536 es → AreBytes (entriesBytes es)
 unfolding entriesBytes
@@ -243,8 +279,8 @@ module _ (n : ℕ) (es : List Entry) where
   unfolding journalBytes
   journal-drop = first-drop n (entriesBytes es)
 
-  pub journal-fields : fields (drop firstSize (journalBytes n es)) ≡ whole es
-  journal-fields = ap fields journal-drop ∙ fields-written es
+  pub journal-fields : RanksFit es → fields (drop firstSize (journalBytes n es)) ≡ whole es
+  journal-fields f = ap fields journal-drop ∙ fields-written es f
 
   pub length-journal : length (journalBytes n es) ≡ firstSize + entrySize * length es
   unfolding journalBytes

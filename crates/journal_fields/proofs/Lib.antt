@@ -1,6 +1,7 @@
 -- Theorems: what to cite. The others: its proofs, and laws for the functions' proofs.
 pub mod Reading
 pub mod Forms
+pub mod Later
 pub mod Entries
 pub mod Bytes
 pub mod Numbers

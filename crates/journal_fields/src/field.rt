@@ -1,24 +1,21 @@
 // A journal's fields: a one-byte tag, a two-byte length and the value, low byte first.
 use rule::Bank;
+use rule::Entry;
 use rule::Kind;
+use rule::MOST_RANK;
 use text::put_text;
+ghost use mathlib.Core.List.{_++_};
 ghost use mathlib.Core.Path.{_≡_};
 ghost use Prim.Native.Nat.{_+_, _≤_, _<_};
 ghost use lib.ListN.{length};
 ghost use Rattle.text.specs.Places.{Wrote};
-ghost use Rattle.journal_fields.specs.Fields.{headSize, firstSize, entrySize, tagOf, kindOf, numberAt, hasFirst, firstBytes, entryBytes};
-ghost use Rattle.journal_fields.specs.Fields.{isEntryTag, isEntry, entryIn, fieldOf, fields, areWhole};
-
-// An edit as a journal has it.
-pub struct Entry {
-    pub kind: Kind,
-    pub a: Bank,
-    pub b: Bank,
-}
+ghost use Rattle.journal_fields.specs.Fields.{headSize, firstSize, entrySize, kindTag, kindOf, numberAt, hasFirst, twoBytes, fieldBytes};
+ghost use Rattle.journal_fields.specs.Fields.{firstBytes, entryBytes, isEntryTag, isEntry, entryOf, entryIn, rankFits, isRank, fieldOf, fields};
+ghost use Rattle.journal_fields.specs.Numbers.{laterNumber};
 
 // What stands at the front of the bytes after the first field.
 pub enum Field {
-    Edit(Entry),
+    Whole(Entry),
     Wrong,
     Short,
 }
@@ -30,11 +27,13 @@ const ADD_TAG: u8 = 0x2B;
 
 const STRIKE_TAG: u8 = 0x2D;
 
+const RANK_TAG: u8 = 0x4B;
+
 const FIRST_VALUE: u8 = 2;
 
 const ENTRY_VALUE: u8 = 4;
 
-// The bytes of a tag and a length, and the place of an entry's second bank.
+// The bytes of a tag and a length, and the place of an entry's second number.
 const HEAD_BYTES: usize = 3;
 
 const SECOND_PLACE: usize = 5;
@@ -74,9 +73,9 @@ pub fn has_first(bytes: &[u8]) -> bool
     number_at(bytes, 1) == wide_byte(FIRST_VALUE)
 }
 
-// The tag of an entry of this kind.
-fn tag_of(kind: Kind) -> u8
-    ensures { λ r. ⌜ r ≡ tagOf kind ⌝ }
+// The tag of an edit of this kind.
+fn kind_tag(kind: Kind) -> u8
+    ensures { λ r. ⌜ r ≡ kindTag kind ⌝ }
 {
     match kind {
         Kind::Adding => ADD_TAG,
@@ -84,7 +83,7 @@ fn tag_of(kind: Kind) -> u8
     }
 }
 
-// The kind of an entry that has this tag.
+// The kind of an edit that has this tag.
 fn kind_of(tag: u8) -> Kind
     ensures { λ r. ⌜ r ≡ kindOf tag ⌝ }
 {
@@ -101,7 +100,10 @@ fn is_entry_tag(tag: u8) -> bool
     if tag == ADD_TAG {
         return true;
     }
-    tag == STRIKE_TAG
+    if tag == STRIKE_TAG {
+        return true;
+    }
+    tag == RANK_TAG
 }
 
 // Whether a tag and a length are an entry's.
@@ -115,18 +117,33 @@ fn is_entry(bytes: &[u8]) -> bool
     number_at(bytes, 1) == wide_byte(ENTRY_VALUE)
 }
 
+// The entry of this tag and these two numbers.
+fn entry_of(tag: u8, x: u16, y: u16) -> Entry
+    ensures { λ r. ⌜ r ≡ entryOf tag x y ⌝ }
+{
+    if tag == RANK_TAG {
+        return Entry::Rank(Bank(x), y);
+    }
+    Entry::Clash(kind_of(tag), Bank(x), Bank(y))
+}
+
 // The entry of a whole field.
 fn entry_in(bytes: &[u8]) -> Entry
     requires { ⌜ entrySize ≤ length (now bytes) ⌝ }
     ensures { λ r. ⌜ r ≡ entryIn (now (bytes .entry)) ⌝ }
 {
-    let kind = kind_of(bytes[0]);
-    let a = number_at(bytes, HEAD_BYTES);
-    let b = number_at(bytes, SECOND_PLACE);
-    Entry {
-        kind: kind,
-        a: Bank(a),
-        b: Bank(b),
+    let x = number_at(bytes, HEAD_BYTES);
+    let y = number_at(bytes, SECOND_PLACE);
+    entry_of(bytes[0], x, y)
+}
+
+// Whether an entry's rank, if it sets one, is within bounds.
+fn rank_fits(entry: Entry) -> bool
+    ensures { λ r. ⌜ r ≡ rankFits entry ⌝ }
+{
+    match entry {
+        Entry::Clash(_, _, _) => true,
+        Entry::Rank(_, rank) => rank <= MOST_RANK,
     }
 }
 
@@ -143,21 +160,42 @@ pub fn read_field(bytes: &[u8]) -> Field
     if bytes.len() < ENTRY_BYTES {
         return Field::Short;
     }
-    Field::Edit(entry_in(bytes))
+    let entry = entry_in(bytes);
+    if !rank_fits(entry) {
+        return Field::Wrong;
+    }
+    Field::Whole(entry)
 }
 
-// Whether the bytes after the first field are entries' fields, with nothing left over.
-pub fn whole_fields(bytes: &[u8]) -> bool
-    ensures { λ r. ⌜ r ≡ areWhole (fields (now (bytes .entry))) ⌝ }
+// Whether an entry sets a rank.
+fn is_rank(entry: Entry) -> bool
+    ensures { λ r. ⌜ r ≡ isRank entry ⌝ }
+{
+    match entry {
+        Entry::Clash(_, _, _) => false,
+        Entry::Rank(_, _) => true,
+    }
+}
+
+// Whether the bytes after the first field are entries' fields, no rank after an edit and nothing left over: 0, or the number of the first no.
+pub fn fields_number(bytes: &[u8]) -> u16
+    ensures { λ r. ⌜ r ≡ laterNumber (fields (now (bytes .entry))) ⌝ }
 {
     let mut at = 0;
+    let mut begun = false;
     while at < bytes.len() {
-        let Field::Edit(_) = read_field(&bytes[at..]) else {
-            return false;
+        let Field::Whole(entry) = read_field(&bytes[at..]) else {
+            return 14;
         };
+        let rank = is_rank(entry);
+        if begun && rank {
+            return 18;
+        }
+        // No rank after an edit: from here on one has come if this is one.
+        begun = !rank;
         at += ENTRY_BYTES;
     }
-    true
+    0
 }
 
 // Writes the first field of n banks to the front, and answers the place after it.
@@ -169,23 +207,30 @@ pub fn put_first(journal: &mut [u8], n: u16) -> usize
     put_text(journal, 0, &bytes)
 }
 
+// Writes a field of this tag and two numbers at `at`, and answers the place after it.
+fn put_numbers(journal: &mut [u8], at: usize, tag: u8, x: u16, y: u16) -> usize
+    requires { ⌜ at + entrySize ≤ length (now journal) ⌝ }
+    ensures { λ r. ⌜ Wrote (fieldBytes tag (twoBytes x ++ twoBytes y)) at journal r ⌝ }
+{
+    let bytes = [
+        tag,
+        ENTRY_VALUE,
+        0,
+        (x % 256) as u8,
+        (x / 256) as u8,
+        (y % 256) as u8,
+        (y / 256) as u8,
+    ];
+    put_text(journal, at, &bytes)
+}
+
 // Writes an entry's field at `at`, and answers the place after it.
 pub fn put_entry(journal: &mut [u8], at: usize, entry: Entry) -> usize
     requires { ⌜ at + entrySize ≤ length (now journal) ⌝ }
     ensures { λ r. ⌜ Wrote (entryBytes entry) at journal r ⌝ }
 {
-    let kind = entry.kind;
-    let tag = tag_of(kind);
-    let a = entry.a;
-    let b = entry.b;
-    let bytes = [
-        tag,
-        ENTRY_VALUE,
-        0,
-        (a.0 % 256) as u8,
-        (a.0 / 256) as u8,
-        (b.0 % 256) as u8,
-        (b.0 / 256) as u8,
-    ];
-    put_text(journal, at, &bytes)
+    match entry {
+        Entry::Clash(kind, a, b) => put_numbers(journal, at, kind_tag(kind), a.0, b.0),
+        Entry::Rank(bank, rank) => put_numbers(journal, at, RANK_TAG, bank.0, rank),
+    }
 }

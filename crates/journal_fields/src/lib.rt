@@ -3,13 +3,12 @@ mod field;
 mod space;
 
 pub use field::ENTRY_BYTES;
-pub use field::Entry;
 pub use field::FIRST_BYTES;
 pub use field::Field;
+pub use field::fields_number;
 pub use field::number_at;
 pub use field::put_entry;
 pub use field::put_first;
 pub use field::read_field;
-pub use field::whole_fields;
 pub use space::head_number;
 pub use space::space_number;

@@ -13,7 +13,7 @@ use Rattle.planner.specs.declared.Opened.{Opened}
 use Rattle.planner.specs.Questions.{firstNo}
 use Rattle.memory.specs.Memory.{Memory, Ready}
 use Rattle.planner.specs.States.{begin, beginNumber}
-use Rattle.planner.specs.inner.Held.{at, OpensAll}
+use Rattle.planner.specs.inner.Held.{at, Fresh, OpensAll}
 use Rattle.journal_fields.specs.Fields.{headSize, firstSize, numberAt, hasFirst, banksIn, fields}
 use Rattle.journal_fields.specs.Numbers.{headNumber}
 use Rattle.journal_fields.proofs.Numbers.{size-few, size-first}
@@ -69,12 +69,13 @@ module _ (bytes : List ℕ) where
       pub open-refused : (r .number ≡ 0 → ⊥) → replayResult (refusedFirst (r .number)) m′ ≡ replayed bytes m
       open-refused z = ap (replayResult (refusedFirst (r .number))) (o .refused z) ∙ refused-by (r .number) z number-opened
 
-      pub open-replayed : r .number ≡ 0 → (x : ReplayResult) → ((G : Graph) → Ready G m′ → x ≡ enterFields 2 (fields (drop firstSize bytes)) (at G m′)) → x ≡ replayed bytes m
-      unfolding replayed
+      pub open-replayed : r .number ≡ 0 → (x : ReplayResult) → ((G : Graph) → Ready G m′ → Fresh false G → x ≡ enterFields 2 (fields (drop firstSize bytes)) (at false G m′))
+          → x ≡ replayed bytes m
+      unfolding replayed begin
       open-replayed z x f =
           let s = o .opened z in
-          f (begin n m .graph) (s .ready)
-          ∙ ap (λ (y : Memory). enterFields 2 (fields (drop firstSize bytes)) (at (begin n m .graph) y)) (s .memory)
+          f (begin n m .graph) (s .ready) (s .fresh)
+          ∙ ap (λ (y : Memory). enterFields 2 (fields (drop firstSize bytes)) (at false (begin n m .graph) y)) (s .memory)
           ∙ ap (λ (k : ℕ). enterFields 2 (fields (drop firstSize bytes)) (begin k m)) e
           ∙ by-none (replayNumber bytes m) (sym number-opened ∙ z)
 
@@ -82,3 +83,8 @@ module _ (bytes : List ℕ) where
 pub banks-read : (bytes : List ℕ) (n : ℕ) → n ≡ numberAt headSize bytes → n ≡ banksIn bytes
 unfolding banksIn
 banks-read bytes n e = e
+
+-- no clash has come before the first edit
+pub begin-fresh : (n : ℕ) (m : Memory) → Fresh (begin n m .begun) (begin n m .graph) → Fresh false (begin n m .graph)
+unfolding begin
+begin-fresh n m f = f

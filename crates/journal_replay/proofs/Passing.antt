@@ -1,5 +1,5 @@
 -- The replay of fields, as the functions make it.
-use mathlib.Core.Bool.{true}
+use mathlib.Core.Bool.{Bool, true, false}
 use mathlib.Core.List.{List, [], _∷_}
 use mathlib.Core.Logic.{⊎-elim}
 use mathlib.Core.Path.{_≡_, refl, sym, ap, _∙_}
@@ -9,49 +9,72 @@ use types.Run.{OneOf}
 use denote.Enum.Declared.{tagOf as variant}
 use lib.ListN.{length, take, drop, length-drop}
 use lib.Seq.{take-all, drop-drop, length-take-le}
+use borrow.Author.Tests.{leb-true}
 use Rattle.rule.specs.Graph.{Graph}
+use Rattle.rule.specs.declared.Entry.{Entry}
+use Rattle.rule.specs.declared.Entry.the-variants.{Clash, Rank}
 use Rattle.memory.specs.Memory.{Memory, Ready}
 use Rattle.planner.specs.declared.Edited.{Edited}
-use Rattle.planner.specs.States.{State}
-use Rattle.planner.specs.inner.Held.{EditMade, at, tried}
-use Rattle.planner.proofs.Made.{edit-made}
-use Rattle.journal_fields.specs.declared.field.Entry.{Entry}
+use Rattle.planner.specs.States.{State, make, setRank, begunBy, entryNumber, enter}
+use Rattle.planner.specs.inner.Held.{at, Fresh, HoldsState, tried, Stands, RankFits, EntryDone, Enters}
 use Rattle.journal_fields.specs.declared.field.Field.{Field}
-use Rattle.journal_fields.specs.declared.field.Field.the-variants.{Edit, Wrong, Short}
+use Rattle.journal_fields.specs.declared.field.Field.the-variants.{Whole, Wrong, Short}
 use Rattle.journal_replay.specs.declared.rerun.Replayed.{Replayed}
 use Rattle.journal_replay.specs.declared.rerun.Entered.{Entered}
-use Rattle.journal_fields.specs.Fields.{entrySize, Fields, fieldOf, fieldsBy, fields}
-use Rattle.journal_replay.specs.Replay.{ReplayResult, replayResult, replayAnswer, entryNumber, enter, ended, enterBy, enterAll}
+use Rattle.journal_fields.specs.Fields.{entrySize, rankFits, Fields, fieldOf, fieldsBy, fields}
+use Rattle.journal_replay.specs.Replay.{ReplayResult, replayResult, replayAnswer, ended, enterBy, enterAll}
 use Rattle.journal_replay.specs.inner.Steps.{fieldNumber, fieldStep, FieldDone, EntersField, enterFields, lastBy, ending}
 use Rattle.journal_fields.proofs.field.Field.{the-type}
 use Rattle.journal_fields.proofs.Reading.{fields-step}
-use Rattle.journal_fields.proofs.Forms.{edit-long, short-short}
+use Rattle.journal_fields.proofs.Forms.{whole-long, short-short}
+use Rattle.journal_fields.proofs.Bytes.{whole-field}
+
+-- an entry, once it has come
+pub enter-begun : (e : Entry) (s : State) → begunBy e (s .begun) ≡ enter e s .begun
+unfolding enter begunBy make setRank
+enter-begun (Clash k a b) s = refl
+enter-begun (Rank b r) s = refl
+
+-- a rank that is read fits
+pub read-fits : (journal : List ℕ) (start : ℕ) (f : Field) → f ≡ fieldOf (take (length journal - start) (drop start journal)) → (e : Entry) → f ≡ Whole e → RankFits e
+read-fits journal start f read e q = by e (whole-field _ e (sym read ∙ q) .3)
+  where
+    by : (e : Entry) → rankFits e ≡ true → RankFits e
+    by (Clash k a b) h = tt
+    by (Rank b r) h = leb-true r 9999 (unfold rankFits in h)
 
 -- a field that is no entry
-field-other : (f : Field) (G : Graph) (m : Memory) → Ready G m → OneOf (1 ∷ 2 ∷ []) (variant the-type f) → FieldDone f G m 14 m
+field-other : (f : Field) (s : State) (m : Memory) (begun : Bool) → Stands s m → OneOf (1 ∷ 2 ∷ []) (variant the-type f) → FieldDone f s 14 begun m
 unfolding fieldNumber fieldStep tried
-field-other (Edit e) G m h k = absurd (⊎-elim (λ q. omega arith) (λ q. omega arith) k)
-field-other Wrong G m h k = record { is = refl; stands = record { memory = refl; ready = h } }
-field-other Short G m h k = record { is = refl; stands = record { memory = refl; ready = h } }
+field-other (Whole e) s m begun h k = absurd (⊎-elim (λ q. omega arith) (λ q. omega arith) k)
+field-other Wrong s m begun h k = record { is = refl; stands = h; begun-is = λ z. absurd (omega arith) }
+field-other Short s m begun h k = record { is = refl; stands = h; begun-is = λ z. absurd (omega arith) }
 
--- a field that is one: its edit is made
-field-edit : (e : Entry) (G : Graph) (m : Memory) (r : Edited) (m′ : Memory) → EditMade (e .kind) G (e .a .0) (e .b .0) m r m′
-    → FieldDone (Edit e) G m (r .answer .number) m′
-unfolding fieldNumber fieldStep entryNumber enter
-field-edit e G m r m′ d = let x = edit-made (e .kind) G (e .a .0) (e .b .0) m r m′ d in record { is = x .0; stands = x .1 }
+-- a field that is one: its entry is entered
+field-entry : (e : Entry) (s : State) (number : ℕ) (m′ : Memory) → EntryDone e s number m′ → FieldDone (Whole e) s number (begunBy e (s .begun)) m′
+unfolding fieldNumber fieldStep
+field-entry e s number m′ d = record { is = d .is; stands = d .stands; begun-is = λ z. enter-begun e s }
 
 -- the field from `start` on, as a part of the journal
-module _ (journal : List ℕ) (start : ℕ) (f : Field) (read : f ≡ fieldOf (take (length journal - start) (drop start journal))) (i : ℕ) (m : Memory)
+module _ (journal : List ℕ) (start : ℕ) (f : Field) (read : f ≡ fieldOf (take (length journal - start) (drop start journal))) (i : ℕ) (begun : Bool) (m : Memory)
     (r : Entered) (field : r .field ≡ i) (next : r .next ≡ start + entrySize) where
   here : f ≡ fieldOf (drop start journal)
   here = read ∙ ap fieldOf (take-all (length journal - start) (drop start journal) (omega (arith, length-drop start journal)))
 
-  pub enters-none : OneOf (1 ∷ 2 ∷ []) (variant the-type f) → r .number ≡ 14 → EntersField journal start i m r m
-  enters-none k z = record { field = field; next = next; of = λ G h. rw (z, ← here) (field-other f G m h k) }
+  pub enters-none : OneOf (1 ∷ 2 ∷ []) (variant the-type f) → r .number ≡ 14 → EntersField journal start i begun m r m
+  enters-none k z = record {
+    field = field;
+    next = next;
+    of = λ G h fresh. rw (z, ← here) (field-other f (at begun G m) m (r .begun) (record { memory = refl; ready = h; fresh = fresh }) k);
+  }
 
-  pub enters-one : (e : Entry) → f ≡ Edit e → (a : Edited) (m′ : Memory) → ((G : Graph) → Ready G m → EditMade (e .kind) G (e .a .0) (e .b .0) m a m′)
-      → r .number ≡ a .answer .number → EntersField journal start i m r m′
-  enters-one e q a m′ d z = record { field = field; next = next; of = λ G h. rw (z, ← here, q) (field-edit e G m a m′ (d G h)) }
+  pub enters-one : (e : Entry) → f ≡ Whole e → (a : Edited) (m′ : Memory) → Enters begun e m a m′
+      → r .number ≡ a .answer .number → r .begun ≡ begunBy e begun → EntersField journal start i begun m r m′
+  enters-one e q a m′ d z b = record {
+    field = field;
+    next = next;
+    of = λ G h fresh. rw (z, b, ← here, q) (field-entry e (at begun G m) (a .answer .number) m′ (d .of G h fresh));
+  }
 
 -- what is ahead after field i, whose number is n
 unfoldable pub going : ℕ → ℕ → List ℕ → State → ReplayResult
@@ -69,21 +92,21 @@ unfolding ended going tried
 by-wrong i s bytes = refl
 
 by-field : (f : Field) (i : ℕ) (s : State) (bytes rest : List ℕ) → f ≡ fieldOf bytes → entrySize ≤ length bytes
-    → enterFields i (fieldsBy f (length bytes) (fields rest)) s ≡ going (fieldNumber f (s .graph)) i rest (tried (fieldNumber f (s .graph)) (fieldStep f s) s)
+    → enterFields i (fieldsBy f (length bytes) (fields rest)) s ≡ going (fieldNumber f s) i rest (tried (fieldNumber f s) (fieldStep f s) s)
 unfolding enterFields fieldsBy fieldNumber fieldStep enterAll
-by-field (Edit e) i s bytes rest q l = by-number (entryNumber e (s .graph)) i s (enter e s) rest
+by-field (Whole e) i s bytes rest q l = by-number (entryNumber e s) i s (enter e s) rest
 by-field Wrong i s bytes rest q l = by-wrong i s rest
 by-field Short i s bytes rest q l = absurd (omega (arith, short-short bytes q))
 
 field-step : (i : ℕ) (bytes : List ℕ) (s : State) → entrySize ≤ length bytes
-    → enterFields i (fields bytes) s ≡ going (fieldNumber (fieldOf bytes) (s .graph)) i (drop entrySize bytes) (tried (fieldNumber (fieldOf bytes) (s .graph)) (fieldStep (fieldOf bytes) s) s)
+    → enterFields i (fields bytes) s ≡ going (fieldNumber (fieldOf bytes) s) i (drop entrySize bytes) (tried (fieldNumber (fieldOf bytes) s) (fieldStep (fieldOf bytes) s) s)
 field-step i bytes s l = ap (λ (f : Fields). enterFields i f s) (fields-step bytes) ∙ by-field (fieldOf bytes) i s bytes (drop entrySize bytes) refl l
 
 -- fewer bytes are left
 by-last : (f : Field) (i : ℕ) (bytes : List ℕ) (rest : Fields) (s : State) → f ≡ fieldOf bytes → length bytes < entrySize
     → enterFields (suc i) (fieldsBy f (length bytes) rest) s ≡ replayResult (lastBy f (length bytes) i) (s .memory)
 unfolding enterFields fieldsBy lastBy enterAll ended
-by-last (Edit e) i bytes rest s q l = absurd (omega (arith, edit-long bytes e q))
+by-last (Whole e) i bytes rest s q l = absurd (omega (arith, whole-long bytes e q))
 by-last Wrong i bytes rest s q l = let e : suc i ≡ i + 1 = omega arith in ap (λ (k : ℕ). replayResult (replayAnswer 14 k 0) (s .memory)) e
 by-last Short i bytes rest s q l = refl
 
@@ -98,47 +121,71 @@ going-on n i bytes s z = rw z
 
 -- where a replay stands after a field
 pub record Ahead (journal : List ℕ) (first : ℕ) (G : Graph) (m : Memory) (r : Entered) (m′ : Memory) : Type 0 where
-  pub graph : Graph
-  pub ready : Ready graph m′
-  pub ahead : enterFields 2 (fields (drop first journal)) (at G m) ≡ going (r .number) (r .field) (drop (r .next) journal) (at graph m′)
+  pub state : State
+  pub stands : Stands state m′
+  pub begun-is : r .number ≡ 0 → r .begun ≡ state .begun
+  pub ahead : enterFields 2 (fields (drop first journal)) (at false G m) ≡ going (r .number) (r .field) (drop (r .next) journal) state
+
+-- a field not refused leads to the state in which the next one starts
+next-begun : (n : ℕ) (begun : Bool) (new old : State) → (n ≡ 0 → begun ≡ new .begun) → n ≡ 0 → begun ≡ tried n new old .begun
+unfolding tried
+next-begun zero begun new old b z = b z
+next-begun (suc c) begun new old b z = absurd (omega arith)
 
 module _ (journal : List ℕ) (first : ℕ) (G : Graph) (m : Memory) where
-  pub ahead-start : Ready G m → (r : Entered) → r .number ≡ 0 → r .field ≡ 1 → r .next ≡ first → Ahead journal first G m r m
+  pub ahead-start : Ready G m → Fresh false G → (r : Entered) → r .number ≡ 0 → r .field ≡ 1 → r .begun ≡ false → r .next ≡ first → Ahead journal first G m r m
   unfolding going
-  ahead-start h r z i n = record { graph = G; ready = h; ahead = rw (z, i, n) }
+  ahead-start h f r z i b n = record {
+    state = at false G m;
+    stands = record { memory = refl; ready = h; fresh = f };
+    begun-is = λ q. b;
+    ahead = rw (z, i, n);
+  }
 
-  pub ahead-turn : (r : Entered) (m′ : Memory) (w : Ahead journal first G m r m′) → r .number ≡ 0 → entrySize ≤ length journal - r .next
-      → (r′ : Entered) (m″ : Memory) → EntersField journal (r .next) (r .field + 1) m′ r′ m″ → Ahead journal first G m r′ m″
-  ahead-turn r m′ w z l r′ m″ d =
-      let H : Graph = w .graph in
-      let s : State = at H m′ in
-      let b : List ℕ = drop (r .next) journal in
-      let f : Field = fieldOf b in
-      let t : State = tried (fieldNumber f H) (fieldStep f s) s in
-      let done = d .of H (w .ready) in
-      let rest : List ℕ = drop (r′ .next) journal in
-      let up : r′ .field ≡ suc (r .field) = omega (arith, d .field) in
-      let on : drop entrySize b ≡ rest = drop-drop entrySize (r .next) journal ∙ ap (λ (k : ℕ). drop k journal) (sym (d .next)) in
-      record {
-        graph = t .graph;
-        ready = done .stands .ready;
-        ahead =
-            w .ahead
-            ∙ going-on (r .number) (r .field) b s z
-            ∙ field-step (suc (r .field)) b s (omega (arith, length-drop (r .next) journal))
-            ∙ ap (λ (x : List ℕ). going (fieldNumber f H) (suc (r .field)) x t) on
-            ∙ ap (λ (x : ℕ). going x (suc (r .field)) rest t) (sym (done .is))
-            ∙ ap (λ (x : ℕ). going (r′ .number) x rest t) (sym up)
-            ∙ ap (λ (x : Memory). going (r′ .number) (r′ .field) rest (at (t .graph) x)) (sym (done .stands .memory));
-      }
+  module _ (r : Entered) (m′ : Memory) (w : Ahead journal first G m r m′) (z : r .number ≡ 0) where
+    fresh-now : Fresh (r .begun) (w .state .graph)
+    fresh-now = rw (w .begun-is z) (w .stands .fresh)
+
+    -- memory holds a plan, at this point
+    pub ahead-holds : HoldsState (r .begun) m′
+    ahead-holds = (w .state .graph, w .stands .ready, fresh-now)
+
+    now-at : w .state ≡ at (r .begun) (w .state .graph) m′
+    now-at i = at (sym (w .begun-is z) i) (w .state .graph) (sym (w .stands .memory) i)
+
+    pub ahead-turn : entrySize ≤ length journal - r .next
+        → (r′ : Entered) (m″ : Memory) → EntersField journal (r .next) (r .field + 1) (r .begun) m′ r′ m″ → Ahead journal first G m r′ m″
+    ahead-turn l r′ m″ d =
+        let s : State = at (r .begun) (w .state .graph) m′ in
+        let b : List ℕ = drop (r .next) journal in
+        let f : Field = fieldOf b in
+        let t : State = tried (fieldNumber f s) (fieldStep f s) s in
+        let done = d .of (w .state .graph) (w .stands .ready) fresh-now in
+        let rest : List ℕ = drop (r′ .next) journal in
+        let up : r′ .field ≡ suc (r .field) = omega (arith, d .field) in
+        let on : drop entrySize b ≡ rest = drop-drop entrySize (r .next) journal ∙ ap (λ (k : ℕ). drop k journal) (sym (d .next)) in
+        record {
+          state = t;
+          stands = done .stands;
+          begun-is = λ q. next-begun (fieldNumber f s) (r′ .begun) (fieldStep f s) s (λ y. done .begun-is (done .is ∙ y)) (sym (done .is) ∙ q);
+          ahead =
+              w .ahead
+              ∙ going-on (r .number) (r .field) b (w .state) z
+              ∙ ap (enterFields (suc (r .field)) (fields b)) now-at
+              ∙ field-step (suc (r .field)) b s (omega (arith, length-drop (r .next) journal))
+              ∙ ap (λ (x : List ℕ). going (fieldNumber f s) (suc (r .field)) x t) on
+              ∙ ap (λ (x : ℕ). going x (suc (r .field)) rest t) (sym (done .is))
+              ∙ ap (λ (x : ℕ). going (r′ .number) x rest t) (sym up);
+        }
 
   pub ahead-end : (r : Entered) (m′ : Memory) → Ahead journal first G m r m′ → (r .number ≡ 0 → length journal - r .next < entrySize) → (a : Replayed)
       → a ≡ ending (r .number) (r .field) (take (length journal - r .next) (drop (r .next) journal))
-      → replayResult a m′ ≡ enterFields 2 (fields (drop first journal)) (at G m)
+      → replayResult a m′ ≡ enterFields 2 (fields (drop first journal)) (at false G m)
   ahead-end r m′ w e a q =
       let rest = take-all (length journal - r .next) (drop (r .next) journal) (omega (arith, length-drop (r .next) journal)) in
       ap (λ (x : Replayed). replayResult x m′) (q ∙ ap (ending (r .number) (r .field)) rest)
-      ∙ sym (w .ahead ∙ going-end (r .number) (r .field) (drop (r .next) journal) (at (w .graph) m′)
+      ∙ ap (replayResult (ending (r .number) (r .field) (drop (r .next) journal))) (w .stands .memory)
+      ∙ sym (w .ahead ∙ going-end (r .number) (r .field) (drop (r .next) journal) (w .state)
       (λ z. let h : length journal - r .next < entrySize = e z in omega (arith, h, length-drop (r .next) journal)))
 
 -- the answer, by the number of the last whole field
@@ -158,7 +205,7 @@ module _ (n i : ℕ) (bytes : List ℕ) (f : Field) (z : n ≡ 0) (q : f ≡ fie
 
   last-other : (g : Field) → OneOf (0 ∷ 2 ∷ []) (variant the-type g) → replayAnswer 0 0 (length bytes) ≡ lastBy g (length bytes) i
   unfolding lastBy
-  last-other (Edit e) k = refl
+  last-other (Whole e) k = refl
   last-other Wrong k = absurd (⊎-elim (λ q. omega arith) (λ q. omega arith) k)
   last-other Short k = refl
 

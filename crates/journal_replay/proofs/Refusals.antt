@@ -9,15 +9,15 @@ use lib.ListN.{length, take, drop, length-take}
 use lib.Seq.{getD-take}
 use Rattle.memory.specs.Plan.{PlanOf}
 use Rattle.memory.specs.Memory.{Memory}
-use Rattle.planner.specs.States.{State, begin, beginNumber}
-use Rattle.journal_fields.specs.declared.field.Entry.{Entry}
+use Rattle.rule.specs.declared.Entry.{Entry}
+use Rattle.planner.specs.States.{State, entryNumber, enter, begin, beginNumber}
 use Rattle.journal_fields.specs.Fields.{firstSize, entrySize, banksIn, fieldsBy, fields}
-use Rattle.journal_replay.specs.Replay.{ReplayResult, replayResult, replayAnswer, entryNumber, enter, ended, enterBy, enterAll}
+use Rattle.journal_replay.specs.Replay.{ReplayResult, replayResult, replayAnswer, ended, enterBy, enterAll}
 use Rattle.journal_replay.specs.Replay.{replayNumber, replayBy, replayed}
 use Rattle.journal_fields.proofs.Reading.{drop-take, fields-step}
-use Rattle.journal_fields.proofs.Forms.{edit-long}
-use Rattle.journal_fields.proofs.Entries.{whole, following, fields-none}
-use Rattle.journal_fields.proofs.Bytes.{first-long, first-same, field-same, read-first}
+use Rattle.journal_fields.proofs.Forms.{whole-long}
+use Rattle.journal_fields.proofs.Entries.{whole, following, fields-none, fit-take}
+use Rattle.journal_fields.proofs.Bytes.{fields-fit, first-long, first-same, field-same, read-first}
 use Rattle.journal_replay.specs.Ends.{afterFirst, RefusedLater}
 use Rattle.journal_replay.proofs.Replaying.{replayFrom, Reads, number-is, replay-is, opened-reads}
 use Rattle.journal_replay.proofs.Holds.{enter-holds, opened-holds}
@@ -29,7 +29,7 @@ fields-front zero bytes es q h = fields-none
 fields-front (suc i) bytes [] q h = absurd (omega arith)
 fields-front (suc i) bytes (e ∷ es) q h =
     let r = read-first bytes e es q in
-    let l = edit-long bytes e (sym (r .0)) in
+    let l = whole-long bytes e (sym (r .0)) in
     let j : entrySize * suc i ≡ entrySize + entrySize * i = omega arith in
     let front : List ℕ = take (entrySize + entrySize * i) bytes in
     let n : entrySize ≤ length front = omega (arith, length-take (entrySize + entrySize * i) bytes) in
@@ -43,7 +43,7 @@ abbrev Before : ℕ → List Entry → State → ReplayResult → Type 0
 Before i es s r = (k : ℕ) × (k ≤ length es) × (r .answer .field ≡ i + k) × (enterAll i (take k es) false 0 s ≡ replayResult (replayAnswer 0 0 0) (r .memory))
 
 module _ (wrong : Bool) (leftOver : ℕ) where
-  by-before : (c i : ℕ) (e : Entry) (es : List Entry) (s : State) → entryNumber e (s .graph) ≡ c
+  by-before : (c i : ℕ) (e : Entry) (es : List Entry) (s : State) → entryNumber e s ≡ c
       → ((enterAll (suc i) es wrong leftOver (enter e s) .answer .number ≡ 0 → ⊥) → Before (suc i) es (enter e s) (enterAll (suc i) es wrong leftOver (enter e s)))
       → (enterBy c i s (enterAll (suc i) es wrong leftOver (enter e s)) .answer .number ≡ 0 → ⊥)
       → Before i (e ∷ es) s (enterBy c i s (enterAll (suc i) es wrong leftOver (enter e s)))
@@ -59,7 +59,7 @@ module _ (wrong : Bool) (leftOver : ℕ) where
   enter-before : (i : ℕ) (es : List Entry) (s : State) → (enterAll i es wrong leftOver s .answer .number ≡ 0 → ⊥) → Before i es s (enterAll i es wrong leftOver s)
   unfolding enterAll
   enter-before i [] s z = end-before wrong i s z
-  enter-before i (e ∷ es) s z = by-before (entryNumber e (s .graph)) i e es s refl (enter-before (suc i) es (enter e s)) z
+  enter-before i (e ∷ es) s z = by-before (entryNumber e s) i e es s refl (enter-before (suc i) es (enter e s)) z
 
 abbrev memoryIn : ReplayResult → Memory
 memoryIn r = r .memory
@@ -99,7 +99,8 @@ module _ (bytes : List ℕ) (m : Memory) where
       let q = replay-is r m ∙ ap (λ (c : ℕ). replayFrom c n f m) b in
       let w = enter-before (f .wrong) (f .leftOver) 2 (f .entries) (begin n m) (rw q at z) in
       let k = w .0 in
-      let before = enter-holds 2 (take k (f .entries)) false 0 (begin n m) (opened-holds bytes m o) (ap (λ (x : ReplayResult). x .answer .number) (w .3)) in
+      let before = enter-holds 2 (take k (f .entries)) false 0 (begin n m) (opened-holds bytes m o) (fit-take k (f .entries) (fields-fit (drop firstSize bytes)))
+      (ap (λ (x : ReplayResult). x .answer .number) (w .3)) in
       let q′ = replay-is (front-reads r k (w .1)) m ∙ ap (λ (c : ℕ). replayFrom c n (whole (take k (f .entries))) m) b in
       record {
         made = k;

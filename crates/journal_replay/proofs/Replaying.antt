@@ -10,14 +10,15 @@ use lib.Seq.{take-append-add, length-take-le}
 use borrow.Author.Tests.{le-leb, leb-true}
 use Rattle.planner.specs.Questions.{firstNo}
 use Rattle.memory.specs.Memory.{Memory}
-use Rattle.planner.specs.States.{State, begin, beginNumber}
+use Rattle.rule.specs.declared.Entry.{Entry}
+use Rattle.planner.specs.States.{State, entryNumber, enter, begin, beginNumber}
 use Rattle.planner.proofs.Numbers.{none}
-use Rattle.journal_fields.specs.declared.field.Entry.{Entry}
 use Rattle.journal_fields.specs.Fields.{firstSize, entrySize, twoBytes, fieldBytes, firstBytes, entriesBytes, journalBytes, hasFirst, banksIn, Fields, fields}
-use Rattle.journal_replay.specs.Replay.{ReplayResult, replayResult, replayAnswer, entryNumber, enter, ended, enterBy, enterAll}
+use Rattle.journal_replay.specs.Replay.{ReplayResult, replayResult, replayAnswer, ended, enterBy, enterAll}
 use Rattle.journal_replay.specs.Replay.{replayNumber, replayBy, replayed}
+use Rattle.journal_fields.specs.Bounds.{RanksFit}
 use Rattle.journal_replay.specs.Ends.{SameButLeftOver}
-use Rattle.journal_fields.proofs.Entries.{length-entries, whole, fields-cut}
+use Rattle.journal_fields.proofs.Entries.{length-entries, whole, fields-cut, fit-take}
 use Rattle.journal_fields.proofs.Bytes.{first-has, first-banks, first-drop, length-first, journal-has, journal-banks, journal-fields, length-journal}
 
 -- after the first field: by questions 3 and 4, the refusal, or the entries in turn
@@ -55,8 +56,8 @@ opened-reads bytes m z =
     record { within = leb-true (length bytes) 60000 (p .0); first = q .0; banks = refl; fields-are = refl }
 
 -- a journal that was written
-pub journal-reads : (n : ℕ) (es : List Entry) → length (journalBytes n es) ≤ 60000 → Reads (journalBytes n es) n (whole es)
-journal-reads n es h = record { within = h; first = journal-has n es; banks = journal-banks n es; fields-are = journal-fields n es }
+pub journal-reads : (n : ℕ) (es : List Entry) → RanksFit es → length (journalBytes n es) ≤ 60000 → Reads (journalBytes n es) n (whole es)
+journal-reads n es f h = record { within = h; first = journal-has n es; banks = journal-banks n es; fields-are = journal-fields n es f }
 
 -- two replays of which one has bytes left over
 by-more : (c i : ℕ) (s : State) (cut uncut : ReplayResult) (more : ℕ) → SameButLeftOver cut uncut more
@@ -69,7 +70,7 @@ by-more (suc c) i s cut uncut more h =
 enter-more : (i : ℕ) (es : List Entry) (more : ℕ) (s : State) → SameButLeftOver (enterAll i es false more s) (enterAll i es false 0 s) more
 unfolding enterAll ended
 enter-more i [] more s = record { number = refl; field = refl; memory = refl; left-over = λ z. refl; refused = λ n. absurd (n refl) }
-enter-more i (e ∷ es) more s = by-more (entryNumber e (s .graph)) i s _ _ more (enter-more (suc i) es more (enter e s))
+enter-more i (e ∷ es) more s = by-more (entryNumber e s) i s _ _ more (enter-more (suc i) es more (enter e s))
 
 from-more : (c n : ℕ) (es : List Entry) (more : ℕ) (m : Memory)
     → SameButLeftOver (replayFrom c n (record { entries = es; wrong = false; leftOver = more }) m) (replayFrom c n (whole es) m) more
@@ -79,7 +80,7 @@ from-more (suc c) n es more m =
     record { number = refl; field = refl; memory = refl; left-over = λ z. absurd (omega arith); refused = λ n. refl }
 
 -- a journal cut at byte i after its first field
-module _ (n : ℕ) (es : List Entry) (i : ℕ) (few : i ≤ entrySize * length es) (within : firstSize + i ≤ 60000) where
+module _ (n : ℕ) (es : List Entry) (i : ℕ) (fit : RanksFit es) (few : i ≤ entrySize * length es) (within : firstSize + i ≤ 60000) where
   cut-bytes : take (firstSize + i) (journalBytes n es) ≡ firstBytes n ++ take i (entriesBytes es)
   unfolding journalBytes firstBytes fieldBytes twoBytes
   cut-bytes = take-append-add (firstBytes n) (entriesBytes es) i
@@ -91,7 +92,7 @@ module _ (n : ℕ) (es : List Entry) (i : ℕ) (few : i ≤ entrySize * length e
         within = omega (arith, length-first n rest, length-take-le i (entriesBytes es) (omega (arith, length-entries es)));
         first = first-has n rest;
         banks = first-banks n rest;
-        fields-are = ap fields (first-drop n rest) ∙ fields-cut es i few;
+        fields-are = ap fields (first-drop n rest) ∙ fields-cut es i fit few;
       })
 
   pub cut-replays : (m : Memory)
@@ -99,4 +100,4 @@ module _ (n : ℕ) (es : List Entry) (i : ℕ) (few : i ≤ entrySize * length e
   cut-replays m =
       let fs : List Entry = take (i / entrySize) es in
       let l : length (journalBytes n fs) ≤ 60000 = omega (arith, length-journal n fs, length-take-le (i / entrySize) es (omega arith)) in
-      rw (replay-is cut-reads m, replay-is (journal-reads n fs l) m) (from-more (beginNumber n m) n fs (i % entrySize) m)
+      rw (replay-is cut-reads m, replay-is (journal-reads n fs (fit-take (i / entrySize) es fit) l) m) (from-more (beginNumber n m) n fs (i % entrySize) m)

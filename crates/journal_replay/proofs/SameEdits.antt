@@ -7,16 +7,18 @@ use Prim.Native.Nat.{ℕ, zero, suc, _≤_, _<_}
 use native.Mathlib.Omega.{arith}
 use lib.Dec.{leb}
 use lib.ListN.{length}
-use borrow.Author.Tests.{lt-leb, ne-eqb}
+use borrow.Author.Tests.{lt-leb, leb-true, le-ltb, ne-eqb}
 use Rattle.rule.proofs.Booleans.{lt-or-ge}
 use Rattle.rule.specs.Graph.{Graph}
-use Rattle.rule.specs.Numbers.{bank}
 use Rattle.rule.specs.declared.Kind.{Kind}
 use Rattle.rule.specs.declared.Kind.the-variants.{Adding, Striking}
+use Rattle.rule.specs.declared.Entry.{Entry}
+use Rattle.rule.specs.declared.Entry.the-variants.{Clash, Rank}
 use Rattle.memory.specs.Memory.{Memory}
 use Rattle.planner.specs.Questions.{firstNo}
 use Rattle.planner.specs.Calls.{allLong, editNumber}
-use Rattle.planner.specs.States.{State, make, begin, beginNumber}
+use Rattle.planner.specs.States.{State, make, setRank, entryNumber, enter, begin, beginNumber}
+use Rattle.planner.specs.inner.Held.{rankNumber}
 use Rattle.planner.proofs.Numbers.{far-a, far-b}
 use Rattle.planner.proofs.Outcomes.{edited-banks}
 use Rattle.planner.proofs.Made.{begin-passed}
@@ -26,18 +28,16 @@ use Rattle.text.specs.Text.{onto, rows, parts}
 use Rattle.text.specs.Numbers.{number, decimal}
 use Rattle.text.proofs.Decimal.{reads-back, reads-not}
 use Rattle.text.proofs.Without.{Without, without-append, decimal-without, rows-feed, parts-space, parts-last}
-use Rattle.list_rows.specs.declared.row.Change.{Change}
 use Rattle.list_rows.specs.declared.row.Change.the-variants.{One}
 use Rattle.list_rows.specs.declared.row.Row.the-variants.{Banks, Edit, Unreadable}
 use Rattle.list_rows.specs.Rows.{isByte, twoParts, threeParts, fromParts, rowOf, rowsOf}
 use Rattle.list_reader.specs.Pass.{ListResult, reading, change, changeNumber, rowNumber, step, passBy, pass, beginBy, fromFirst, fromRows, readList}
 use Rattle.list_reader.proofs.Lists.{within}
-use Rattle.journal_fields.specs.declared.field.Entry.{Entry}
-use Rattle.journal_fields.specs.Fields.{tagOf, journalBytes}
-use Rattle.journal_fields.specs.Bounds.{Below, AllBelow}
+use Rattle.journal_fields.specs.Fields.{kindTag, tagOf, firstIn, secondIn, rankFits, journalBytes}
+use Rattle.journal_fields.specs.Bounds.{Below, AllBelow, RanksFit}
 use Rattle.journal_replay.specs.SameList.{pairText, entryText, entriesText, listText, entryRow}
-use Rattle.journal_replay.specs.Replay.{ReplayResult, entryNumber, enter, ended, enterBy, enterAll, replayed}
-use Rattle.journal_fields.proofs.Entries.{whole}
+use Rattle.journal_replay.specs.Replay.{ReplayResult, ended, enterBy, enterAll, replayed}
+use Rattle.journal_fields.proofs.Entries.{whole, below-fit}
 use Rattle.journal_replay.proofs.Replaying.{replayFrom, replay-is, journal-reads}
 
 -- the two numbers of a row
@@ -56,16 +56,17 @@ module _ (a b : ℕ) where
 tag-without : (tag : ℕ) (rest : List ℕ) → (tag ≡ 10 → ⊥) → Without 10 rest → Without 10 (tag ∷ 32 ∷ rest)
 tag-without tag rest n w = (n, ((λ q. omega arith), w))
 
--- a sign is neither a line feed nor a space
-sign-above : (k : Kind) → 32 < tagOf k
-unfolding tagOf
-sign-above Adding = omega arith
-sign-above Striking = omega arith
+-- a tag is neither a line feed nor a space
+tag-above : (e : Entry) → 32 < tagOf e
+unfolding tagOf kindTag
+tag-above (Clash Adding a b) = omega arith
+tag-above (Clash Striking a b) = omega arith
+tag-above (Rank b r) = omega arith
 
 entry-without : (e : Entry) → Without 10 (entryText e)
 unfolding entryText
 entry-without e =
-    tag-without (tagOf (e .kind)) (pairText (e .a .0) (e .b .0)) (λ q. omega (arith, sign-above (e .kind))) (pair-without (e .a .0) (e .b .0))
+    tag-without (tagOf e) (pairText (firstIn e) (secondIn e)) (λ q. omega (arith, tag-above e)) (pair-without (firstIn e) (secondIn e))
 
 rows-entries : (es : List Entry) → rows (entriesText es) ≡ map entryText es
 unfolding entriesText rows
@@ -91,10 +92,6 @@ first-fails : (n : ℕ) → 10000 ≤ n → rowOf (78 ∷ 32 ∷ decimal n) ≡ 
 unfolding twoParts
 first-fails n h = first-parts n ∙ rw (reads-not n h)
 
--- the edit of an entry's row
-changeOf : Entry → Change
-changeOf e = One (e .kind) (e .a) (e .b)
-
 three-none : (head : List ℕ) (x : Number) → threeParts head x Nothing ≡ Unreadable
 unfolding threeParts
 three-none head Nothing = refl
@@ -108,6 +105,18 @@ few? a b = elim (lt-or-ge a 10000) [ inl h ↦ elim (lt-or-ge b 10000) [ inl k �
 far-number : (k : Kind) (G : Graph) (a b : ℕ) → G .banks ≤ 10000 → (10000 ≤ a) ⊎ (10000 ≤ b) → editNumber k G a b ≡ 4
 far-number k G a b l (inl h) = far-a G a b k (omega arith)
 far-number k G a b l (inr h) = elim (lt-or-ge a (G .banks)) [ inl u ↦ far-b G a b k u (omega arith) | inr u ↦ far-a G a b k u ]
+
+rank-far : (begun : Bool) (b n : ℕ) → n ≤ b → rankNumber begun b n ≡ 0 → ⊥
+unfolding firstNo
+rank-far true b n h z = omega arith
+rank-far false b n h z = omega (arith, rw (le-ltb b n h) at z)
+
+-- so an entry whose row does not read is refused
+far-entry : (e : Entry) → rankFits e ≡ true → (10000 ≤ firstIn e) ⊎ (10000 ≤ secondIn e) → (s : State) → s .graph .banks ≤ 10000 → entryNumber e s ≡ 0 → ⊥
+unfolding firstIn secondIn entryNumber rankFits
+far-entry (Clash k a b) f h s l z = omega (arith, far-number k (s .graph) (a .0) (b .0) l h)
+far-entry (Rank b r) f (inl h) s l z = rank-far (s .begun) (b .0) (s .graph .banks) (omega arith) z
+far-entry (Rank b r) f (inr h) s l z = omega (arith, leb-true r 9999 f)
 
 -- the row of a tag and two numbers
 module _ (tag a b : ℕ) (other : tag ≡ 32 → ⊥) where
@@ -123,43 +132,35 @@ module _ (tag a b : ℕ) (other : tag ≡ 32 → ⊥) where
   row-fails (inr h) = row-parts ∙ rw (reads-not b h) (three-none (tag ∷ []) (number (decimal a)))
 
 data RowOf (e : Entry) : Type 0 where
-  reads : rowOf (entryText e) ≡ Edit (changeOf e) → RowOf e
-  fails : rowOf (entryText e) ≡ Unreadable → ((G : Graph) → G .banks ≤ 10000 → entryNumber e G ≡ 4) → (Below 10000 e → ⊥) → RowOf e
+  reads : rowOf (entryText e) ≡ entryRow e → RowOf e
+  fails : rowOf (entryText e) ≡ Unreadable → ((s : State) → s .graph .banks ≤ 10000 → entryNumber e s ≡ 0 → ⊥) → (Below 10000 e → ⊥) → RowOf e
 
 one-far : (a b : ℕ) → (10000 ≤ a) ⊎ (10000 ≤ b) → (a < 10000) × (b < 10000) → ⊥
 one-far a b (inl h) k = omega (arith, k .0)
 one-far a b (inr h) k = omega (arith, k .1)
 
--- a sign and two numbers that read are an edit
-sign-reads : (k : Kind) (a b : ℕ) → threeParts (tagOf k ∷ []) (Value a) (Value b) ≡ Edit (One k (bank a) (bank b))
-unfolding threeParts isByte tagOf
-sign-reads Adding a b = refl
-sign-reads Striking a b = refl
+-- a tag and two numbers that read are the entry
+tag-reads : (e : Entry) → threeParts (tagOf e ∷ []) (Value (firstIn e)) (Value (secondIn e)) ≡ entryRow e
+unfolding threeParts isByte tagOf kindTag firstIn secondIn
+tag-reads (Clash Adding a b) = refl
+tag-reads (Clash Striking a b) = refl
+tag-reads (Rank b r) = refl
 
-row-of : (e : Entry) → RowOf e
-unfolding entryText changeOf entryNumber
-row-of e = by (few? (e .a .0) (e .b .0))
+row-of : (e : Entry) → rankFits e ≡ true → RowOf e
+unfolding entryText
+row-of e f = by (few? (firstIn e) (secondIn e))
   where
-    other : tagOf (e .kind) ≡ 32 → ⊥
-    other q = omega (arith, sign-above (e .kind))
+    other : tagOf e ≡ 32 → ⊥
+    other q = omega (arith, tag-above e)
 
-    by : ((e .a .0 < 10000) × (e .b .0 < 10000)) ⊎ ((10000 ≤ e .a .0) ⊎ (10000 ≤ e .b .0)) → RowOf e
-    by (inl h) = reads (row-reads (tagOf (e .kind)) (e .a .0) (e .b .0) other h ∙ sign-reads (e .kind) (e .a .0) (e .b .0))
-    by (inr h) =
-        fails (row-fails (tagOf (e .kind)) (e .a .0) (e .b .0) other h) (λ G l. far-number (e .kind) G (e .a .0) (e .b .0) l h) (one-far (e .a .0) (e .b .0) h)
-
--- an entry whose row reads does what the row does
-row-number : (e : Entry) (G : Graph) → changeNumber (changeOf e) G ≡ entryNumber e G
-unfolding changeNumber changeOf entryNumber
-row-number e G = refl
-
-row-step : (e : Entry) (s : State) → change (changeOf e) s ≡ enter e s
-unfolding change changeOf enter
-row-step e s = refl
+    by : ((firstIn e < 10000) × (secondIn e < 10000)) ⊎ ((10000 ≤ firstIn e) ⊎ (10000 ≤ secondIn e)) → RowOf e
+    by (inl h) = reads (row-reads (tagOf e) (firstIn e) (secondIn e) other h ∙ tag-reads e)
+    by (inr h) = fails (row-fails (tagOf e) (firstIn e) (secondIn e) other h) (far-entry e f h) (one-far (firstIn e) (secondIn e) h)
 
 enter-banks : (e : Entry) (s : State) → enter e s .graph .banks ≡ s .graph .banks
-unfolding enter make
-enter-banks e s = edited-banks (e .kind) (s .graph) (e .a .0) (e .b .0)
+unfolding enter make setRank
+enter-banks (Clash k a b) s = edited-banks k (s .graph) (a .0) (b .0)
+enter-banks (Rank b r) s = refl
 
 -- a list and a replay leave the same memory, and if `alike` the same number and place
 pub record Beside (r : ListResult) (q : ReplayResult) (alike : Type 0) : Type 0 where
@@ -171,19 +172,24 @@ unfolding passBy enterBy
 by-beside zero i s r q alike more f h = record { memory = h .memory; answer = λ a. h .answer (f a) }
 by-beside (suc c) i s r q alike more f h = record { memory = refl; answer = λ a. refl }
 
-pass-beside : (i : ℕ) (es : List Entry) (s : State) → s .graph .banks ≤ 10000 → Beside (pass i (map rowOf (map entryText es)) s) (enterAll i es false 0 s) (AllBelow 10000 es)
+-- a refused entry leaves memory as it was
+refused-memory : (c i : ℕ) (s : State) (rest : ReplayResult) → (c ≡ 0 → ⊥) → s .memory ≡ enterBy c i s rest .memory
+unfolding enterBy
+refused-memory zero i s rest z = absurd (z refl)
+refused-memory (suc c) i s rest z = refl
+
+pass-beside : (i : ℕ) (es : List Entry) (s : State) → RanksFit es → s .graph .banks ≤ 10000
+    → Beside (pass i (map rowOf (map entryText es)) s) (enterAll i es false 0 s) (AllBelow 10000 es)
 unfolding pass enterAll ended
-pass-beside i [] s l = record { memory = refl; answer = λ a. refl }
-pass-beside i (e ∷ es) s l = by (row-of e) (pass-beside (suc i) es (enter e s) (omega (arith, enter-banks e s)))
+pass-beside i [] s fit l = record { memory = refl; answer = λ a. refl }
+pass-beside i (e ∷ es) s fit l = by (row-of e (fit .0)) (pass-beside (suc i) es (enter e s) (fit .1) (omega (arith, enter-banks e s)))
   where
     by : RowOf e → Beside (pass (suc i) (map rowOf (map entryText es)) (enter e s)) (enterAll (suc i) es false 0 (enter e s)) (AllBelow 10000 es)
-        → Beside (passBy (rowNumber (rowOf (entryText e)) (s .graph)) i s (pass (suc i) (map rowOf (map entryText es)) (step (rowOf (entryText e)) s)))
-        (enterBy (entryNumber e (s .graph)) i s (enterAll (suc i) es false 0 (enter e s))) (AllBelow 10000 (e ∷ es))
-    by (reads q) h = rw q (unfold rowNumber step in rw (
-      row-number e (s .graph),
-      row-step e s,
-    ) (by-beside (entryNumber e (s .graph)) i s _ _ (AllBelow 10000 es) (AllBelow 10000 (e ∷ es)) (λ a. a .1) h))
-    by (fails q f n) h = rw (q, f (s .graph) l) (unfold rowNumber passBy enterBy in record { memory = refl; answer = λ a. absurd (n (a .0)) })
+        → Beside (passBy (rowNumber (rowOf (entryText e)) s) i s (pass (suc i) (map rowOf (map entryText es)) (step (rowOf (entryText e)) s)))
+        (enterBy (entryNumber e s) i s (enterAll (suc i) es false 0 (enter e s))) (AllBelow 10000 (e ∷ es))
+    by (reads q) h =
+        rw q (unfold rowNumber step changeNumber change in by-beside (entryNumber e s) i s _ _ (AllBelow 10000 es) (AllBelow 10000 (e ∷ es)) (λ a. a .1) h)
+    by (fails q f n) h = rw q (unfold rowNumber passBy in record { memory = refused-memory (entryNumber e s) i s _ (f s l); answer = λ a. absurd (n (a .0)) })
 
 -- questions 3 and 4
 begin-many : (n : ℕ) (m : Memory) → 1024 < n → beginNumber n m ≡ 1
@@ -199,20 +205,20 @@ begin-small n m = by (leb n 1024) (allLong n m)
     by true false = omega arith
     by false q = omega arith
 
-begin-beside : (c n : ℕ) (es : List Entry) (m : Memory) → beginNumber n m ≡ c
+begin-beside : (c n : ℕ) (es : List Entry) (m : Memory) → RanksFit es → beginNumber n m ≡ c
     → Beside (beginBy c n (map rowOf (map entryText es)) m) (replayFrom c n (whole es) m) ((n < 10000) × AllBelow 10000 es)
 unfolding beginBy replayFrom begin
-begin-beside zero n es m e =
-    let h = pass-beside 2 es (begin n m) (omega (arith, begin-passed n m e .0)) in
+begin-beside zero n es m fit e =
+    let h = pass-beside 2 es (begin n m) fit (omega (arith, begin-passed n m e .0)) in
     record { memory = h .memory; answer = λ a. h .answer (a .1) }
-begin-beside (suc c) n es m e =
+begin-beside (suc c) n es m fit e =
     record { memory = refl; answer = λ a. rw (ne-eqb (suc c) 9 (λ q. omega (arith, begin-small n m))) }
 
 -- the list and the journal of the same edits
-module _ (n : ℕ) (es : List Entry) (m : Memory) where
+module _ (n : ℕ) (es : List Entry) (m : Memory) (fit : RanksFit es) where
   first-beside : (n < 10000) ⊎ (10000 ≤ n)
       → Beside (fromRows (rowsOf (listText n es)) m) (replayFrom (beginNumber n m) n (whole es) m) ((n < 10000) × AllBelow 10000 es)
-  first-beside (inl h) = rw (rows-list n es) (unfold fromRows fromFirst in rw (first-reads n h) (begin-beside (beginNumber n m) n es m refl))
+  first-beside (inl h) = rw (rows-list n es) (unfold fromRows fromFirst in rw (first-reads n h) (begin-beside (beginNumber n m) n es m fit refl))
   first-beside (inr h) =
       rw (rows-list n es, begin-many n m (omega arith))
       (unfold fromRows fromFirst replayFrom in rw (first-fails n h) (record { memory = refl; answer = λ a. absurd (omega (arith, a .0)) }))
@@ -220,15 +226,15 @@ module _ (n : ℕ) (es : List Entry) (m : Memory) where
   -- and any list whose rows say what those of that list say
   pub same-edits : length (journalBytes n es) ≤ 60000 → (list : List ℕ) → length list ≤ 60000 → rowsOf list ≡ rowsOf (listText n es)
       → Beside (readList list m) (replayed (journalBytes n es) m) ((n < 10000) × AllBelow 10000 es)
-  same-edits h list k alike = rw (within list m k, alike, replay-is (journal-reads n es h) m) (first-beside (lt-or-ge n 10000))
+  same-edits h list k alike = rw (within list m k, alike, replay-is (journal-reads n es fit h) m) (first-beside (lt-or-ge n 10000))
 
 -- what these rows say, where their numbers can stand in a row
 entry-rows : (es : List Entry) → AllBelow 10000 es → map rowOf (map entryText es) ≡ map entryRow es
 entry-rows [] h = refl
-entry-rows (e ∷ es) h = ap₂ _∷_ (by (row-of e)) (entry-rows es (h .1))
+entry-rows (e ∷ es) h = ap₂ _∷_ (by (row-of e (below-fit (e ∷ es) h .0))) (entry-rows es (h .1))
   where
     by : RowOf e → rowOf (entryText e) ≡ entryRow e
-    by (reads q) = q ∙ unfold changeOf in refl
+    by (reads q) = q
     by (fails q f n) = absurd (n (h .0))
 
 pub list-rows : (n : ℕ) (es : List Entry) → n < 10000 → AllBelow 10000 es → rowsOf (listText n es) ≡ Banks n ∷ map entryRow es

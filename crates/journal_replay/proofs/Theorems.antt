@@ -3,14 +3,14 @@ use mathlib.Core.List.{List, _∷_, map}
 use mathlib.Core.Path.{_≡_, sym, ap}
 use Prim.Native.Nat.{ℕ, _+_, _*_, _/_, _%_, _≤_, _<_}
 use lib.ListN.{length, take}
+use Rattle.rule.specs.declared.Entry.{Entry}
 use Rattle.memory.specs.Memory.{Memory}
 use Rattle.list_rows.specs.declared.row.Row.the-variants.{Banks}
 use Rattle.list_rows.specs.Rows.{rowsOf}
 use Rattle.list_reader.specs.declared.pass.Reading.{Reading}
 use Rattle.list_reader.specs.Pass.{readList}
-use Rattle.journal_fields.specs.declared.field.Entry.{Entry}
 use Rattle.journal_fields.specs.Fields.{firstSize, entrySize, journalBytes}
-use Rattle.journal_fields.specs.Bounds.{AllBelow}
+use Rattle.journal_fields.specs.Bounds.{AllBelow, RanksFit}
 use Rattle.journal_replay.specs.SameList.{listText, entryRow}
 use Rattle.journal_replay.specs.Ends.{endOf, Leaves, RefusedLater, SameButLeftOver}
 use Rattle.journal_replay.specs.Replay.{replayed}
@@ -21,25 +21,25 @@ use Rattle.journal_replay.proofs.Refusals as Refusals
 
 -- 1. a journal cut at byte i after its first field replays as the journal of its whole fields does: the same number, field and memory; not
 -- refused, it reports the bytes left over
-pub cut-replays : (n : ℕ) (es : List Entry) (i : ℕ) → i ≤ entrySize * length es → firstSize + i ≤ 60000 → (m : Memory)
+pub cut-replays : (n : ℕ) (es : List Entry) (i : ℕ) → RanksFit es → i ≤ entrySize * length es → firstSize + i ≤ 60000 → (m : Memory)
     → SameButLeftOver (replayed (take (firstSize + i) (journalBytes n es)) m) (replayed (journalBytes n (take (i / entrySize) es)) m) (i % entrySize)
 cut-replays = Replaying.cut-replays
 
--- 2. a journal and any list of the same edits, each within 60,000 bytes, leave the same memory: plan, tally, trail and moved; and with numbers below
--- 10,000, which a row can hold, the same number at the same place. The list's rows say what those of `listText` say: padded, with or without the
+-- 2. a journal and any list of the same edits and ranks, each within 60,000 bytes, leave the same memory: plan, tally, trail and moved; and with
+-- numbers below 10,000, which a row can hold, the same number at the same place. The list's rows say what those of `listText` say: padded, with or without the
 -- last line feed
-module _ (n : ℕ) (es : List Entry) (m : Memory) (journal : length (journalBytes n es) ≤ 60000)
+module _ (n : ℕ) (es : List Entry) (m : Memory) (fit : RanksFit es) (journal : length (journalBytes n es) ≤ 60000)
     (list : List ℕ) (short : length list ≤ 60000) (alike : rowsOf list ≡ rowsOf (listText n es)) where
   pub same-memory : replayed (journalBytes n es) m .memory ≡ readList list m .memory
-  same-memory = sym (SameEdits.same-edits n es m journal list short alike .memory)
+  same-memory = sym (SameEdits.same-edits n es m fit journal list short alike .memory)
 
   pub same-number : n < 10000 → AllBelow 10000 es → replayed (journalBytes n es) m .answer .number ≡ readList list m .answer .number
-  same-number h k = ap (λ (r : Reading). r .number) (sym (SameEdits.same-edits n es m journal list short alike .answer (h, k)))
+  same-number h k = ap (λ (r : Reading). r .number) (sym (SameEdits.same-edits n es m fit journal list short alike .answer (h, k)))
 
   pub same-place : n < 10000 → AllBelow 10000 es → replayed (journalBytes n es) m .answer .field ≡ readList list m .answer .row
-  same-place h k = ap (λ (r : Reading). r .row) (sym (SameEdits.same-edits n es m journal list short alike .answer (h, k)))
+  same-place h k = ap (λ (r : Reading). r .row) (sym (SameEdits.same-edits n es m fit journal list short alike .answer (h, k)))
 
--- and those say `N n` and the entries' edits in turn
+-- and those say `N n` and the entries in turn: `+ a b`, `- a b`, `K b r`
 pub list-rows : (n : ℕ) (es : List Entry) → n < 10000 → AllBelow 10000 es → rowsOf (listText n es) ≡ Banks n ∷ map entryRow es
 list-rows = SameEdits.list-rows
 
@@ -49,7 +49,7 @@ module _ (bytes : List ℕ) (m : Memory) where
   replay-holds = Holds.replay-holds bytes m
 
   -- refused at field 0 or 1, it leaves memory as it was; refused at field 2 + i, it leaves what the i entries before leave, plan, tally, trail
-  -- and moved, and the plan is that of the clashes after them
+  -- and moved, and the plan is that of the clashes and ranks after them
   module _ (refused : replayed bytes m .answer .number ≡ 0 → ⊥) where
     pub refused-first : replayed bytes m .answer .field ≤ 1 → replayed bytes m .memory ≡ m
     refused-first = Refusals.refused-first bytes m refused

@@ -1,20 +1,26 @@
--- What the theorems on replays speak of: the clashes after entries, a refusal at a later field, and the bytes left over.
+-- What the theorems on replays speak of: the clashes and ranks after entries, a refusal at a later field, and the bytes left over.
 use mathlib.Core.List.{List, [], _∷_}
 use mathlib.Core.Path.{_≡_}
 use Prim.Native.Nat.{ℕ, _+_, _*_}
 use lib.ListN.{take, drop}
-use Rattle.rule.specs.Graph.{Graph, empty}
+use Rattle.rule.specs.Graph.{Graph, empty, ranked}
 use Rattle.rule.specs.Reach.{edited}
+use Rattle.rule.specs.declared.Entry.{Entry}
+use Rattle.rule.specs.declared.Entry.the-variants.{Clash, Rank}
 use Rattle.memory.specs.Plan.{PlanOf}
 use Rattle.memory.specs.Memory.{Memory}
-use Rattle.journal_fields.specs.declared.field.Entry.{Entry}
 use Rattle.journal_fields.specs.Fields.{firstSize, entrySize, banksIn, fields}
 use Rattle.journal_replay.specs.Replay.{ReplayResult, replayResult, replayAnswer, replayed}
 
--- the clashes after entries, in turn, to none of which a refusal is due
+-- the clashes and ranks after an entry to which no refusal is due: an edit of a clash, or the rank of a bank
+unfoldable pub afterEntry : Entry → Graph → Graph
+afterEntry (Clash k a b) G = edited k G (a .0) (b .0)
+afterEntry (Rank b r) G = ranked G (b .0) r
+
+-- and after entries, in turn
 unfoldable pub afterEntries : List Entry → Graph → Graph
 afterEntries [] G = G
-afterEntries (e ∷ es) G = afterEntries es (edited (e .kind) G (e .a .0) (e .b .0))
+afterEntries (e ∷ es) G = afterEntries es (afterEntry e G)
 
 -- those of a journal: after its first i entries, and after all
 abbrev pub afterFirst : ℕ → List ℕ → Graph
@@ -23,11 +29,12 @@ afterFirst i bytes = afterEntries (take i (fields (drop firstSize bytes) .entrie
 abbrev pub endOf : List ℕ → Graph
 endOf bytes = afterEntries (fields (drop firstSize bytes) .entries) (empty (banksIn bytes))
 
--- memory holds the plan of these clashes after the replay
+-- memory holds the plan of these clashes and ranks after the replay
 abbrev pub Leaves : Graph → ReplayResult → Type 0
 Leaves G r = PlanOf G (r .memory .slices) (r .memory .tally)
 
--- refused at field 2 + made: plan, tally, trail and moved are those of the entries before, and the plan is that of their clashes
+-- refused at field 2 + made: plan, tally, trail and moved are those of the entries before, and the plan is that of their clashes and
+-- ranks
 pub record RefusedLater (bytes : List ℕ) (m : Memory) : Type 0 where
   pub made : ℕ
   pub field : replayed bytes m .answer .field ≡ 2 + made

@@ -1,15 +1,14 @@
--- What a replay answers and leaves, of what it is lent (02, N2).
+-- What a replay answers and leaves, of what it is lent (02, N2 and N6).
 use mathlib.Core.Bool.{Bool, true, false, cond}
 use mathlib.Core.List.{List, [], _∷_}
 use Prim.Native.Nat.{ℕ, zero, suc}
 use lib.Dec.{leb, eqb}
 use lib.ListN.{length, drop}
-use Rattle.rule.specs.Graph.{Graph}
+use Rattle.rule.specs.declared.Entry.{Entry}
 use Rattle.memory.specs.Memory.{Memory}
 use Rattle.planner.specs.Questions.{_else_, firstNo}
-use Rattle.planner.specs.Calls.{allLong, editNumber}
-use Rattle.planner.specs.States.{State, make, begin}
-use Rattle.journal_fields.specs.declared.field.Entry.{Entry}
+use Rattle.planner.specs.Calls.{allLong}
+use Rattle.planner.specs.States.{State, entryNumber, enter, begin}
 use Rattle.journal_fields.specs.Fields.{firstSize, hasFirst, banksIn, fields}
 use Rattle.journal_replay.specs.declared.rerun.Replayed.{Replayed}
 
@@ -24,14 +23,6 @@ replayResult answer memory = record { answer = answer; memory = memory }
 abbrev pub replayAnswer : ℕ → ℕ → ℕ → Replayed
 replayAnswer number field leftOver = record { number = number; field = field; «left_over» = leftOver }
 
--- questions 7 to 11 of an entry
-unfoldable pub entryNumber : Entry → Graph → ℕ
-entryNumber e G = editNumber (e .kind) G (e .a .0) (e .b .0)
-
--- an entry's edit, to which no refusal is due
-unfoldable pub enter : Entry → State → State
-enter e s = make (e .kind) (e .a .0) (e .b .0) s
-
 -- after the last entry: a wrong field i gets 14, else the bytes left over are reported
 unfoldable pub ended : Bool → ℕ → ℕ → Memory → ReplayResult
 ended true i leftOver m = replayResult (replayAnswer 14 i 0) m
@@ -42,10 +33,10 @@ unfoldable pub enterBy : ℕ → ℕ → State → ReplayResult → ReplayResult
 enterBy zero i s rest = rest
 enterBy (suc c) i s rest = replayResult (replayAnswer (suc c) i 0) (s .memory)
 
--- the entries from field i on, in turn, and what ends them
+-- the entries from field i on, in turn, and what ends them: a rank gets 18 after an edit
 unfoldable pub enterAll : ℕ → List Entry → Bool → ℕ → State → ReplayResult
 enterAll i [] wrong leftOver s = ended wrong i leftOver (s .memory)
-enterAll i (e ∷ es) wrong leftOver s = enterBy (entryNumber e (s .graph)) i s (enterAll (suc i) es wrong leftOver (enter e s))
+enterAll i (e ∷ es) wrong leftOver s = enterBy (entryNumber e s) i s (enterAll (suc i) es wrong leftOver (enter e s))
 
 -- the questions before the entries
 unfoldable pub replayNumber : List ℕ → Memory → ℕ
@@ -57,7 +48,7 @@ replayNumber bytes m =
     ∷ (allLong (banksIn bytes) m else 2)
     ∷ [])
 
--- by their number: open the plan and make the edits in turn, or the number with field 1, and field 0 for 9
+-- by their number: open the plan and enter the entries in turn, or the number with field 1, and field 0 for 9
 unfoldable pub replayBy : ℕ → List ℕ → Memory → ReplayResult
 replayBy zero bytes m =
     let f = fields (drop firstSize bytes) in

@@ -2,19 +2,19 @@
 use mathlib.Core.List.{List, [], _∷_, _++_}
 use Prim.Native.Nat.{ℕ}
 use Rattle.text.specs.Numbers.{decimal}
+use Rattle.rule.specs.declared.Entry.{Entry}
 use Rattle.list_rows.specs.declared.row.Change.the-variants.{One}
 use Rattle.list_rows.specs.declared.row.Row.{Row}
 use Rattle.list_rows.specs.declared.row.Row.the-variants.{Edit}
-use Rattle.journal_fields.specs.declared.field.Entry.{Entry}
-use Rattle.journal_fields.specs.Fields.{tagOf}
+use Rattle.journal_fields.specs.Fields.{tagOf, firstIn, secondIn}
 
 -- the two numbers of a row
 unfoldable pub pairText : ℕ → ℕ → List ℕ
 pairText a b = decimal a ++ (32 ∷ decimal b)
 
--- `+ a b` or `- a b`: the tag is the sign, bytes 43 and 45
+-- `+ a b`, `- a b` or `K b r`: the tag is the row's first byte, 43, 45 or 75
 unfoldable pub entryText : Entry → List ℕ
-entryText e = tagOf (e .kind) ∷ 32 ∷ pairText (e .a .0) (e .b .0)
+entryText e = tagOf e ∷ 32 ∷ pairText (firstIn e) (secondIn e)
 
 -- the rows of entries, each with a line feed
 unfoldable pub entriesText : List Entry → List ℕ
@@ -27,4 +27,4 @@ listText n es = (78 ∷ 32 ∷ decimal n) ++ (10 ∷ entriesText es)
 
 -- what the row of an entry says
 abbrev pub entryRow : Entry → Row
-entryRow e = Edit (One (e .kind) (e .a) (e .b))
+entryRow e = Edit (One e)

@@ -6,7 +6,8 @@ use journal_fields::head_number;
 use journal_fields::number_at;
 use journal_fields::read_field;
 use memory::Tally;
-use planner::edit_held;
+use planner::begun_by;
+use planner::enter_held;
 use planner::open_all;
 ghost use mathlib.Core.Path.{_≡_};
 ghost use Prim.Native.Nat.{_<_};
@@ -31,15 +32,16 @@ pub struct ReplayedPlan {
     pub tally: Tally,
 }
 
-// What a field leaves beside the slices: its number, which field it is, and where the next one starts.
+// What a field leaves beside the slices: its number, which field it is, whether an edit has come, and where the next field starts.
 pub struct Entered {
     pub number: u16,
     pub field: u16,
+    pub begun: bool,
     pub next: usize,
     pub tally: Tally,
 }
 
-// Reads the field that starts at `start`, which is field `field`, and makes its edit.
+// Reads the field that starts at `start`, which is field `field`, and enters its entry.
 fn enter_field(
     journal: &[u8],
     start: usize,
@@ -48,42 +50,45 @@ fn enter_field(
     degrees: &mut [u16],
     waves: &mut [u16],
     counts: &mut [u16],
+    ranks: &mut [u16],
     trail: &mut [u16],
     moved: &mut [u16],
     tally: Tally,
+    begun: bool,
 ) -> Entered
-    requires { ⌜ AsksField (now journal) start (given neighbours degrees waves counts trail moved tally) ⌝ }
-    ensures { λ r. ⌜ EntersField (now (journal .entry)) start field
-        (before neighbours degrees waves counts trail moved tally) r
-        (after neighbours degrees waves counts trail moved (r .tally)) ⌝ }
+    requires { ⌜ AsksField (now journal) start begun (given neighbours degrees waves counts ranks trail moved tally) ⌝ }
+    ensures { λ r. ⌜ EntersField (now (journal .entry)) start field begun
+        (before neighbours degrees waves counts ranks trail moved tally) r
+        (after neighbours degrees waves counts ranks trail moved (r .tally)) ⌝ }
 {
     let next = start + ENTRY_BYTES;
-    let Field::Edit(entry) = read_field(&journal[start..]) else {
+    let Field::Whole(entry) = read_field(&journal[start..]) else {
         return Entered {
             number: 14,
             field: field,
+            begun: begun,
             next: next,
             tally: tally,
         };
     };
-    let kind = entry.kind;
-    let done = edit_held(
-        kind,
+    let done = enter_held(
         neighbours,
         degrees,
         waves,
         counts,
+        ranks,
         trail,
         moved,
         tally,
-        entry.a,
-        entry.b,
+        begun,
+        entry,
     );
     let answer = done.answer;
     let after = done.tally;
     Entered {
         number: answer.number,
         field: field,
+        begun: begun_by(entry, begun),
         next: next,
         tally: after,
     }
@@ -116,7 +121,7 @@ fn ended(rest: &[u8], number: u16, field: u16) -> Replayed
     }
 }
 
-// Makes the edits of the fields from the second on, which starts at `first`.
+// Enters the entries of the fields from the second on, which starts at `first`.
 fn enter_fields(
     journal: &[u8],
     first: usize,
@@ -124,18 +129,20 @@ fn enter_fields(
     degrees: &mut [u16],
     waves: &mut [u16],
     counts: &mut [u16],
+    ranks: &mut [u16],
     trail: &mut [u16],
     moved: &mut [u16],
     tally: Tally,
 ) -> ReplayedPlan
-    requires { ⌜ AsksFields (now journal) first (given neighbours degrees waves counts trail moved tally) ⌝ }
+    requires { ⌜ AsksFields (now journal) first (given neighbours degrees waves counts ranks trail moved tally) ⌝ }
     ensures { λ r. ⌜ EntersFields (now (journal .entry)) first
-        (before neighbours degrees waves counts trail moved tally) r
-        (after neighbours degrees waves counts trail moved (r .tally)) ⌝ }
+        (before neighbours degrees waves counts ranks trail moved tally) r
+        (after neighbours degrees waves counts ranks trail moved (r .tally)) ⌝ }
 {
     let mut last = Entered {
         number: 0,
         field: 1,
+        begun: false,
         next: first,
         tally: tally,
     };
@@ -148,9 +155,11 @@ fn enter_fields(
             degrees,
             waves,
             counts,
+            ranks,
             trail,
             moved,
             last.tally,
+            last.begun,
         );
     }
     let next = last.next;
@@ -186,7 +195,7 @@ fn refuse(number: u16, tally: Tally) -> ReplayedPlan
     }
 }
 
-// Replays a journal: opens the plan of its first field, then makes the edits of the others. This is the core, which takes and returns the
+// Replays a journal: opens the plan of its first field, then enters the entries of the others. This is the core, which takes and returns the
 // tally by value: programs and other crates call it. The function that borrows the tally is a thin one over it.
 pub fn replay_core(
     journal: &[u8],
@@ -194,12 +203,13 @@ pub fn replay_core(
     degrees: &mut [u16],
     waves: &mut [u16],
     counts: &mut [u16],
+    ranks: &mut [u16],
     trail: &mut [u16],
     moved: &mut [u16],
     tally: Tally,
 ) -> ReplayedPlan
-    ensures { λ r. ⌜ replayResult (r .answer) (after neighbours degrees waves counts trail moved (r .tally))
-        ≡ replayed (now (journal .entry)) (before neighbours degrees waves counts trail moved tally) ⌝ }
+    ensures { λ r. ⌜ replayResult (r .answer) (after neighbours degrees waves counts ranks trail moved (r .tally))
+        ≡ replayed (now (journal .entry)) (before neighbours degrees waves counts ranks trail moved tally) ⌝ }
 {
     let number = head_number(journal, journal.len());
     if number != 0 {
@@ -211,6 +221,7 @@ pub fn replay_core(
         degrees,
         waves,
         counts,
+        ranks,
         trail,
         moved,
         banks,
@@ -227,6 +238,7 @@ pub fn replay_core(
         degrees,
         waves,
         counts,
+        ranks,
         trail,
         moved,
         after,

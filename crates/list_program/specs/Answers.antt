@@ -18,7 +18,7 @@ use Rattle.list_program.specs.declared.texts.Text.the-variants.{Sheet, P
 abbrev pub blank : Memory
 blank =
     memoryOf
-    (slicesOf (replicate 23552 0) (replicate 1024 0) (replicate 1024 0) (replicate 24576 0))
+    (slicesOf (replicate 23552 0) (replicate 1024 0) (replicate 1024 0) (replicate 24576 0) (replicate 1024 0))
     (replicate 1024 0)
     (replicate 1024 0)
     (record { banks = 0; clashes = 0; waves = 0 })

@@ -27,6 +27,7 @@ pub fn answer_list(text: Text, list: &[u8], out: &mut [u8]) -> usize
     let mut degrees = [0u16; MOST_BANKS];
     let mut waves = [0u16; MOST_BANKS];
     let mut counts = [0u16; WAVE_COUNT_CELLS];
+    let mut ranks = [0u16; MOST_BANKS];
     let mut trail = [0u16; MOST_BANKS];
     let mut moved = [0u16; MOST_BANKS];
     let read = read_list_core(
@@ -35,6 +36,7 @@ pub fn answer_list(text: Text, list: &[u8], out: &mut [u8]) -> usize
         &mut degrees,
         &mut waves,
         &mut counts,
+        &mut ranks,
         &mut trail,
         &mut moved,
         Tally {
@@ -48,6 +50,15 @@ pub fn answer_list(text: Text, list: &[u8], out: &mut [u8]) -> usize
         return put_refusal(out, reading.number, reading.row);
     }
     let tally = read.tally;
-    let written = write_text(text, &neighbours, &degrees, &waves, &counts, tally, out);
+    let written = write_text(
+        text,
+        &neighbours,
+        &degrees,
+        &waves,
+        &counts,
+        &ranks,
+        tally,
+        out,
+    );
     written.length
 }

@@ -21,14 +21,15 @@ pub fn write_text(
     degrees: &[u16],
     waves: &[u16],
     counts: &[u16],
+    ranks: &[u16],
     tally: Tally,
     out: &mut [u8],
 ) -> Written
     ensures { λ r. ⌜ textResult r (now (out .exit))
-        ≡ writeText (textOf text) (slicesBefore neighbours degrees waves counts) tally (now (out .entry)) ⌝ }
+        ≡ writeText (textOf text) (slicesBefore neighbours degrees waves counts ranks) tally (now (out .entry)) ⌝ }
 {
     match text {
-        Text::Sheet => write_sheet(neighbours, degrees, waves, counts, tally, out),
-        Text::Poster => write_poster(neighbours, degrees, waves, counts, tally, out),
+        Text::Sheet => write_sheet(neighbours, degrees, waves, counts, ranks, tally, out),
+        Text::Poster => write_poster(neighbours, degrees, waves, counts, ranks, tally, out),
     }
 }

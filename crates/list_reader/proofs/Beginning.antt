@@ -1,4 +1,5 @@
 -- The first row of a list.
+use mathlib.Core.Bool.{false}
 use mathlib.Core.List.{List, [], _∷_, map}
 use mathlib.Core.Logic.{⊎-elim}
 use mathlib.Core.Path.{_≡_, refl, sym, ap, _∙_}
@@ -22,7 +23,7 @@ use Rattle.list_rows.specs.Rows.{fromParts, rowOf, rowsOf}
 use Rattle.list_rows.proofs.row.Row.{the-type}
 use Rattle.list_reader.specs.Pass.{ListResult, listResult, reading, pass, beginBy, fromFirst, fromRows, readList}
 use Rattle.planner.specs.States.{begin, beginNumber}
-use Rattle.planner.specs.inner.Held.{at, OpensAll}
+use Rattle.planner.specs.inner.Held.{at, Fresh, HoldsState, OpensAll}
 
 -- question 1
 pub too-long : (list : List ℕ) (m : Memory) → 60000 < length list → listResult (reading 9 0) m ≡ readList list m
@@ -77,7 +78,15 @@ module _ (n : ℕ) (rs : List Row) (m : Memory) (r : Opened) (m′ : Memory) (o 
   pub begin-refused : (r .number ≡ 0 → ⊥) → listResult (reading (r .number) 1) m′ ≡ beginBy (beginNumber n m) n rs m
   begin-refused z = ap (listResult (reading (r .number) 1)) (o .refused z) ∙ refused-by (r .number) z ∙ ap (λ (k : ℕ). beginBy k n rs m) (o .number)
 
-  pub begin-passed : r .number ≡ 0 → (e : ListResult) → ((G : Graph) → Ready G m′ → e ≡ pass 2 rs (at G m′)) → e ≡ beginBy (beginNumber n m) n rs m
+  pub opened-state : r .number ≡ 0 → HoldsState false m′
+  opened-state z = let s = o .opened z in (begin n m .graph, s .ready, unfold begin in s .fresh)
+
+  begun-not : pass 2 rs (at false (begin n m .graph) (begin n m .memory)) ≡ pass 2 rs (begin n m)
+  unfolding begin
+  begun-not = refl
+
+  pub begin-passed : r .number ≡ 0 → (e : ListResult) → ((G : Graph) → Ready G m′ → Fresh false G → e ≡ pass 2 rs (at false G m′)) → e ≡ beginBy (beginNumber n m) n rs m
   begin-passed z e f =
       let s = o .opened z in
-      f (begin n m .graph) (s .ready) ∙ ap (λ (x : Memory). pass 2 rs (at (begin n m .graph) x)) (s .memory) ∙ opened-by (beginNumber n m) (sym (o .number) ∙ z)
+      f (begin n m .graph) (s .ready) (unfold begin in s .fresh)
+      ∙ ap (λ (x : Memory). pass 2 rs (at false (begin n m .graph) x)) (s .memory) ∙ begun-not ∙ opened-by (beginNumber n m) (sym (o .number) ∙ z)

@@ -2,6 +2,7 @@
 pub mod Struck
 pub mod Passing
 pub mod Beginning
+pub mod Fits
 pub mod Kept
 pub mod Lists
 pub mod Theorems

@@ -7,7 +7,7 @@ use native.Mathlib.Omega.{arith}
 use lib.Dec.{T, leb}
 use lib.ListN.{length, take}
 use borrow.Author.Tests.{le-leb, leb-true}
-use Rattle.rule.specs.Graph.{Graph}
+use Rattle.rule.specs.Graph.{Graph, Same}
 use Rattle.rule.proofs.Booleans.{and-l, and-r}
 use Rattle.memory.specs.declared.Tally.{Tally}
 use Rattle.memory.specs.Plan.{Slices, PlanOf}
@@ -23,7 +23,8 @@ use Rattle.list_rows.specs.Unpadded.{unpaddedRow, plainRow}
 use Rattle.list_rows.proofs.Theorems.{row-kept, read-row-kept}
 use Rattle.list_reader.specs.Pass.{ListResult, listResult, reading, rowNumber, step, passBy, pass, beginBy, fromFirst, fromRows, readBy, readList}
 use Rattle.list_reader.specs.Ends.{after, afterFirst, afterRows, endOf, FirstOpens, RefusedAfter, readUnpadded, plainRows}
-use Rattle.planner.proofs.Made.{Holding}
+use Rattle.planner.proofs.RanksSet.{Sound}
+use Rattle.list_reader.proofs.Fits.{AllFit, take-fit}
 use Rattle.list_reader.proofs.Kept.{pass-accepted, pass-before, by-accepted}
 
 pub within : (bytes : List ℕ) (m : Memory) → length bytes ≤ 60000 → readList bytes m ≡ fromRows (rowsOf bytes) m
@@ -72,23 +73,22 @@ unfolding endOf afterRows afterFirst
 end-after bytes m n rs o = rw (o .rows)
 
 -- a refused pass leaves the plan of the rows before
-pub pass-refused : (n : ℕ) (rs : List Row) (m : Memory) → Holding (begin n m) → (pass 2 rs (begin n m) .answer .number ≡ 0 → ⊥)
+pub pass-refused : (n : ℕ) (rs : List Row) (m : Memory) → Sound (begin n m) → AllFit rs → (pass 2 rs (begin n m) .answer .number ≡ 0 → ⊥)
     → RefusedAfter n rs m (pass 2 rs (begin n m))
-pass-refused n rs m h z =
+pass-refused n rs m h f z =
     let b = pass-before 2 rs (begin n m) z in
-    let a = pass-accepted 2 (take (b .0) rs) (begin n m) h (ap (λ (e : ListResult). e .answer .number) (b .2)) in
+    let a = pass-accepted 2 (take (b .0) rs) (begin n m) h (take-fit (b .0) rs f) (ap (λ (e : ListResult). e .answer .number) (b .2)) in
     let same : pass 2 rs (begin n m) .memory ≡ after (take (b .0) rs) (begin n m) .memory = sym (ap (λ (e : ListResult). e .memory) (b .2)) ∙ a .0 in
     record { count = b .0; row = b .1; accepted = b .2; memory = same; plan = rw same (a .1) }
 
--- two plans of as many banks and the same clashes
-module _ (G H : Graph) (s s′ : Slices) (t t′ : Tally) (p : PlanOf G s t) (p′ : PlanOf H s′ t′) (banks : G .banks ≡ H .banks)
-    (clash : (x y : ℕ) → x < H .banks → y < H .banks → G .clash x y ≡ H .clash x y) where
+-- two plans of as many banks, the same clashes and the same ranks
+module _ (G H : Graph) (s s′ : Slices) (t t′ : Tally) (p : PlanOf G s t) (p′ : PlanOf H s′ t′) (a : Same G H) where
   pub plans-same-cells : planCells (H .banks) s ≡ planCells (H .banks) s′
   plans-same-cells =
-      ap (planCells (H .banks)) (sym (p .cells)) ∙ same-cells G H banks clash s s′ ∙ ap (planCells (H .banks)) (p′ .cells)
+      ap (planCells (H .banks)) (sym (p .cells)) ∙ same-cells a s s′ ∙ ap (planCells (H .banks)) (p′ .cells)
 
   pub plans-same-tally : t ≡ t′
-  plans-same-tally = p .tally ∙ tally-agree G H banks clash ∙ sym (p′ .tally)
+  plans-same-tally = p .tally ∙ tally-agree a ∙ sym (p′ .tally)
 
 -- rows without padding say what they said
 plain-rows : (rs : List (List ℕ)) → T (plainRows rs) → map rowOf rs ≡ map unpaddedRow rs
@@ -101,19 +101,19 @@ unfolding readList readUnpadded
 list-kept bytes m t = ap (λ (rs : List Row). cond (leb (length bytes) 60000) (fromRows rs m) (listResult (reading 9 0) m)) (plain-rows (rows bytes) t)
 
 -- so do accepted ones
-accepted-row : (r : Row) (G : Graph) → rowNumber r G ≡ 0 → r ≡ Unreadable → ⊥
+accepted-row : (r : Row) (s : State) → rowNumber r s ≡ 0 → r ≡ Unreadable → ⊥
 unfolding rowNumber
-accepted-row (Banks n) G z e = omega arith
-accepted-row (Edit c) G z e = let q : _≡_ {A = ℕ} 0 1 = cc in omega arith
-accepted-row Unreadable G z e = omega arith
+accepted-row (Banks n) s z e = omega arith
+accepted-row (Edit c) s z e = let q : _≡_ {A = ℕ} 0 1 = cc in omega arith
+accepted-row Unreadable s z e = omega arith
 
 accepted-rows : (i : ℕ) (rs : List (List ℕ)) (s : State) → pass i (map unpaddedRow rs) s .answer .number ≡ 0 → map rowOf rs ≡ map unpaddedRow rs
 unfolding pass
 accepted-rows i [] s z = refl
 accepted-rows i (r ∷ rs) s z =
     let x : Row = unpaddedRow r in
-    let p = by-accepted (rowNumber x (s .graph)) i s (pass (suc i) (map unpaddedRow rs) (step x s)) z in
-    ap₂ _∷_ (read-row-kept r (accepted-row x (s .graph) (p .0))) (accepted-rows (suc i) rs (step x s) (p .1))
+    let p = by-accepted (rowNumber x s) i s (pass (suc i) (map unpaddedRow rs) (step x s)) z in
+    ap₂ _∷_ (read-row-kept r (accepted-row x s (p .0))) (accepted-rows (suc i) rs (step x s) (p .1))
 
 module _ (m : Memory) where
   accepted-by : (k n : ℕ) (rs : List (List ℕ)) → beginBy k n (map unpaddedRow rs) m .answer .number ≡ 0 → map rowOf rs ≡ map unpaddedRow rs

@@ -1,4 +1,5 @@
 -- A row's edit, and the pass over the rows, as the functions make them.
+use mathlib.Core.Bool.{Bool, true, false}
 use mathlib.Core.List.{List, [], _∷_, map}
 use mathlib.Core.Logic.{⊎-elim}
 use mathlib.Core.Path.{_≡_, refl, sym, ap, _∙_}
@@ -10,11 +11,12 @@ use lib.ListN.{length, take, drop, drop-of-length-le}
 use borrow.Author.Tests.{lt-ltb, le-ltb}
 use Rattle.rule.specs.declared.Bank.{Bank}
 use Rattle.rule.specs.Graph.{Graph, neighbours}
-use Rattle.rule.specs.declared.Kind.{Kind}
+use Rattle.rule.specs.declared.Kind.the-variants.{Striking}
+use Rattle.rule.specs.declared.Entry.{Entry}
+use Rattle.rule.specs.declared.Entry.the-variants.{Clash, Rank}
 use Rattle.planner.specs.declared.Edited.{Edited}
 use Rattle.planner.specs.Questions.{firstNo}
 use Rattle.memory.specs.Memory.{Memory}
-use Rattle.planner.specs.inner.Held.{EditMade}
 use Rattle.memory.specs.Memory.{Ready}
 use Rattle.text.specs.Text.{rows}
 use Rattle.text.specs.Places.{before, Finds}
@@ -26,41 +28,63 @@ use Rattle.list_rows.specs.declared.row.Row.the-variants.{Banks, Edit, Unreadab
 use Rattle.list_rows.specs.Rows.{rowOf, rowsOf}
 use Rattle.list_rows.proofs.row.Row.{the-type}
 use Rattle.list_reader.specs.declared.pass.Step.{Step}
-use Rattle.list_reader.specs.Pass.{ListResult, listResult, reading, strikeEach, change, changeNumber, rowNumber, step, passBy, pass}
-use Rattle.planner.specs.States.{State}
-use Rattle.list_reader.specs.inner.Steps.{Changes, Applies, RowDone, rowEnd, rowAt, EditsRow, ending}
-use Rattle.planner.specs.inner.Held.{at, tried, Stands}
-use Rattle.planner.proofs.Made.{ready-banks, edit-made}
+use Rattle.list_reader.specs.Pass.{ListResult, listResult, reading, started, strikeEach, change, changeNumber, rowNumber, step, passBy, pass}
+use Rattle.planner.specs.States.{State, make, setRank, begunBy, enter}
+use Rattle.list_reader.specs.inner.Steps.{ChangeFits, Changes, Applies, changeBegun, RowDone, rowEnd, rowAt, EditsRow, ending}
+use Rattle.planner.specs.inner.Held.{at, Fresh, HoldsState, tried, Stands, EntryDone, RankFits}
+use Rattle.planner.proofs.Made.{ready-banks}
 
-module _ (G : Graph) (m : Memory) (h : Ready G m) where
-  pub change-one : (k : Kind) (a b : Bank) (r : Edited) (m′ : Memory) → EditMade k G (a .0) (b .0) m r m′ → Changes (One k a b) G m (r .answer .number) m′
+-- has an edit come, once a row has?
+enter-begun : (e : Entry) (s : State) → enter e s .begun ≡ begunBy e (s .begun)
+unfolding enter begunBy make setRank
+enter-begun (Clash k a b) s = refl
+enter-begun (Rank b r) s = refl
+
+each-begun : (b : ℕ) (vs : List ℕ) (s : State) → s .begun ≡ true → strikeEach b vs s .begun ≡ true
+unfolding strikeEach make
+each-begun b [] s e = e
+each-begun b (v ∷ vs) s e = each-begun b vs (make Striking b v s) refl
+
+change-begun : (c : Change) (s : State) → change c s .begun ≡ changeBegun c (s .begun)
+unfolding change changeBegun
+change-begun (One e) s = enter-begun e s
+change-begun (StrikeAll b) s = each-begun (b .0) (neighbours (s .graph) (b .0)) (started s) refl
+
+pub one-fits : {c : Change} {e : Entry} → c ≡ One e → ChangeFits c → RankFits e
+one-fits q f = rw q at f
+
+module _ (begun : Bool) (G : Graph) (m : Memory) (h : Ready G m) (f : Fresh begun G) where
+  abbrev s₀ : State
+  s₀ = at begun G m
+
+  pub change-one : (e : Entry) (n : ℕ) (m′ : Memory) → EntryDone e s₀ n m′ → Changes (One e) s₀ n m′
   unfolding changeNumber change
-  change-one k a b r m′ e = let d = edit-made k G (a .0) (b .0) m r m′ e in record { is = d .0; stands = d .1 }
+  change-one e n m′ d = record { is = d .is; stands = d .stands }
 
   -- all clashes of a bank that is not there, and of one that is
-  pub change-none : (b : Bank) → m .tally .banks ≤ b .0 → Changes (StrikeAll b) G m 4 m
+  pub change-none : (b : Bank) → m .tally .banks ≤ b .0 → Changes (StrikeAll b) s₀ 4 m
   unfolding changeNumber change firstNo tried
   change-none b l =
       let far = le-ltb (b .0) (G .banks) (omega (arith, ready-banks G m h)) in
-      record { is = rw far; stands = rw far (record { memory = refl; ready = h }) }
+      record { is = rw far; stands = rw far (record { memory = refl; ready = h; fresh = f }) }
 
-  pub change-all : (b : Bank) (n : ℕ) (m′ : Memory) → b .0 < m .tally .banks → n ≡ 0 → Stands (strikeEach (b .0) (neighbours G (b .0)) (at G m)) m′
-      → Changes (StrikeAll b) G m n m′
+  pub change-all : (b : Bank) (n : ℕ) (m′ : Memory) → b .0 < m .tally .banks → n ≡ 0 → Stands (strikeEach (b .0) (neighbours G (b .0)) (at true G m)) m′
+      → Changes (StrikeAll b) s₀ n m′
   unfolding changeNumber change firstNo tried
   change-all b n m′ l z s =
       let near = lt-ltb (b .0) (G .banks) (omega (arith, ready-banks G m h)) in
       record { is = rw near z; stands = rw near s }
 
-  row-edit : (c : Change) (n : ℕ) (m′ : Memory) → Changes c G m n m′ → RowDone (Edit c) G m n m′
+  row-edit : (c : Change) (n : ℕ) (m′ : Memory) → Changes c s₀ n m′ → RowDone (Edit c) s₀ n m′
   unfolding rowNumber step
   row-edit c n m′ d = record { is = d .is; stands = d .stands }
 
   -- a row that is no edit
-  row-other : (r : Row) → OneOf (0 ∷ 2 ∷ []) (tagOf the-type r) → RowDone r G m 11 m
+  row-other : (r : Row) → OneOf (0 ∷ 2 ∷ []) (tagOf the-type r) → RowDone r s₀ 11 m
   unfolding rowNumber step tried
-  row-other (Banks n) k = record { is = refl; stands = record { memory = refl; ready = h } }
+  row-other (Banks n) k = record { is = refl; stands = record { memory = refl; ready = h; fresh = f } }
   row-other (Edit c) k = absurd (⊎-elim (λ e. omega arith) (λ e. omega arith) k)
-  row-other Unreadable k = record { is = refl; stands = record { memory = refl; ready = h } }
+  row-other Unreadable k = record { is = refl; stands = record { memory = refl; ready = h; fresh = f } }
 
 -- the answer, by the number of the last row
 pub ending-zero : (n i : ℕ) → n ≡ 0 → reading 0 0 ≡ ending n i
@@ -82,26 +106,28 @@ module _ (list : List ℕ) (start end : ℕ) (f : Finds list start 10 end) where
   unfolding rowAt rowEnd
   row-bytes = ap (λ (n : ℕ). take (n - start) (drop start list)) (f .is)
 
-  module _ (i : ℕ) (m : Memory) (r : Step) (row : r .row ≡ i) (next : r .next ≡ end + 1) where
+  module _ (i : ℕ) (begun : Bool) (m : Memory) (r : Step) (row : r .row ≡ i) (next : r .next ≡ end + 1) where
     -- it does not read as an edit
-    pub edits-none : (x : Row) → x ≡ rowOf (take (end - start) (drop start list)) → OneOf (0 ∷ 2 ∷ []) (tagOf the-type x) → r .number ≡ 11 → EditsRow list start i m r m
+    pub edits-none : (x : Row) → x ≡ rowOf (take (end - start) (drop start list)) → OneOf (0 ∷ 2 ∷ []) (tagOf the-type x) → r .number ≡ 11 → EditsRow list start i begun m r m
     edits-none x e k z = record {
       row = row;
       next = next ∙ row-next;
       on = omega (arith, f .low);
       within = omega (arith, f .high);
-      of = λ G h. rw (z, ← (e ∙ ap rowOf row-bytes)) (row-other G m h x k);
+      of = λ G h f′. rw (z, ← (e ∙ ap rowOf row-bytes)) (row-other begun G m h f′ x k);
+      came = λ G q. absurd (omega (arith, z, q));
     }
 
     -- it reads as an edit
-    pub edits-one : (c : Change) → Edit c ≡ rowOf (take (end - start) (drop start list)) → (a : Edited) (m′ : Memory) → Applies c m a m′ → r .number ≡ a .answer .number
-        → EditsRow list start i m r m′
-    edits-one c e a m′ d z = record {
+    pub edits-one : (c : Change) → Edit c ≡ rowOf (take (end - start) (drop start list)) → (a : Edited) (m′ : Memory) → Applies c begun m a m′ → r .number ≡ a .answer .number
+        → r .begun ≡ changeBegun c begun → EditsRow list start i begun m r m′
+    edits-one c e a m′ d z q = record {
       row = row;
       next = next ∙ row-next;
       on = omega (arith, f .low);
       within = omega (arith, f .high);
-      of = λ G h. rw (z, ← (e ∙ ap rowOf row-bytes)) (row-edit G m h c (a .answer .number) m′ (d .of G h));
+      of = λ G h f′. rw (z, ← (e ∙ ap rowOf row-bytes)) (row-edit begun G m h f′ c (a .answer .number) m′ (d .of G h f′));
+      came = λ G y. q ∙ sym (change-begun c (at begun G m)) ∙ unfold step in ap (λ (x : Row). step x (at begun G m) .begun) (e ∙ ap rowOf row-bytes);
     }
 
 -- what is ahead after row i, whose number is n
@@ -116,9 +142,9 @@ by-row zero i rs s t = refl
 by-row (suc c) i rs s t = refl
 
 row-step : (i : ℕ) (r : Row) (rs : List Row) (s : State)
-    → pass i (r ∷ rs) s ≡ going (rowNumber r (s .graph)) i rs (tried (rowNumber r (s .graph)) (step r s) s)
+    → pass i (r ∷ rs) s ≡ going (rowNumber r s) i rs (tried (rowNumber r s) (step r s) s)
 unfolding pass
-row-step i r rs s = by-row (rowNumber r (s .graph)) i rs s (step r s)
+row-step i r rs s = by-row (rowNumber r s) i rs s (step r s)
 
 going-on : (n i : ℕ) (rs : List Row) (s : State) → n ≡ 0 → going n i rs s ≡ pass (suc i) rs s
 unfolding going
@@ -144,27 +170,38 @@ cut list start next l e u =
 -- where a pass stands after a row
 pub record Ahead (list : List ℕ) (first : ℕ) (G : Graph) (m : Memory) (r : Step) (m′ : Memory) : Type 0 where
   pub graph : Graph
+  pub begun : Bool
+  pub same : r .number ≡ 0 → r .begun ≡ begun
   pub ready : Ready graph m′
-  pub ahead : pass 2 (rowsOf (drop first list)) (at G m) ≡ going (r .number) (r .row) (rowsOf (drop (r .next) list)) (at graph m′)
+  pub fresh : Fresh begun graph
+  pub ahead : pass 2 (rowsOf (drop first list)) (at false G m) ≡ going (r .number) (r .row) (rowsOf (drop (r .next) list)) (at begun graph m′)
 
 module _ (list : List ℕ) (first : ℕ) (G : Graph) (m : Memory) where
-  pub ahead-start : Ready G m → (r : Step) → r .number ≡ 0 → r .row ≡ 1 → r .next ≡ first → Ahead list first G m r m
+  pub ahead-start : Ready G m → Fresh false G → (r : Step) → r .number ≡ 0 → r .row ≡ 1 → r .next ≡ first → r .begun ≡ false → Ahead list first G m r m
   unfolding going
-  ahead-start h r z i n = record { graph = G; ready = h; ahead = rw (z, i, n) }
+  ahead-start h f r z i n b = record { graph = G; begun = false; same = λ q. b; ready = h; fresh = f; ahead = rw (z, i, n) }
+
+  -- what the next row asks
+  pub ahead-held : (r : Step) (m′ : Memory) → Ahead list first G m r m′ → r .number ≡ 0 → HoldsState (r .begun) m′
+  ahead-held r m′ w z = (w .graph, w .ready, rw (w .same z) (w .fresh))
 
   pub ahead-turn : (r : Step) (m′ : Memory) (w : Ahead list first G m r m′) → r .number ≡ 0 → r .next < length list
-      → (r′ : Step) (m″ : Memory) → EditsRow list (r .next) (r .row + 1) m′ r′ m″ → Ahead list first G m r′ m″
-  ahead-turn r m′ w z l r′ m″ d =
+      → (r′ : Step) (m″ : Memory) → EditsRow list (r .next) (r .row + 1) (r .begun) m′ r′ m″ → Ahead list first G m r′ m″
+  ahead-turn r m′ w z l r′ m″ d₀ =
       let H : Graph = w .graph in
-      let s : State = at H m′ in
+      let s : State = at (w .begun) H m′ in
       let b : Row = rowOf (rowAt list (r .next)) in
-      let t : State = tried (rowNumber b H) (step b s) s in
-      let done = d .of H (w .ready) in
+      let t : State = tried (rowNumber b s) (step b s) s in
+      let d = turned (w .same z) d₀ in
+      let done = d .of H (w .ready) (w .fresh) in
       let rest : List Row = rowsOf (drop (r′ .next) list) in
       let up : r′ .row ≡ suc (r .row) = omega (arith, d .row) in
       record {
         graph = t .graph;
+        begun = t .begun;
+        same = λ q. d .came H q ∙ sym (ap (λ (n : ℕ). tried n (step b s) s .begun) (sym (done .is) ∙ q) ∙ unfold tried in refl);
         ready = done .stands .ready;
+        fresh = done .stands .fresh;
         ahead =
             w .ahead
             ∙ going-on (r .number) (r .row) (rowsOf (drop (r .next) list)) s z
@@ -172,9 +209,12 @@ module _ (list : List ℕ) (first : ℕ) (G : Graph) (m : Memory) where
             ∙ row-step (suc (r .row)) b rest s
             ∙ ap (λ (x : ℕ). going x (suc (r .row)) rest t) (sym (done .is))
             ∙ ap (λ (x : ℕ). going (r′ .number) x rest t) (sym up)
-            ∙ ap (λ (x : Memory). going (r′ .number) (r′ .row) rest (at (t .graph) x)) (sym (done .stands .memory));
+            ∙ ap (λ (x : Memory). going (r′ .number) (r′ .row) rest (at (t .begun) (t .graph) x)) (sym (done .stands .memory));
       }
+    where
+      turned : {p q : Bool} → p ≡ q → EditsRow list (r .next) (r .row + 1) p m′ r′ m″ → EditsRow list (r .next) (r .row + 1) q m′ r′ m″
+      turned e x = rw e at x
 
   pub ahead-end : (r : Step) (m′ : Memory) → Ahead list first G m r m′ → (r .number ≡ 0 → length list ≤ r .next)
-      → listResult (ending (r .number) (r .row)) m′ ≡ pass 2 (rowsOf (drop first list)) (at G m)
-  ahead-end r m′ w e = sym (w .ahead ∙ going-end (r .number) (r .row) list (r .next) (at (w .graph) m′) e)
+      → listResult (ending (r .number) (r .row)) m′ ≡ pass 2 (rowsOf (drop first list)) (at false G m)
+  ahead-end r m′ w e = sym (w .ahead ∙ going-end (r .number) (r .row) list (r .next) (at (w .begun) (w .graph) m′) e)

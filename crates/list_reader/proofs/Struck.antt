@@ -21,7 +21,7 @@ use Rattle.memory.specs.Memory.{Ready}
 use Rattle.list_reader.specs.Pass.{strikeEach}
 use Rattle.planner.specs.States.{make}
 use Rattle.planner.specs.inner.Held.{at, Stands}
-use Rattle.planner.proofs.Made.{ready-banks, edit-accepted}
+use Rattle.planner.proofs.Made.{ready-banks, not-fresh, edit-accepted}
 
 never : (b : Bool) → (T b → ⊥) → b ≡ false
 never true n = absurd (n tt)
@@ -62,7 +62,7 @@ pub record Left (G : Graph) (b : ℕ) (m : Memory) (left : ℕ) (r : Edited) (m�
   pub ready : Ready graph m′
   pub below : b < m′ .tally .banks
   pub count : length (neighbours graph b) ≡ left
-  pub ahead : strikeEach b (neighbours G b) (at G m) ≡ strikeEach b (neighbours graph b) (at graph m′)
+  pub ahead : strikeEach b (neighbours G b) (at true G m) ≡ strikeEach b (neighbours graph b) (at true graph m′)
 
 module _ (G : Graph) (b : ℕ) (m : Memory) where
   pub left-start : (left : ℕ) (r : Edited) → r .answer .number ≡ 0 → Ready G m → b < m .tally .banks → left ≡ length (neighbours G b) → Left G b m left r m
@@ -84,7 +84,7 @@ module _ (G : Graph) (b : ℕ) (m : Memory) where
       let below : b < H .banks = omega (arith, ready-banks H m′ (w .ready)) in
       let good : Clashes H = w .ready .plan .clashes in
       let rest : neighbours (edited Striking H b v) b ≡ part .0 = strike-rest H good b below v (part .0) first in
-      let made = edit-accepted Striking H b v m′ r′ m″ (strike-number H good b below v (part .0) first) d in
+      let made = edit-accepted Striking true H b v m′ r′ m″ (strike-number H good b below v (part .0) first) d (not-fresh H) in
       record {
         number = made .0;
         graph = edited Striking H b v;
@@ -93,15 +93,15 @@ module _ (G : Graph) (b : ℕ) (m : Memory) where
         count = omega (arith, ap length rest, ap length first, w .count);
         ahead =
             w .ahead
-            ∙ ap (λ (l : List ℕ). strikeEach b l (at H m′)) first
-            ∙ ap (λ (x : Memory). strikeEach b (part .0) (at (edited Striking H b v) x)) (sym (made .1 .memory))
-            ∙ ap (λ (l : List ℕ). strikeEach b l (at (edited Striking H b v) m″)) (sym rest);
+            ∙ ap (λ (l : List ℕ). strikeEach b l (at true H m′)) first
+            ∙ ap (λ (x : Memory). strikeEach b (part .0) (at true (edited Striking H b v) x)) (sym (made .1 .memory))
+            ∙ ap (λ (l : List ℕ). strikeEach b l (at true (edited Striking H b v) m″)) (sym rest);
       }
 
-  pub left-end : (left : ℕ) (r : Edited) (m′ : Memory) → Left G b m left r m′ → left ≤ 0 → Stands (strikeEach b (neighbours G b) (at G m)) m′
+  pub left-end : (left : ℕ) (r : Edited) (m′ : Memory) → Left G b m left r m′ → left ≤ 0 → Stands (strikeEach b (neighbours G b) (at true G m)) m′
   unfolding strikeEach
   left-end left r m′ w l = rw (w .ahead) (none (neighbours (w .graph) b) (omega (arith, w .count)))
     where
-      none : (l : List ℕ) → length l ≡ 0 → Stands (strikeEach b l (at (w .graph) m′)) m′
-      none [] q = record { memory = refl; ready = w .ready }
+      none : (l : List ℕ) → length l ≡ 0 → Stands (strikeEach b l (at true (w .graph) m′)) m′
+      none [] q = record { memory = refl; ready = w .ready; fresh = not-fresh (w .graph) }
       none (x ∷ xs) q = absurd (omega arith)

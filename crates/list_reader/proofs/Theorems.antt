@@ -5,7 +5,7 @@ use Prim.Native.Nat.{ℕ, _≤_, _<_}
 use native.Mathlib.Omega.{arith}
 use lib.Dec.{T}
 use lib.ListN.{length, length-append}
-use Rattle.rule.specs.Graph.{Graph}
+use Rattle.rule.specs.Graph.{Graph, Same}
 use Rattle.memory.specs.Plan.{PlanOf}
 use Rattle.memory.specs.PlanCells.{planCells}
 use Rattle.memory.specs.Memory.{Memory}
@@ -16,7 +16,8 @@ use Rattle.list_rows.specs.declared.row.Row.{Row}
 use Rattle.list_rows.specs.Rows.{rowOf, rowsOf}
 use Rattle.list_reader.specs.Pass.{ListResult, readList}
 use Rattle.list_reader.specs.Ends.{endOf, FirstOpens, RefusedAfter, readUnpadded, plainRows}
-use Rattle.planner.proofs.Made.{begin-holds}
+use Rattle.planner.proofs.RanksSet.{begin-sound}
+use Rattle.list_reader.proofs.Fits.{later-fit}
 use Rattle.list_reader.proofs.Kept.{pass-holds, pass-accepted, pass-before}
 use Rattle.list_reader.proofs.Lists as Lists
 use Rattle.list_reader.proofs.Lists.{Start, opens, refuses, start, opens-pass, end-after}
@@ -49,12 +50,12 @@ pub refused-later : (bytes : List ℕ) (m : Memory) (n : ℕ) (rs : List Row) �
     → RefusedAfter n rs m (readList bytes m)
 refused-later bytes m n rs o z =
     let e = opens-pass bytes m n rs o in
-    rw e (Lists.pass-refused n rs m (begin-holds n m (o .number)) (λ q. z (ap (λ (x : ListResult). x .answer .number) e ∙ q)))
+    rw e (Lists.pass-refused n rs m (begin-sound n m (o .number)) (later-fit bytes _ rs (o .rows)) (λ q. z (ap (λ (x : ListResult). x .answer .number) e ∙ q)))
 
 -- 4. after a list whose first row opens a plan, memory holds a plan
 pub list-holds : (bytes : List ℕ) (m : Memory) (n : ℕ) (rs : List Row) → FirstOpens bytes m n rs
     → (G : Graph) × PlanOf G (readList bytes m .memory .slices) (readList bytes m .memory .tally)
-list-holds bytes m n rs o = rw (opens-pass bytes m n rs o) (pass-holds 2 rs (begin n m) (begin-holds n m (o .number)))
+list-holds bytes m n rs o = rw (opens-pass bytes m n rs o) (pass-holds 2 rs (begin n m) (begin-sound n m (o .number)) (later-fit bytes _ rs (o .rows)))
 
 -- 5. after an accepted list, memory holds the plan of the clashes in which the list ends
 pub accepted-holds : (bytes : List ℕ) (m : Memory) → readList bytes m .answer .number ≡ 0
@@ -64,21 +65,19 @@ accepted-holds bytes m z = by (start bytes m)
     by : Start bytes m → PlanOf (endOf bytes m .graph) (readList bytes m .memory .slices) (readList bytes m .memory .tally)
     by (opens n rs o) =
         let e = opens-pass bytes m n rs o in
-        let p = pass-accepted 2 rs (begin n m) (begin-holds n m (o .number)) (sym (ap (λ (x : ListResult). x .answer .number) e) ∙ z) in
+        let p = pass-accepted 2 rs (begin n m) (begin-sound n m (o .number)) (later-fit bytes _ rs (o .rows)) (sym (ap (λ (x : ListResult). x .answer .number) e) ∙ z) in
         rw (e, end-after bytes m n rs o, p .0) (p .1)
     by (refuses c i h e) = absurd (omega (arith, z, ap (λ (x : ListResult). x .answer .number) e))
 
--- 6. accepted lists that end in equal bank counts and equal clashes leave equal plan cells and an equal tally, whatever their rows
+-- 6. accepted lists that end in equal bank counts, equal clashes and equal ranks leave equal plan cells and an equal tally, whatever their rows
 -- are and whatever memory held before
 module _ (bytes bytes′ : List ℕ) (m m′ : Memory) (yes : readList bytes m .answer .number ≡ 0) (yes′ : readList bytes′ m′ .answer .number ≡ 0)
-    (banks : endOf bytes m .graph .banks ≡ endOf bytes′ m′ .graph .banks)
-    (clash : (x y : ℕ) → x < endOf bytes′ m′ .graph .banks → y < endOf bytes′ m′ .graph .banks
-    → endOf bytes m .graph .clash x y ≡ endOf bytes′ m′ .graph .clash x y) where
+    (same : Same (endOf bytes m .graph) (endOf bytes′ m′ .graph)) where
   pub lists-same-cells : planCells (endOf bytes′ m′ .graph .banks) (readList bytes m .memory .slices) ≡ planCells (endOf bytes′ m′ .graph .banks) (readList bytes′ m′ .memory .slices)
-  lists-same-cells = Lists.plans-same-cells _ _ _ _ _ _ (accepted-holds bytes m yes) (accepted-holds bytes′ m′ yes′) banks clash
+  lists-same-cells = Lists.plans-same-cells _ _ _ _ _ _ (accepted-holds bytes m yes) (accepted-holds bytes′ m′ yes′) same
 
   pub lists-same-tally : readList bytes m .memory .tally ≡ readList bytes′ m′ .memory .tally
-  lists-same-tally = Lists.plans-same-tally _ _ _ _ _ _ (accepted-holds bytes m yes) (accepted-holds bytes′ m′ yes′) banks clash
+  lists-same-tally = Lists.plans-same-tally _ _ _ _ _ _ (accepted-holds bytes m yes) (accepted-holds bytes′ m′ yes′) same
 
 -- 7. a list of rows without padding leaves what it left before numbers could be padded
 pub list-kept : (bytes : List ℕ) (m : Memory) → T (plainRows (rows bytes)) → readList bytes m ≡ readUnpadded bytes m

@@ -1,4 +1,4 @@
--- What the theorems on lists speak of: a list whose first row opens a plan, the clashes in which an accepted list ends and those of the rows before
+-- What the theorems on lists speak of: a list whose first row opens a plan, the clashes and ranks in which an accepted list ends and those of the rows before
 -- a refused one, and how a list read before numbers could be padded.
 use mathlib.Core.Bool.{Bool, true, _&&_}
 use mathlib.Core.List.{List, [], _∷_}

@@ -1,15 +1,14 @@
--- What the call that reads a list answers and leaves, of what it is lent (01, "The list" and "The questions").
-use mathlib.Core.Bool.{cond}
+-- What the call that reads a list answers and leaves, of what it is lent (01, "The list" and "The questions"; 02, N6: K rows).
+use mathlib.Core.Bool.{true, cond}
 use mathlib.Core.List.{List, [], _∷_, map}
 use Prim.Native.Nat.{ℕ, zero, suc}
 use lib.Dec.{ltb, leb}
 use lib.ListN.{length}
-use Rattle.rule.specs.Graph.{Graph, neighbours}
+use Rattle.rule.specs.Graph.{neighbours}
 use Rattle.rule.specs.declared.Kind.the-variants.{Striking}
 use Rattle.planner.specs.Questions.{_else_, firstNo}
 use Rattle.memory.specs.Memory.{Memory}
-use Rattle.planner.specs.Calls.{editNumber}
-use Rattle.planner.specs.States.{State, make, begin, beginNumber}
+use Rattle.planner.specs.States.{State, make, entryNumber, enter, begin, beginNumber}
 use Rattle.text.specs.Text.{rows}
 use Rattle.list_rows.specs.declared.row.Change.{Change}
 use Rattle.list_rows.specs.declared.row.Change.the-variants.{One, StrikeAll}
@@ -35,21 +34,25 @@ unfoldable pub strikeEach : ℕ → List ℕ → State → State
 strikeEach b [] s = s
 strikeEach b (v ∷ vs) s = strikeEach b vs (make Striking b v s)
 
--- `+ a b` adds, `- a b` strikes, `D b` strikes all clashes of b, lowest neighbour first
+-- the state once an edit row has come
+abbrev pub started : State → State
+started s = record { graph = s .graph; memory = s .memory; begun = true }
+
+-- `+ a b` adds, `- a b` strikes, `K b r` sets a rank, `D b` strikes all clashes of b, lowest neighbour first
 unfoldable pub change : Change → State → State
-change (One k a b) s = make k (a .0) (b .0) s
-change (StrikeAll b) s = strikeEach (b .0) (neighbours (s .graph) (b .0)) s
+change (One e) s = enter e s
+change (StrikeAll b) s = strikeEach (b .0) (neighbours (s .graph) (b .0)) (started s)
 
--- questions 7 to 11 of a row's edit
-unfoldable pub changeNumber : Change → Graph → ℕ
-changeNumber (One k a b) G = editNumber k G (a .0) (b .0)
-changeNumber (StrikeAll b) G = firstNo ((ltb (b .0) (G .banks) else 4) ∷ [])
+-- questions 7 to 11 of a row's edit; of a K row 18 and question 7
+unfoldable pub changeNumber : Change → State → ℕ
+changeNumber (One e) s = entryNumber e s
+changeNumber (StrikeAll b) s = firstNo ((ltb (b .0) (s .graph .banks) else 4) ∷ [])
 
--- a later row: question 6, is it one of the three forms, then those of its edit
-unfoldable pub rowNumber : Row → Graph → ℕ
-rowNumber (Banks n) G = 11
-rowNumber (Edit c) G = changeNumber c G
-rowNumber Unreadable G = 11
+-- a later row: question 6, is it one of the four forms, then those of its edit or its rank
+unfoldable pub rowNumber : Row → State → ℕ
+rowNumber (Banks n) s = 11
+rowNumber (Edit c) s = changeNumber c s
+rowNumber Unreadable s = 11
 
 -- what a later row does
 unfoldable pub step : Row → State → State
@@ -65,7 +68,7 @@ passBy (suc c) i s rest = listResult (reading (suc c) i) (s .memory)
 -- the rows from number i on, by what they say
 unfoldable pub pass : ℕ → List Row → State → ListResult
 pass i [] s = listResult (reading 0 0) (s .memory)
-pass i (r ∷ rs) s = passBy (rowNumber r (s .graph)) i s (pass (suc i) rs (step r s))
+pass i (r ∷ rs) s = passBy (rowNumber r s) i s (pass (suc i) rs (step r s))
 
 -- by the number of questions 3 and 4: on to the later rows, or the refusal
 unfoldable pub beginBy : ℕ → ℕ → List Row → Memory → ListResult

@@ -1,50 +1,66 @@
-// The edit of one row.
+// The edit of one row, or its rank.
 use list_rows::Change;
 use memory::Tally;
 use planner::Answer;
 use planner::Edited;
+use planner::begun_by;
 use planner::clashes_held;
 use planner::edit_held;
+use planner::enter_held;
 use rule::Bank;
 use rule::Kind;
+ghost use mathlib.Core.Path.{_≡_};
 ghost use Rattle.memory.specs.Lent.{given, before, after};
-ghost use Rattle.list_rows.specs.declared.row.Change.the-variants.{StrikeAll};
-ghost use Rattle.list_reader.specs.inner.Steps.{Asks, Applies};
+ghost use Rattle.planner.specs.inner.Held.{HoldsPlan};
+ghost use Rattle.list_reader.specs.inner.Steps.{Asks, Applies, StrikesAll, changeBegun};
 
-// Makes the edit of one row. The answer is that of its last edit.
+// Whether an edit has come, once this row has: a D row counts even if it strikes nothing.
+pub fn begun_after(change: Change, begun: bool) -> bool
+    ensures { λ r. ⌜ r ≡ changeBegun change begun ⌝ }
+{
+    match change {
+        Change::One(entry) => begun_by(entry, begun),
+        Change::StrikeAll(_) => true,
+    }
+}
+
+// Makes the edit of one row or sets its rank. The answer is that of its last edit.
 pub fn apply(
     neighbours: &mut [u16],
     degrees: &mut [u16],
     waves: &mut [u16],
     counts: &mut [u16],
+    ranks: &mut [u16],
     trail: &mut [u16],
     moved: &mut [u16],
     tally: Tally,
+    begun: bool,
     change: Change,
 ) -> Edited
-    requires { ⌜ Asks (given neighbours degrees waves counts trail moved tally) ⌝ }
-    ensures { λ r. ⌜ Applies change
-        (before neighbours degrees waves counts trail moved tally) r
-        (after neighbours degrees waves counts trail moved (r .tally)) ⌝ }
+    requires { ⌜ Asks begun change (given neighbours degrees waves counts ranks trail moved tally) ⌝ }
+    ensures { λ r. ⌜ Applies change begun
+        (before neighbours degrees waves counts ranks trail moved tally) r
+        (after neighbours degrees waves counts ranks trail moved (r .tally)) ⌝ }
 {
     match change {
-        Change::One(kind, a, b) => edit_held(
-            kind,
+        Change::One(entry) => enter_held(
             neighbours,
             degrees,
             waves,
             counts,
+            ranks,
             trail,
             moved,
             tally,
-            a,
-            b,
+            begun,
+            entry,
         ),
         Change::StrikeAll(b) => strike_all(
             neighbours,
             degrees,
             waves,
             counts,
+            ranks,
             trail,
             moved,
             tally,
@@ -59,15 +75,16 @@ fn strike_all(
     degrees: &mut [u16],
     waves: &mut [u16],
     counts: &mut [u16],
+    ranks: &[u16],
     trail: &mut [u16],
     moved: &mut [u16],
     tally: Tally,
     b: Bank,
 ) -> Edited
-    requires { ⌜ Asks (given neighbours degrees waves counts trail moved tally) ⌝ }
-    ensures { λ r. ⌜ Applies (StrikeAll b)
-        (before neighbours degrees waves counts trail moved tally) r
-        (after neighbours degrees waves counts trail moved (r .tally)) ⌝ }
+    requires { ⌜ HoldsPlan (given neighbours degrees waves counts ranks trail moved tally) ⌝ }
+    ensures { λ r. ⌜ StrikesAll b
+        (before neighbours degrees waves counts ranks trail moved tally) r
+        (after neighbours degrees waves counts ranks trail moved (r .tally)) ⌝ }
 {
     if tally.banks <= b.0 {
         return Edited {
@@ -79,7 +96,7 @@ fn strike_all(
             tally: tally,
         };
     }
-    let row = clashes_held(neighbours, degrees, waves, counts, tally, b);
+    let row = clashes_held(neighbours, degrees, waves, counts, ranks, tally, b);
     let mut left = row.len();
     let mut last = Edited {
         answer: Answer {
@@ -91,7 +108,7 @@ fn strike_all(
     };
     while 0 < left {
         let held = last.tally;
-        let row = clashes_held(neighbours, degrees, waves, counts, held, b);
+        let row = clashes_held(neighbours, degrees, waves, counts, ranks, held, b);
         let lowest = Bank(row[0]);
         last = edit_held(
             Kind::Striking,
@@ -99,6 +116,7 @@ fn strike_all(
             degrees,
             waves,
             counts,
+            ranks,
             trail,
             moved,
             held,

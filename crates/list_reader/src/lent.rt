@@ -13,15 +13,26 @@ pub fn read_list(
     degrees: &mut [u16],
     waves: &mut [u16],
     counts: &mut [u16],
+    ranks: &mut [u16],
     trail: &mut [u16],
     moved: &mut [u16],
     tally: &mut Tally,
 ) -> Reading
-    ensures { λ r. ⌜ listResult r (after neighbours degrees waves counts trail moved (now (tally .exit)))
-        ≡ readList (now (list .entry)) (before neighbours degrees waves counts trail moved (now (tally .entry))) ⌝ }
+    ensures { λ r. ⌜ listResult r (after neighbours degrees waves counts ranks trail moved (now (tally .exit)))
+        ≡ readList (now (list .entry)) (before neighbours degrees waves counts ranks trail moved (now (tally .entry))) ⌝ }
 {
     let t = *tally;
-    let r = read_list_core(list, neighbours, degrees, waves, counts, trail, moved, t);
+    let r = read_list_core(
+        list,
+        neighbours,
+        degrees,
+        waves,
+        counts,
+        ranks,
+        trail,
+        moved,
+        t,
+    );
     *tally = r.tally;
     r.answer
 }

@@ -1,5 +1,6 @@
 // The pass over a list.
 use crate::change::apply;
+use crate::change::begun_after;
 use list_rows::Row;
 use list_rows::read_row;
 use memory::Tally;
@@ -26,11 +27,12 @@ pub struct Listed {
     pub tally: Tally,
 }
 
-// What a row leaves beside the slices: its number, which row it is, and where the next one starts.
+// What a row leaves beside the slices: its number, which row it is, where the next one starts, and whether an edit has come.
 pub struct Step {
     pub number: u16,
     pub row: u16,
     pub next: usize,
+    pub begun: bool,
     pub tally: Tally,
 }
 
@@ -42,12 +44,13 @@ pub fn read_list_core(
     degrees: &mut [u16],
     waves: &mut [u16],
     counts: &mut [u16],
+    ranks: &mut [u16],
     trail: &mut [u16],
     moved: &mut [u16],
     tally: Tally,
 ) -> Listed
-    ensures { λ r. ⌜ listResult (r .answer) (after neighbours degrees waves counts trail moved (r .tally))
-        ≡ readList (now (list .entry)) (before neighbours degrees waves counts trail moved tally) ⌝ }
+    ensures { λ r. ⌜ listResult (r .answer) (after neighbours degrees waves counts ranks trail moved (r .tally))
+        ≡ readList (now (list .entry)) (before neighbours degrees waves counts ranks trail moved tally) ⌝ }
 {
     if MOST_BYTES < list.len() {
         return Listed {
@@ -74,6 +77,7 @@ pub fn read_list_core(
         degrees,
         waves,
         counts,
+        ranks,
         trail,
         moved,
         tally,
@@ -89,20 +93,22 @@ fn begin(
     degrees: &mut [u16],
     waves: &mut [u16],
     counts: &mut [u16],
+    ranks: &mut [u16],
     trail: &mut [u16],
     moved: &mut [u16],
     tally: Tally,
 ) -> Listed
     requires { ⌜ AsksBegin (now list) next ⌝ }
     ensures { λ r. ⌜ Begins (now (list .entry)) next banks
-        (before neighbours degrees waves counts trail moved tally) r
-        (after neighbours degrees waves counts trail moved (r .tally)) ⌝ }
+        (before neighbours degrees waves counts ranks trail moved tally) r
+        (after neighbours degrees waves counts ranks trail moved (r .tally)) ⌝ }
 {
     let opened = open_all(
         neighbours,
         degrees,
         waves,
         counts,
+        ranks,
         trail,
         moved,
         banks,
@@ -125,6 +131,7 @@ fn begin(
         degrees,
         waves,
         counts,
+        ranks,
         trail,
         moved,
         after,
@@ -139,19 +146,21 @@ fn read_edits(
     degrees: &mut [u16],
     waves: &mut [u16],
     counts: &mut [u16],
+    ranks: &mut [u16],
     trail: &mut [u16],
     moved: &mut [u16],
     tally: Tally,
 ) -> Listed
-    requires { ⌜ AsksRows (now list) first (given neighbours degrees waves counts trail moved tally) ⌝ }
+    requires { ⌜ AsksRows (now list) first (given neighbours degrees waves counts ranks trail moved tally) ⌝ }
     ensures { λ r. ⌜ ReadsEdits (now (list .entry)) first
-        (before neighbours degrees waves counts trail moved tally) r
-        (after neighbours degrees waves counts trail moved (r .tally)) ⌝ }
+        (before neighbours degrees waves counts ranks trail moved tally) r
+        (after neighbours degrees waves counts ranks trail moved (r .tally)) ⌝ }
 {
     let mut last = Step {
         number: 0,
         row: FIRST_ROW,
         next: first,
+        begun: false,
         tally: tally,
     };
     while last.number == 0 && last.next < list.len() {
@@ -163,9 +172,11 @@ fn read_edits(
             degrees,
             waves,
             counts,
+            ranks,
             trail,
             moved,
             last.tally,
+            last.begun,
         );
     }
     let after = last.tally;
@@ -185,14 +196,16 @@ fn edit_row(
     degrees: &mut [u16],
     waves: &mut [u16],
     counts: &mut [u16],
+    ranks: &mut [u16],
     trail: &mut [u16],
     moved: &mut [u16],
     tally: Tally,
+    begun: bool,
 ) -> Step
-    requires { ⌜ AsksRow (now list) start (given neighbours degrees waves counts trail moved tally) ⌝ }
-    ensures { λ r. ⌜ EditsRow (now (list .entry)) start row
-        (before neighbours degrees waves counts trail moved tally) r
-        (after neighbours degrees waves counts trail moved (r .tally)) ⌝ }
+    requires { ⌜ AsksRow (now list) start begun (given neighbours degrees waves counts ranks trail moved tally) ⌝ }
+    ensures { λ r. ⌜ EditsRow (now (list .entry)) start row begun
+        (before neighbours degrees waves counts ranks trail moved tally) r
+        (after neighbours degrees waves counts ranks trail moved (r .tally)) ⌝ }
 {
     let end = find(list, start, b'\n');
     let next = end + 1;
@@ -201,6 +214,7 @@ fn edit_row(
             number: 11,
             row: row,
             next: next,
+            begun: begun,
             tally: tally,
         };
     };
@@ -209,17 +223,21 @@ fn edit_row(
         degrees,
         waves,
         counts,
+        ranks,
         trail,
         moved,
         tally,
+        begun,
         change,
     );
     let answer = done.answer;
     let after = done.tally;
+    let come = begun_after(change, begun);
     Step {
         number: answer.number,
         row: row,
         next: next,
+        begun: come,
         tally: after,
     }
 }

@@ -8,6 +8,7 @@ use lib.ListN.{length, getD, take, drop}
 use borrow.Author.Tests.{ne-eqb}
 use Rattle.rule.specs.Numbers.{bank}
 use Rattle.rule.specs.declared.Kind.the-variants.{Adding, Striking}
+use Rattle.rule.specs.declared.Entry.the-variants.{Clash, Rank}
 use Rattle.text.specs.declared.number.Number.{Number}
 use Rattle.text.specs.declared.number.Number.the-variants.{Value, Nothing}
 use Rattle.text.specs.Text.{onto, parts}
@@ -55,17 +56,22 @@ module _ (head : List ℕ) (n : Number) where
         unfolding threeParts isByte
         three-wide l = rw (e, f, ne-eqb (length head) 1 l)
 
-        pub three-add : length head ≡ 1 → getD head 0 0 ≡ 43 → Edit (One Adding (bank a) (bank b)) ≡ threeParts head n m
+        pub three-add : length head ≡ 1 → getD head 0 0 ≡ 43 → Edit (One (Clash Adding (bank a) (bank b))) ≡ threeParts head n m
         unfolding threeParts isByte
         three-add l z = rw (e, f, l, z)
 
-        pub three-strike : length head ≡ 1 → getD head 0 0 ≡ 45 → Edit (One Striking (bank a) (bank b)) ≡ threeParts head n m
+        pub three-strike : length head ≡ 1 → getD head 0 0 ≡ 45 → Edit (One (Clash Striking (bank a) (bank b))) ≡ threeParts head n m
         unfolding threeParts isByte
         three-strike l z = rw (e, f, l, z)
 
-        pub three-other : length head ≡ 1 → (getD head 0 0 ≡ 43 → ⊥) → (getD head 0 0 ≡ 45 → ⊥) → Unreadable ≡ threeParts head n m
+        pub three-rank : length head ≡ 1 → getD head 0 0 ≡ 75 → Edit (One (Rank (bank a) b)) ≡ threeParts head n m
         unfolding threeParts isByte
-        three-other l y z = rw (e, f, l, ne-eqb (getD head 0 0) 43 y, ne-eqb (getD head 0 0) 45 z)
+        three-rank l z = rw (e, f, l, z)
+
+        pub three-other : length head ≡ 1 → (getD head 0 0 ≡ 43 → ⊥) → (getD head 0 0 ≡ 45 → ⊥) → (getD head 0 0 ≡ 75 → ⊥)
+            → Unreadable ≡ threeParts head n m
+        unfolding threeParts isByte
+        three-other l x y z = rw (e, f, l, ne-eqb (getD head 0 0) 43 x, ne-eqb (getD head 0 0) 45 y, ne-eqb (getD head 0 0) 75 z)
 
 -- a row has some part
 some-part : (s : List ℕ) → (p : (List ℕ) × List (List ℕ)) × (parts s ≡ p .0 ∷ p .1)

@@ -1,4 +1,4 @@
--- What a row said before numbers could be padded: for the theorem that rows without padding read as they did.
+-- What a row says where no number can be padded, a K row too: for the theorem that rows without padding read as they did before padding.
 use mathlib.Core.Bool.{Bool, true, _&&_}
 use mathlib.Core.List.{List, [], _∷_}
 use Prim.Native.Nat.{ℕ}

@@ -1,5 +1,6 @@
 // The reader of a row.
 use rule::Bank;
+use rule::Entry;
 use rule::Kind;
 use text::Number;
 use text::find;
@@ -8,9 +9,9 @@ ghost use mathlib.Core.Path.{_≡_};
 ghost use Rattle.text.specs.Numbers.{number};
 ghost use Rattle.list_rows.specs.Rows.{twoParts, threeParts, rowOf};
 
-// The edit that a row asks for.
+// The edit that a row asks for: one entry, or all clashes of a bank struck.
 pub enum Change {
-    One(Kind, Bank, Bank),
+    One(Entry),
     StrikeAll(Bank),
 }
 
@@ -62,7 +63,7 @@ fn read_two_parts(head: &[u8], x: &[u8]) -> Row
     Row::Unreadable
 }
 
-// Reads `+ a b` and `- a b`.
+// Reads `+ a b`, `- a b` and `K b r`.
 fn read_three_parts(head: &[u8], x: &[u8], y: &[u8]) -> Row
     ensures { λ r. ⌜ r ≡ threeParts (now (head .entry)) (number (now (x .entry))) (number (now (y .entry))) ⌝ }
 {
@@ -77,10 +78,13 @@ fn read_three_parts(head: &[u8], x: &[u8], y: &[u8]) -> Row
     }
     let first = head[0];
     if first == b'+' {
-        return Row::Edit(Change::One(Kind::Adding, Bank(a), Bank(b)));
+        return Row::Edit(Change::One(Entry::Clash(Kind::Adding, Bank(a), Bank(b))));
     }
     if first == b'-' {
-        return Row::Edit(Change::One(Kind::Striking, Bank(a), Bank(b)));
+        return Row::Edit(Change::One(Entry::Clash(Kind::Striking, Bank(a), Bank(b))));
+    }
+    if first == b'K' {
+        return Row::Edit(Change::One(Entry::Rank(Bank(a), b)));
     }
     Row::Unreadable
 }

@@ -82,10 +82,11 @@ unfolding naming upto filter
 naming-none ns v = refl
 
 -- before the first row
-pub seen-start : {ns ds ws : List ℕ} {n : ℕ} → Rows ns ds n → WavesSmall ws n → Seen ns ds ws n 0 (replicate 1024 0) (replicate 24576 0)
-seen-start {ns} {ds} {ws} {n} rows waves = record {
+pub seen-start : {ns ds rs ws : List ℕ} {n : ℕ} → Rows ns ds n → n ≤ length rs → WavesSmall ws n → Seen ns ds rs ws n 0 (replicate 1024 0) (replicate 24576 0)
+seen-start {ns} {ds} {rs} {ws} {n} rows ranks waves = record {
   ground = record {
     rows = rows;
+    long-ranks = ranks;
     waves = waves;
     long-cursors = length-replicate {A = ℕ} 1024 0;
     long-cells = length-replicate {A = ℕ} 24576 0;
@@ -94,15 +95,15 @@ seen-start {ns} {ds} {ws} {n} rows waves = record {
   fronts = λ v l h. rw (none v h) (sym (naming-none ns v));
   met = λ x y h. absurd (omega arith);
   done = λ x h. absurd (omega arith);
-  begun = λ x l h. rw (none x h) (count-none ds ws x (part-of-zeros x (omega (arith, rows .most))));
+  begun = λ x l h. rw (none x h) (count-none ds rs ws x (part-of-zeros x (omega (arith, rows .most))));
 }
   where
     none : (v : ℕ) → v < n → getD (replicate {A = ℕ} 1024 0) v 0 ≡ 0
     none v h = getD-replicate {A = ℕ} 1024 v 0 0 (omega (arith, rows .most))
 
 -- before the first cell of the row of b that is not below its cursor
-pub walk-start : {ns ds ws cs cl : List ℕ} {n b i : ℕ} → Seen ns ds ws n b cs cl → b < n → i ≡ getD cs b 0 → Walk ns ds ws n b i cs cl
-walk-start {ns} {ds} {ws} {cs} {cl} {n} {b} {i} s h e = record {
+pub walk-start : {ns ds rs ws cs cl : List ℕ} {n b i : ℕ} → Seen ns ds rs ws n b cs cl → b < n → i ≡ getD cs b 0 → Walk ns ds rs ws n b i cs cl
+walk-start {ns} {ds} {rs} {ws} {cs} {cl} {n} {b} {i} s h e = record {
   ground = s .ground;
   bank = h;
   past = omega arith;
@@ -117,7 +118,7 @@ walk-start {ns} {ds} {ws} {cs} {cl} {n} {b} {i} s h e = record {
 }
 
 -- one cell of the row of b, which names v
-module _ {ns ds ws cs cl : List ℕ} {n b i : ℕ} (w : Walk ns ds ws n b i cs cl) (hi : i < getD ds b 0) where
+module _ {ns ds rs ws cs cl : List ℕ} {n b i : ℕ} (w : Walk ns ds rs ws n b i cs cl) (hi : i < getD ds b 0) where
   abbrev rows : Rows ns ds n
   rows = w .ground .rows
 
@@ -164,10 +165,11 @@ module _ {ns ds ws cs cl : List ℕ} {n b i : ℕ} (w : Walk ns ds ws n b i cs c
   wave-v : getD ws v 0 < 24
   wave-v = w .ground .waves .small v v-bank
 
-  pub pairable : Pairable ds ws b v
+  pub pairable : Pairable ds rs ws b v
   pairable = record {
     few = (omega (arith, w .bank, rows .most), v-cursor);
     long-degrees = (omega (arith, w .bank, rows .long-degrees), v-degree);
+    long-ranks = (omega (arith, w .bank, w .ground .long-ranks), omega (arith, v-bank, w .ground .long-ranks));
     long-waves = (omega (arith, w .bank, w .ground .waves .long), omega (arith, v-bank, w .ground .waves .long));
     small = (wave-b, wave-v);
   }
@@ -208,7 +210,7 @@ module _ {ns ds ws cs cl : List ℕ} {n b i : ℕ} (w : Walk ns ds ws n b i cs c
           let h : x < n = omega (arith, upto-below b x t, w .bank) in
           test-ext (memb v (row ns x)) (test x) (sm x v h v-bank) (sm v x v-bank h))
 
-      at-b : found test b (sm b v (w .bank) v-bank in-r) (neighbours (inRows n ns) v)
+      at-b : found test b (sm b v (w .bank) v-bank in-r) (neighbours (inRows n ns rs) v)
       unfolding neighbours
       at-b = place test b (sm b v (w .bank) v-bank in-r) n (w .bank)
 
@@ -216,25 +218,25 @@ module _ {ns ds ws cs cl : List ℕ} {n b i : ℕ} (w : Walk ns ds ws n b i cs c
       cursor-is = cursor-v ∙ ap length naming-is
 
       pub not-past : getD cs v 0 < getD ds v 0
-      not-past = omega (arith, cursor-is, at-b .0, degree-is rows v v-bank, degree-length (inRows n ns) v)
+      not-past = omega (arith, cursor-is, at-b .0, degree-is rows v v-bank rs, degree-length (inRows n ns rs) v)
 
       pub not-other : getD ns (v * 23 + getD cs v 0) 0 ≡ b
       not-other =
           let k : getD cs v 0 < 23 = omega (arith, not-past, v-few) in
-          sym (group-at 23 ns v (getD cs v 0) k) ∙ cells-are rows v v-bank (getD cs v 0) k
-          ∙ getD-any (neighbours (inRows n ns) v) (getD cs v 0) 65535 0 (omega (arith, cursor-is, at-b .0))
-          ∙ ap (λ (z : ℕ). getD (neighbours (inRows n ns) v) z 0) cursor-is ∙ at-b .1
+          sym (group-at 23 ns v (getD cs v 0) k) ∙ cells-are rows v v-bank rs (getD cs v 0) k
+          ∙ getD-any (neighbours (inRows n ns rs) v) (getD cs v 0) 65535 0 (omega (arith, cursor-is, at-b .0))
+          ∙ ap (λ (z : ℕ). getD (neighbours (inRows n ns rs) v) z 0) cursor-is ∙ at-b .1
 
     -- the row of v has b at its cursor
     module _ (less : getD cs v 0 < getD ds v 0) where
-      count-b : Countable ns ds ws n b
-      count-b = rows-countable rows (w .ground .waves) (w .bank)
+      count-b : Countable ns ds rs ws n b
+      count-b = rows-countable rows (w .ground .long-ranks) (w .ground .waves) (w .bank)
 
-      count-v : Countable ns ds ws n v
-      count-v = rows-countable rows (w .ground .waves) v-bank
+      count-v : Countable ns ds rs ws n v
+      count-v = rows-countable rows (w .ground .long-ranks) (w .ground .waves) v-bank
 
-      pub cell-room : {cell : ℕ} → cell ≡ pairCell ds ws b v → (cell < 24576) × (getD cl cell 0 < 24)
-      cell-room e = rw e (go (byCells ds b v))
+      pub cell-room : {cell : ℕ} → cell ≡ pairCell ds rs ws b v → (cell < 24576) × (getD cl cell 0 < 24)
+      cell-room e = rw e (go (byCells ds rs b v))
         where
           go : (t : Bool) → (cond t (v * 24 + getD ws b 0) (b * 24 + getD ws v 0) < 24576) × (getD cl (cond t (v * 24 + getD ws b 0) (b * 24 + getD ws v 0)) 0 < 24)
           go true = (
@@ -301,36 +303,37 @@ module _ {ns ds ws cs cl : List ℕ} {n b i : ℕ} (w : Walk ns ds ws n b i cs c
         met-more j g (inr l) = w .here j g l
 
         -- the counts
-        untouched : (t : Bool) (x k : ℕ) → x < n → x ≢ b → x ≢ v → PartTo ns ds ws cl x k → PartTo ns ds ws (cl′ t) x k
+        untouched : (t : Bool) (x k : ℕ) → x < n → x ≢ b → x ≢ v → PartTo ns ds rs ws cl x k → PartTo ns ds rs ws (cl′ t) x k
         untouched true x k h p q tl = rw (part-same cl x v (getD ws b 0) (w .ground .long-cells) (omega (arith, rows .most)) wave-b q) tl
         untouched false x k h p q tl = rw (part-same cl x b (getD ws v 0) (w .ground .long-cells) (omega (arith, rows .most)) wave-v p) tl
 
-        half : (t : Bool) → byCells ds b v ≡ t → PartTo ns ds ws (cl′ t) b (i + 1)
+        half : (t : Bool) → byCells ds rs b v ≡ t → PartTo ns ds rs ws (cl′ t) b (i + 1)
         half true e =
             rw (part-same cl b v (getD ws b 0) (w .ground .long-cells) (omega (arith, w .bank, rows .most)) wave-b (λ q. apart (sym q)))
-            (skipped count-b hi (w .half) (cells-flip ds v b apart ∙ ap not e))
+            (skipped count-b hi (w .half) (cells-flip ds rs v b apart ∙ ap not e))
         half false e =
             rw (part-grown cl b (getD ws v 0) (w .ground .long-cells) (omega (arith, w .bank, rows .most)) wave-v)
-            (counted count-b hi (w .half) (cells-flip ds v b apart ∙ ap not e) refl)
+            (counted count-b hi (w .half) (cells-flip ds rs v b apart ∙ ap not e) refl)
 
-        whole : (t : Bool) → byCells ds b v ≡ t → PartTo ns ds ws (cl′ t) v (getD cs v 0 + 1)
+        whole : (t : Bool) → byCells ds rs b v ≡ t → PartTo ns ds rs ws (cl′ t) v (getD cs v 0 + 1)
         whole true e =
             rw (part-grown cl v (getD ws b 0) (w .ground .long-cells) v-cursor wave-b)
-            (counted count-v less (w .begun v lt v-bank) (ap (λ (k : ℕ). byCells ds k v) there ∙ e) (ap (λ (k : ℕ). getD ws k 0) (sym there)))
+            (counted count-v less (w .begun v lt v-bank) (ap (λ (k : ℕ). byCells ds rs k v) there ∙ e) (ap (λ (k : ℕ). getD ws k 0) (sym there)))
         whole false e =
             rw (part-same cl v b (getD ws v 0) (w .ground .long-cells) v-cursor wave-v apart)
-            (skipped count-v less (w .begun v lt v-bank) (ap (λ (k : ℕ). byCells ds k v) there ∙ e))
+            (skipped count-v less (w .begun v lt v-bank) (ap (λ (k : ℕ). byCells ds rs k v) there ∙ e))
 
-        begun : (t : Bool) → byCells ds b v ≡ t → (x : ℕ) → b < x → x < n → Dec (x ≡ v) → PartTo ns ds ws (cl′ t) x (getD cs′ x 0)
+        begun : (t : Bool) → byCells ds rs b v ≡ t → (x : ℕ) → b < x → x < n → Dec (x ≡ v) → PartTo ns ds rs ws (cl′ t) x (getD cs′ x 0)
         begun t e x l h (yes q) = rw (q, cursor-more) (whole t e)
         begun t e x l h (no q) = rw (cursor-same x q) (untouched t x (getD cs x 0) h (λ p. omega arith) q (w .begun x l h))
 
-        walk-on : (t : Bool) → byCells ds b v ≡ t → Walk ns ds ws n b (i + 1) cs′ (cl′ t)
+        walk-on : (t : Bool) → byCells ds rs b v ≡ t → Walk ns ds rs ws n b (i + 1) cs′ (cl′ t)
         walk-on t e =
             let same : getD cs′ b 0 ≡ getD cs b 0 = cursor-same b (λ q. apart (sym q)) in
             record {
               ground = record {
                 rows = rows;
+                long-ranks = w .ground .long-ranks;
                 waves = w .ground .waves;
                 long-cursors = length-set cs v (getD cs v 0 + 1) ∙ w .ground .long-cursors;
                 long-cells = length-set cl _ _ ∙ w .ground .long-cells;
@@ -348,12 +351,12 @@ module _ {ns ds ws cs cl : List ℕ} {n b i : ℕ} (w : Walk ns ds ws n b i cs c
             }
 
         -- as the code has it: `to` is v as an index
-        pub walk-step : {to cell : ℕ} → to ≡ v → cell ≡ pairCell ds ws b v → Walk ns ds ws n b (i + 1) (set cs to (getD cs to 0 + 1)) (grown cl cell)
-        walk-step p q = rw (p, q) (walk-on (byCells ds b v) refl)
+        pub walk-step : {to cell : ℕ} → to ≡ v → cell ≡ pairCell ds rs ws b v → Walk ns ds rs ws n b (i + 1) (set cs to (getD cs to 0 + 1)) (grown cl cell)
+        walk-step p q = rw (p, q) (walk-on (byCells ds rs b v) refl)
 
 -- after the last cell of the row
-pub walk-end : {ns ds ws cs cl : List ℕ} {n b : ℕ} → Walk ns ds ws n b (getD ds b 0) cs cl → Seen ns ds ws n (b + 1) cs cl
-walk-end {ns} {ds} {ws} {cs} {cl} {n} {b} w = record {
+pub walk-end : {ns ds rs ws cs cl : List ℕ} {n b : ℕ} → Walk ns ds rs ws n b (getD ds b 0) cs cl → Seen ns ds rs ws n (b + 1) cs cl
+walk-end {ns} {ds} {rs} {ws} {cs} {cl} {n} {b} w = record {
   ground = w .ground;
   fronts = λ v l h. w .fronts v (omega arith) h ∙ ap (with-b ns b v) (members v h) ∙ naming-next ns b v;
   met = λ x y h hy m. let k : x ≤ b = omega arith in go x y hy m (eq-or-lt-of-le k);
@@ -388,7 +391,7 @@ walk-end {ns} {ds} {ws} {cs} {cl} {n} {b} w = record {
     go x y hy m (inl e) = rw e (here y hy (subst (λ (k : ℕ). T (memb y (row ns k))) e m))
     go x y hy m (inr l) = w .met x y l hy m
 
-    all : (x : ℕ) → (x ≡ b) ⊎ (x < b) → PartTo ns ds ws cl x (getD ds x 0)
+    all : (x : ℕ) → (x ≡ b) ⊎ (x < b) → PartTo ns ds rs ws cl x (getD ds x 0)
     all x (inl e) = rw e (w .half)
     all x (inr l) = w .done x l
 
@@ -400,11 +403,11 @@ part-along {p} {f} {g} {w} e l r = record {
 }
 
 -- after the last row: what tests Counts by the cells tests it by the counts
-module _ {ns ds ws cs cl : List ℕ} {n b : ℕ} (l : n ≤ b) (s : Seen ns ds ws n b cs cl) where
-  cell-is : (x c : ℕ) → x < n → c < 24 → getD (part cl x) c 0 ≡ countsOf ns ds ws x c
+module _ {ns ds rs ws cs cl : List ℕ} {n b : ℕ} (l : n ≤ b) (s : Seen ns ds rs ws n b cs cl) where
+  cell-is : (x c : ℕ) → x < n → c < 24 → getD (part cl x) c 0 ≡ countsOf ns ds rs ws x c
   cell-is x c h k = s .done x (omega arith) .counts c k
 
-  pub seen-end : (counts : List ℕ) (r : Bool) → Says (CellsRight ws cl counts n) r → Says (Symmetric ns n × CountsRight ns ds ws counts n) r
+  pub seen-end : (counts : List ℕ) (r : Bool) → Says (CellsRight ws cl counts n) r → Says (Symmetric ns n × CountsRight ns ds rs ws counts n) r
   seen-end counts true t = (λ x y hx hy m. s .met x y (omega arith) hy m, λ x h. part-along (λ c k. cell-is x c h k) (s .ground .waves .small x h) (t x h))
   seen-end counts false t = λ p. t (λ x h. part-along (λ c k. sym (cell-is x c h k)) (s .ground .waves .small x h) (p .1 x h))
 

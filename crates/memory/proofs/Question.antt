@@ -3,15 +3,17 @@ use mathlib.Core.Bool.{Bool, true, false, _&&_, _||_, not}
 use mathlib.Core.Logic.{inl, inr}
 use mathlib.Core.Path.{_≡_, refl, ap}
 use Prim.Native.Nat.{ℕ, _≤_, _<_}
-use lib.Dec.{T, eqb, eqb→eq, not-T, T-not}
+use native.Mathlib.Omega.{arith}
+use lib.Dec.{T, eqb, ltb, eqb→eq, ltb→lt, lt→ltb, not-T, T-not}
 use Rattle.rule.specs.Lists.{upto, some}
-use Rattle.rule.specs.Graph.{Graph}
+use Rattle.rule.specs.Graph.{Graph, Same}
 use Rattle.rule.specs.Wave.{waves, waveCount}
-use Rattle.rule.proofs.Booleans.{and-l, and-r, both, or-l, or-r, or-cases, stable, test-ext, T-along, eq→eqb}
+use Rattle.rule.proofs.Booleans.{and-l, and-r, both, or-l, or-r, or-cases, stable, test-ext, T-along, eq→eqb, lt-or-ge}
 use Rattle.rule.proofs.Lists.{in-upto, upto-below, some-in, in-some}
 use Rattle.memory.specs.declared.Tally.{Tally}
 use Rattle.memory.specs.Cells.{starts}
-use Rattle.memory.specs.Plan.{Slices, longEnough, neighbourCells, degreeCells, countCells, clashCount, tallyOf, graphIn, proper, holds, PlanOf}
+use Rattle.memory.specs.Plan.{Slices, longEnough, neighbourCells, degreeCells, countCells, rankCells, clashCount, tallyOf, graphIn, proper, lowRanks, holds}
+use Rattle.memory.specs.Plan.{PlanOf}
 use Rattle.memory.specs.inner.Test.{Tested}
 use Rattle.memory.proofs.Cells.{starts-over, over-starts}
 use Rattle.memory.proofs.Plans.{long, long-enough}
@@ -24,6 +26,9 @@ use Rattle.memory.proofs.Tested.{tested-plan, plan-tested}
 module _ (G : Graph) where
   abbrev wrong : ℕ → Bool
   wrong x = G .clash x x || some (λ y. G .clash x y && not (G .clash y x)) (upto (G .banks))
+
+  abbrev high : ℕ → Bool
+  high x = ltb 9999 (G .rank x)
 
   proper-apart : T (proper G) → (x : ℕ) → x < G .banks → T (G .clash x x) → ⊥
   unfolding proper
@@ -51,9 +56,25 @@ module _ (G : Graph) where
             (T-along (symmetric (r .0) (q .0) h (upto-below (G .banks) (q .0) (q .1))) (and-l (G .clash (r .0) (q .0)) _ (q .2)))
       ])
 
+  are-low : T (lowRanks G) → (x : ℕ) → x < G .banks → G .rank x ≤ 9999
+  unfolding lowRanks
+  are-low t x h =
+      elim (lt-or-ge 9999 (G .rank x)) [
+        | inl l ↦ absurd (T-not (some high (upto (G .banks))) t (some-in high (upto (G .banks)) x (in-upto (G .banks) x h) (lt→ltb 9999 (G .rank x) l)))
+        | inr g ↦ g
+      ]
+
+  is-low : ((x : ℕ) → x < G .banks → G .rank x ≤ 9999) → T (lowRanks G)
+  unfolding lowRanks
+  is-low low =
+      not-T (some high (upto (G .banks))) (λ u.
+      let r = in-some high (upto (G .banks)) u in
+      omega (arith, low (r .0) (upto-below (G .banks) (r .0) (r .1)), ltb→lt 9999 (G .rank (r .0)) (r .2)))
+
 -- the parts of `holds`
 record Parts (s : Slices) (t : Tally) (G : Graph) : Type 0 where
   isProper : T (proper G)
+  isLow : T (lowRanks G)
   fronts : AtFronts G s
   clashes : t .clashes ≡ clashCount G
   most : t .waves ≡ waveCount G
@@ -62,42 +83,50 @@ module _ (s : Slices) (t : Tally) where
   abbrev all : Graph → Bool
   all G =
       proper G
+      && (lowRanks G
       && (starts (neighbourCells G) (s .neighbours)
       && (starts (degreeCells G) (s .degrees)
       && (starts (waves G) (s .waves)
       && (starts (countCells G) (s .counts)
-      && (eqb (t .clashes) (clashCount G) && eqb (t .waves) (waveCount G))))))
+      && (starts (rankCells G) (s .ranks)
+      && (eqb (t .clashes) (clashCount G) && eqb (t .waves) (waveCount G))))))))
 
   apart : (G : Graph) → T (all G) → Parts s t G
   apart G h =
-      let h₁ = and-r (proper G) _ h in
+      let h₀ = and-r (proper G) _ h in
+      let h₁ = and-r (lowRanks G) _ h₀ in
       let h₂ = and-r (starts (neighbourCells G) (s .neighbours)) _ h₁ in
       let h₃ = and-r (starts (degreeCells G) (s .degrees)) _ h₂ in
       let h₄ = and-r (starts (waves G) (s .waves)) _ h₃ in
       let h₅ = and-r (starts (countCells G) (s .counts)) _ h₄ in
+      let h₆ = and-r (starts (rankCells G) (s .ranks)) _ h₅ in
       record {
         isProper = and-l (proper G) _ h;
+        isLow = and-l (lowRanks G) _ h₀;
         fronts = record {
           rows = starts-over (neighbourCells G) (s .neighbours) (and-l (starts (neighbourCells G) (s .neighbours)) _ h₁);
           degrees = starts-over (degreeCells G) (s .degrees) (and-l (starts (degreeCells G) (s .degrees)) _ h₂);
           waves-are = starts-over (waves G) (s .waves) (and-l (starts (waves G) (s .waves)) _ h₃);
           counts = starts-over (countCells G) (s .counts) (and-l (starts (countCells G) (s .counts)) _ h₄);
+          ranks = starts-over (rankCells G) (s .ranks) (and-l (starts (rankCells G) (s .ranks)) _ h₅);
         };
-        clashes = eqb→eq (t .clashes) (clashCount G) (and-l (eqb (t .clashes) (clashCount G)) _ h₅);
-        most = eqb→eq (t .waves) (waveCount G) (and-r (eqb (t .clashes) (clashCount G)) _ h₅);
+        clashes = eqb→eq (t .clashes) (clashCount G) (and-l (eqb (t .clashes) (clashCount G)) _ h₆);
+        most = eqb→eq (t .waves) (waveCount G) (and-r (eqb (t .clashes) (clashCount G)) _ h₆);
       }
 
   together : (G : Graph) → Parts s t G → T (all G)
   together G p =
       both (proper G) _ (p .isProper)
+      (both (lowRanks G) _ (p .isLow)
       (both (starts (neighbourCells G) (s .neighbours)) _ (over-starts (neighbourCells G) (s .neighbours) (p .fronts .rows))
       (both (starts (degreeCells G) (s .degrees)) _ (over-starts (degreeCells G) (s .degrees) (p .fronts .degrees))
       (both (starts (waves G) (s .waves)) _ (over-starts (waves G) (s .waves) (p .fronts .waves-are))
       (both (starts (countCells G) (s .counts)) _ (over-starts (countCells G) (s .counts) (p .fronts .counts))
-      (both (eqb (t .clashes) (clashCount G)) _ (eq→eqb (t .clashes) (clashCount G) (p .clashes)) (eq→eqb (t .waves) (waveCount G) (p .most)))))))
+      (both (starts (rankCells G) (s .ranks)) _ (over-starts (rankCells G) (s .ranks) (p .fronts .ranks))
+      (both (eqb (t .clashes) (clashCount G)) _ (eq→eqb (t .clashes) (clashCount G) (p .clashes)) (eq→eqb (t .waves) (waveCount G) (p .most)))))))))
 
   abbrev K : Graph
-  K = inRows (t .banks) (s .neighbours)
+  K = inRows (t .banks) (s .neighbours) (s .ranks)
 
   own-plan : t .banks ≤ 1024 → T (holds s t) → PlanOf K s t
   unfolding holds graphIn tallyOf
@@ -108,7 +137,8 @@ module _ (s : Slices) (t : Tally) where
           most = few;
           symmetric = λ x y hx hy. test-ext (K .clash x y) (K .clash y x) (proper-back K (p .isProper) x y hx hy) (proper-back K (p .isProper) y x hy hx);
           apart = proper-apart K (p .isProper);
-          few = λ x l. few-named (t .banks) (s .neighbours) x;
+          few = λ x l. few-named (t .banks) (s .neighbours) (s .ranks) x;
+          ranks = are-low K (p .isLow);
         };
         long = long-enough (t .banks) s (fronts-long (p .fronts));
         cells = of-fronts (p .fronts);
@@ -119,6 +149,7 @@ module _ (s : Slices) (t : Tally) where
   unfolding holds graphIn tallyOf
   own-holds p = together K (record {
     isProper = is-proper K (p .clashes .apart) (p .clashes .symmetric);
+    isLow = is-low K (p .clashes .ranks);
     fronts = fronts-of (p .cells);
     clashes = ap (λ (u : Tally). u .clashes) (p .tally);
     most = ap (λ (u : Tally). u .waves) (p .tally);
@@ -135,9 +166,14 @@ module _ (s : Slices) (t : Tally) where
     unfolding graphIn
     rows-give-clashes x y hx hy = row-names (held-of G s t p .rowed) x hx y hy
 
+    -- so memory holds the plan of no other clashes and ranks
+    pub cells-give : Same (graphIn (t .banks) s) G
+    unfolding graphIn
+    cells-give = record { banks = tally-banks t G (p .tally); clash = rows-give-clashes; rank = λ x h. held-of G s t p .ranked .cells x h }
+
     pub plan-holds : T (holds s t)
     unfolding graphIn
-    plan-holds = own-holds (plan-agree K G (tally-banks t G (p .tally)) rows-give-clashes s t p)
+    plan-holds = own-holds (plan-agree cells-give s t p)
 
   -- the answer of the test
   module _ (few : t .banks ≤ 1024) (room : longEnough (t .banks) s ≡ true) where

@@ -35,14 +35,14 @@ module _ (w : ℕ) (xs : List ℕ) (b : ℕ) where
   pub group-lent : take (b * w + w - b * w) (drop (b * w) xs) ≡ take w (drop (w * b) xs)
   group-lent = ap₂ (λ (m k : ℕ). take m (drop k xs)) (add-sub-cancel-left (b * w) w) (mul-comm b w)
 
--- the clashes that the rows of n banks name: `graphIn`, opened
-abbrev pub inRows : ℕ → List ℕ → Graph
-inRows n ns = record { banks = n; clash = λ x y. memb y (row ns x) }
+-- the clashes that the rows of n banks name, and the ranks: `graphIn`, opened
+abbrev pub inRows : ℕ → List ℕ → List ℕ → Graph
+inRows n ns rs = record { banks = n; clash = λ x y. memb y (row ns x); rank = λ x. getD rs x 0 }
 
 -- a row has 23 cells, so no bank has more neighbours
-pub few-named : (n : ℕ) (ns : List ℕ) (b : ℕ) → degree (inRows n ns) b ≤ 23
-few-named n ns b =
-    let K = inRows n ns in
+pub few-named : (n : ℕ) (ns rs : List ℕ) (b : ℕ) → degree (inRows n ns rs) b ≤ 23
+few-named n ns rs b =
+    let K = inRows n ns rs in
     omega (
       arith,
       degree-length K b,
@@ -57,7 +57,7 @@ module _ {ns ds : List ℕ} {n : ℕ} (rows : Rows ns ds n) (b : ℕ) (hb : b < 
   abbrev d : ℕ
   d = getD ds b 0
 
-  abbrev K : Graph
+  abbrev K : List ℕ → Graph
   K = inRows n ns
 
   right : RowRight r d n b
@@ -98,21 +98,21 @@ module _ {ns ds : List ℕ} {n : ℕ} (rows : Rows ns ds n) (b : ℕ) (hb : b < 
   pub filled-members : (y : ℕ) → y < n → memb y (take d r) ≡ memb y r
   filled-members y h = test-ext (memb y (take d r)) (memb y r) (in-take d r y) (in-filled y h)
 
-  filled-is : take d r ≡ neighbours K b
-  filled-is =
-      sorted-unique ltb ltb-strict (take d r) (neighbours K b) sorted-filled (neighbours-sorted K b) (λ y.
-      test-ext (memb y (take d r)) (memb y (neighbours K b))
-      (λ m. in-neighbours K b y (filled-bank y m) (in-take d r y m))
-      (λ m. let p = neighbours-in K b y m in in-filled y (p .0) (p .1)))
+  filled-is : (rs : List ℕ) → take d r ≡ neighbours (K rs) b
+  filled-is rs =
+      sorted-unique ltb ltb-strict (take d r) (neighbours (K rs) b) sorted-filled (neighbours-sorted (K rs) b) (λ y.
+      test-ext (memb y (take d r)) (memb y (neighbours (K rs) b))
+      (λ m. in-neighbours (K rs) b y (filled-bank y m) (in-take d r y m))
+      (λ m. let p = neighbours-in (K rs) b y m in in-filled y (p .0) (p .1)))
 
-  pub degree-is : d ≡ degree K b
-  degree-is = sym length-filled ∙ ap length filled-is ∙ sym (degree-length K b)
+  pub degree-is : (rs : List ℕ) → d ≡ degree (K rs) b
+  degree-is rs = sym length-filled ∙ ap length (filled-is rs) ∙ sym (degree-length (K rs) b)
 
-  pub cells-are : (i : ℕ) → i < 23 → getD r i 0 ≡ getD (neighbours K b) i 65535
-  cells-are i h =
+  pub cells-are : (rs : List ℕ) (i : ℕ) → i < 23 → getD r i 0 ≡ getD (neighbours (K rs) b) i 65535
+  cells-are rs i h =
       elim (lt-or-ge i d) [
-        | inl l ↦ sym (getD-take d r i 0 l) ∙ getD-any (take d r) i 0 65535 (omega (arith, length-filled)) ∙ ap (λ (l : List ℕ). getD l i 65535) filled-is
-        | inr g ↦ right .rest i h g ∙ sym (List·getD-eq-default (neighbours K b) 65535 {n = i} (omega (arith, degree-is, degree-length K b)))
+        | inl l ↦ sym (getD-take d r i 0 l) ∙ getD-any (take d r) i 0 65535 (omega (arith, length-filled)) ∙ ap (λ (l : List ℕ). getD l i 65535) (filled-is rs)
+        | inr g ↦ right .rest i h g ∙ sym (List·getD-eq-default (neighbours (K rs) b) 65535 {n = i} (omega (arith, degree-is rs, degree-length (K rs) b)))
       ]
 
   pub not-itself : T (memb b r) → ⊥
@@ -122,27 +122,28 @@ module _ {ns ds : List ℕ} {n : ℕ} (rows : Rows ns ds n) (b : ℕ) (hb : b < 
       right .named (p .0) k .other (sym (getD-take d r (p .0) 0 k) ∙ p .2)
 
 -- so rows that are right show the clashes that they name, if these go both ways
-pub rowed : {ns ds : List ℕ} {n : ℕ} → Rows ns ds n → ((x y : ℕ) → x < n → y < n → memb y (row ns x) ≡ memb x (row ns y)) → Rowed (inRows n ns) ns ds
-rowed {ns} {ds} {n} rows symmetric = record {
+pub rowed : {ns ds : List ℕ} (rs : List ℕ) {n : ℕ} → Rows ns ds n → ((x y : ℕ) → x < n → y < n → memb y (row ns x) ≡ memb x (row ns y)) → Rowed (inRows n ns rs) ns ds
+rowed {ns} {ds} rs {n} rows symmetric = record {
   few = rows .most;
   wide-rows = omega (arith, rows .long-neighbours);
   wide-degrees = rows .long-degrees;
-  degrees = λ b h. degree-is rows b h;
-  small = λ b h. few-named n ns b;
-  rows = λ b i h k. sym (group-at 23 ns b i k) ∙ cells-are rows b h i k;
+  degrees = λ b h. degree-is rows b h rs;
+  small = λ b h. few-named n ns rs b;
+  rows = λ b i h k. sym (group-at 23 ns b i k) ∙ cells-are rows b h rs i k;
   symmetric = symmetric;
   apart = λ x h. not-itself rows x h;
 }
 
 -- and let each bank be counted
-pub rows-countable : {ns ds ws : List ℕ} {n b : ℕ} → Rows ns ds n → WavesSmall ws n → b < n → Countable ns ds ws n b
-rows-countable {ns} {ds} {ws} {n} {b} rows waves h =
+pub rows-countable : {ns ds rs ws : List ℕ} {n b : ℕ} → Rows ns ds n → n ≤ length rs → WavesSmall ws n → b < n → Countable ns ds rs ws n b
+rows-countable {ns} {ds} {rs} {ws} {n} {b} rows ranks waves h =
     let right = rows .right b h in
     record {
       most = rows .most;
       bank = h;
       long-neighbours = omega (arith, rows .long-neighbours);
       long-degrees = rows .long-degrees;
+      long-ranks = ranks;
       long-waves = waves .long;
       few = right .few;
       named = λ i l. rw (sym (group-at 23 ns b i (omega (arith, right .few)))) (right .named i l .bank);

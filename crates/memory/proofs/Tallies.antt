@@ -15,7 +15,7 @@ use Rattle.rule.proofs.Lists.{filter-cong, filter-short, filter-kept, filter-le
 use Rattle.rule.proofs.Neighbours.{degree-length, neighbours-in, earlier-ones}
 use Rattle.rule.proofs.Order.{strict-flip, keyed-strict}
 use Rattle.memory.specs.inner.Counts.{byCells, standing, countIn, Countable, Tallied}
-use Rattle.memory.specs.inner.View.{Shown, Rowed}
+use Rattle.memory.specs.inner.View.{Ranked, Shown, Rowed}
 use Rattle.memory.specs.inner.Test.{part, countsOf}
 use Rattle.memory.specs.inner.Walk.{grown}
 use Rattle.memory.proofs.Fronts.{take-next, getD-any, in-cell}
@@ -30,12 +30,12 @@ cleared row i l h k s = go (ℕ-discrete k i)
     go (yes e) = rw e (getD-set-same row i 0 0 l)
     go (no d) = getD-set-other row i k 0 0 d ∙ h k (omega arith)
 
-pub count-none : {row : List ℕ} (ds ws : List ℕ) (b : ℕ) → Tallied row (λ c. 0) → Tallied row (countIn ds ws b [])
+pub count-none : {row : List ℕ} (ds rs ws : List ℕ) (b : ℕ) → Tallied row (λ c. 0) → Tallied row (countIn ds rs ws b [])
 unfolding standing filter
-count-none ds ws b t = record { long = t .long; counts = t .counts }
+count-none ds rs ws b t = record { long = t .long; counts = t .counts }
 
 -- the bank v in cell i of b's row
-module _ {ns ds ws : List ℕ} {n b i : ℕ} (ct : Countable ns ds ws n b) (lt : i < getD ds b 0) where
+module _ {ns ds rs ws : List ℕ} {n b i : ℕ} (ct : Countable ns ds rs ws n b) (lt : i < getD ds b 0) where
   abbrev xs : List ℕ
   xs = drop (b * 23) ns
 
@@ -54,9 +54,9 @@ module _ {ns ds ws : List ℕ} {n b i : ℕ} (ct : Countable ns ds ws n b) (lt :
   next : take (i + 1) xs ≡ take i xs ++ (v ∷ [])
   next = take-next i xs (omega (arith, length-drop (b * 23) ns, in-row)) ∙ ap (λ (k : ℕ). take i xs ++ (k ∷ [])) (getD-drop (b * 23) ns i 0)
 
-  module _ {row : List ℕ} (tl : Tallied row (countIn ds ws b (take i xs))) where
+  module _ {row : List ℕ} (tl : Tallied row (countIn ds rs ws b (take i xs))) where
     abbrev sooner : ℕ → Bool
-    sooner u = byCells ds u b
+    sooner u = byCells ds rs u b
 
     abbrev wave-of : ℕ → ℕ
     wave-of u = getD ws u 0
@@ -65,13 +65,13 @@ module _ {ns ds ws : List ℕ} {n b i : ℕ} (ct : Countable ns ds ws n b) (lt :
     count-few c h =
         omega (arith, tl .counts c h, standing-le wave-of c (filter sooner (take i xs)), filter-short sooner (take i xs), length-take i xs, ct .few)
 
-    pub skipped : byCells ds v b ≡ false → Tallied row (countIn ds ws b (take (i + 1) xs))
+    pub skipped : byCells ds rs v b ≡ false → Tallied row (countIn ds rs ws b (take (i + 1) xs))
     skipped e = record {
       long = tl .long;
       counts = λ c h. tl .counts c h ∙ ap (standing wave-of c) (sym (ap (filter sooner) next ∙ filter-left sooner (take i xs) v (λ t. T-along e t)));
     }
 
-    pub counted : byCells ds v b ≡ true → {w : ℕ} → w ≡ getD ws v 0 → Tallied (set row w (getD row w 0 + 1)) (countIn ds ws b (take (i + 1) xs))
+    pub counted : byCells ds rs v b ≡ true → {w : ℕ} → w ≡ getD ws v 0 → Tallied (set row w (getD row w 0 + 1)) (countIn ds rs ws b (take (i + 1) xs))
     counted e {w} is = record {
       long = length-set row w (getD row w 0 + 1) ∙ tl .long;
       counts = λ c h. cell c h (ℕ-discrete c w) ∙ ap (standing wave-of c) (sym (ap (filter sooner) next ∙ filter-kept sooner (take i xs) v (T-along (sym e) tt)));
@@ -96,9 +96,9 @@ module _ {ns ds ws : List ℕ} {n b i : ℕ} (ct : Countable ns ds ws n b) (lt :
             )
 
 -- of two banks, one is earlier
-pub cells-flip : (ds : List ℕ) (p q : ℕ) → p ≢ q → byCells ds p q ≡ not (byCells ds q p)
+pub cells-flip : (ds rs : List ℕ) (p q : ℕ) → p ≢ q → byCells ds rs p q ≡ not (byCells ds rs q p)
 unfolding byCells
-cells-flip ds = strict-flip (byCells ds) (keyed-strict (λ x. getD ds x 0))
+cells-flip ds rs = strict-flip (byCells ds rs) (keyed-strict (λ x. getD ds x 0) (λ x. getD rs x 0))
 
 -- the parts of cells that count for every bank
 long-part : (cells : List ℕ) (x : ℕ) → length cells ≡ 24576 → x < 1024 → length (part cells x) ≡ 24
@@ -142,9 +142,10 @@ module _ (cells : List ℕ) (x : ℕ) where
           getD-set-other cells (x * 24 + w) (x * 24 + c) (getD cells (x * 24 + w) 0 + 1) 0 (λ e. d (omega arith))
           ∙ sym (getD-set-other (part cells x) w c (getD (part cells x) w 0 + 1) 0 d ∙ group-at 24 cells x c t)
 
--- rows and degrees that show a plan give its order and its earlier neighbours
-pub shown : {G : Graph} {ns ds : List ℕ} → Rowed G ns ds → Shown G ns ds
-shown {G} {ns} {ds} rd = record {
+-- rows, degrees and ranks that show a plan give its order and its earlier neighbours
+pub shown : {G : Graph} {ns ds rs : List ℕ} → Rowed G ns ds → Ranked G rs → Shown G ns ds rs
+shown {G} {ns} {ds} {rs} rd rk = record {
+  ranked = rk;
   few = rd .few;
   wide-rows = rd .wide-rows;
   wide-degrees = rd .wide-degrees;
@@ -154,10 +155,10 @@ shown {G} {ns} {ds} rd = record {
   symmetric = rd .symmetric;
 }
 
-module _ {G : Graph} {ns ds : List ℕ} (sh : Shown G ns ds) where
-  pub cells-earlier : (p q : ℕ) → p < G .banks → q < G .banks → byCells ds p q ≡ earlier G p q
+module _ {G : Graph} {ns ds rs : List ℕ} (sh : Shown G ns ds rs) where
+  pub cells-earlier : (p q : ℕ) → p < G .banks → q < G .banks → byCells ds rs p q ≡ earlier G p q
   unfolding byCells earlier
-  cells-earlier p q hp hq = let dp = sh .degrees p hp in let dq = sh .degrees q hq in cc
+  cells-earlier p q hp hq = let dp = sh .degrees p hp in let dq = sh .degrees q hq in let rp = sh .ranked .cells p hp in let rq = sh .ranked .cells q hq in cc
 
   filled-row : (b : ℕ) → b < G .banks → take (getD ds b 0) (drop (b * 23) ns) ≡ neighbours G b
   filled-row b h =
@@ -168,15 +169,15 @@ module _ {G : Graph} {ns ds : List ℕ} (sh : Shown G ns ds) where
       getD-take (getD ds b 0) (drop (b * 23) ns) i 0 (omega arith) ∙ getD-drop (b * 23) ns i 0 ∙ sh .rows b i h (omega (arith, degree-length G b)))
 
   -- what is counted for b
-  pub counts-are : (ws : List ℕ) (b c : ℕ) → b < G .banks → countsOf ns ds ws b c ≡ standing (λ v. getD ws v 0) c (earlierNeighbours G b)
+  pub counts-are : (ws : List ℕ) (b c : ℕ) → b < G .banks → countsOf ns ds rs ws b c ≡ standing (λ v. getD ws v 0) c (earlierNeighbours G b)
   counts-are ws b c h =
       ap (standing (λ v. getD ws v 0) c)
-      (ap (filter (λ v. byCells ds v b)) (filled-row b h)
-      ∙ filter-cong (λ v. byCells ds v b) (λ v. earlier G v b) (neighbours G b) (λ v m. cells-earlier v b (neighbours-in G b v m .0) h)
+      (ap (filter (λ v. byCells ds rs v b)) (filled-row b h)
+      ∙ filter-cong (λ v. byCells ds rs v b) (λ v. earlier G v b) (neighbours G b) (λ v m. cells-earlier v b (neighbours-in G b v m .0) h)
       ∙ earlier-ones G b)
 
   -- and it can be counted
-  pub countable : {ws : List ℕ} {n b : ℕ} → n ≡ G .banks → n ≤ length ws → ((x : ℕ) → x < n → getD ws x 0 < 24) → b < n → Countable ns ds ws n b
+  pub countable : {ws : List ℕ} {n b : ℕ} → n ≡ G .banks → n ≤ length ws → ((x : ℕ) → x < n → getD ws x 0 < 24) → b < n → Countable ns ds rs ws n b
   countable {ws} {n} {b} e wide small h =
       let k : b < G .banks = omega arith in
       record {
@@ -184,6 +185,7 @@ module _ {G : Graph} {ns ds : List ℕ} (sh : Shown G ns ds) where
         bank = h;
         long-neighbours = omega (arith, sh .wide-rows);
         long-degrees = omega (arith, sh .wide-degrees);
+        long-ranks = omega (arith, sh .ranked .wide);
         long-waves = wide;
         few = omega (arith, sh .degrees b k, sh .small b k);
         named = λ i l.

@@ -19,7 +19,7 @@ use Rattle.rule.proofs.Waves.{earlierNeighbours-in}
 use Rattle.memory.specs.declared.Tally.{Tally}
 use Rattle.memory.specs.inner.Counts.{standing}
 use Rattle.memory.specs.Plan.{Slices, tallyOf, PlanOf}
-use Rattle.memory.specs.inner.View.{Long, Rowed, Held}
+use Rattle.memory.specs.inner.View.{Long, Ranked, Rowed, Held}
 use Rattle.memory.specs.inner.Test.{Says, row, part, RowsRight, Rows, PartRight, countsOf, Tested}
 use Rattle.memory.proofs.Fronts.{pos}
 use Rattle.memory.proofs.Standing.{standing-cong, standing-pos, pos-standing}
@@ -85,7 +85,7 @@ module _ (s : Slices) (t : Tally) where
   n = t .banks
 
   abbrev K : Graph
-  K = inRows n (s .neighbours)
+  K = inRows n (s .neighbours) (s .ranks)
 
   abbrev w : ℕ → ℕ
   w v = getD (s .waves) v 0
@@ -97,11 +97,14 @@ module _ (s : Slices) (t : Tally) where
   module _ (most : n ≤ 1024) (l : Long n s) (ts : Tested s t) where
     rows-shown : Rowed K (s .neighbours) (s .degrees)
     rows-shown =
-        rowed (rows-of most l (ts .rows)) (λ x y hx hy.
+        rowed (s .ranks) (rows-of most l (ts .rows)) (λ x y hx hy.
         test-ext (memb y (row (s .neighbours) x)) (memb x (row (s .neighbours) y)) (ts .symmetric x y hx hy) (ts .symmetric y x hy hx))
 
-    count-is : (b c : ℕ) → b < n → countsOf (s .neighbours) (s .degrees) (s .waves) b c ≡ standing w c (E b)
-    count-is b c h = counts-are (shown rows-shown) (s .waves) b c h
+    ranks-shown : Ranked K (s .ranks)
+    ranks-shown = record { wide = l .ranks; cells = λ b h. refl }
+
+    count-is : (b c : ℕ) → b < n → countsOf (s .neighbours) (s .degrees) (s .ranks) (s .waves) b c ≡ standing w c (E b)
+    count-is b c h = counts-are (shown rows-shown ranks-shown) (s .waves) b c h
 
     -- each wave is the lowest that no earlier neighbour has, so it is the rule wave
     lowest : (b : ℕ) → b < n → w b ≡ lowestFree (map w (E b))
@@ -124,6 +127,8 @@ module _ (s : Slices) (t : Tally) where
         cell = λ b c h k. sym (group-at 24 (s .counts) b c k) ∙ ts .counts b h .same c k ∙ count-is b c h ∙ standing-cong w (wave K) c (E b)
             (λ v m. waves-are v (earlierNeighbours-in K b v m .0));
       };
+      ranked = ranks-shown;
+      low = λ x h. omega (arith, ts .ranks x h);
     }
 
     pub tested-plan : PlanOf K s t
@@ -144,10 +149,10 @@ module _ (s : Slices) (t : Tally) where
         view .waves b h ∙ wave-equation K b h
         ∙ ap lowestFree (map-cong (wave K) w (E b) (λ v m. sym (view .waves v (earlierNeighbours-in K b v m .0))))
 
-    count-was : (b c : ℕ) → b < n → countsOf (s .neighbours) (s .degrees) (s .waves) b c ≡ standing w c (E b)
-    count-was b c h = counts-are (shown (view .rowed)) (s .waves) b c h
+    count-was : (b c : ℕ) → b < n → countsOf (s .neighbours) (s .degrees) (s .ranks) (s .waves) b c ≡ standing w c (E b)
+    count-was b c h = counts-are (shown (view .rowed) (view .ranked)) (s .waves) b c h
 
-    part-was : (b : ℕ) → b < n → PartRight (part (s .counts) b) (countsOf (s .neighbours) (s .degrees) (s .waves) b) (w b)
+    part-was : (b : ℕ) → b < n → PartRight (part (s .counts) b) (countsOf (s .neighbours) (s .degrees) (s .ranks) (s .waves) b) (w b)
     part-was b h = record {
       same = λ c k. group-at 24 (s .counts) b c k ∙ view .counted .cell b c h k ∙ sym (count-was b c h ∙ counted b c h);
       lowest = record {
@@ -163,6 +168,7 @@ module _ (s : Slices) (t : Tally) where
       rows = λ b h. row-right (view .rowed) b h;
       symmetric = λ x y hx hy m. T-along (view .rowed .symmetric x y hx hy) m;
       small = held-small view;
+      ranks = λ x h. omega (arith, p .clashes .ranks x h);
       counts = part-was;
       clashes = ap (λ (u : Tally). u .clashes) (p .tally) ∙ sym (clash-count-is K (s .degrees) (view .rowed .degrees));
       waves = ap (λ (u : Tally). u .waves) (p .tally) ∙ sym (wave-count-is K (s .waves) (view .waves));

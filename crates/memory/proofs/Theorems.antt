@@ -6,14 +6,15 @@ use mathlib.Core.Path.{_≡_, refl}
 use Prim.Native.Nat.{ℕ, _*_, _≤_, _<_}
 use lib.Dec.{T}
 use lib.ListN.{length, getD, take, drop}
-use Rattle.rule.specs.Graph.{Graph, earlier, earlierNeighbours, empty}
+use Rattle.rule.specs.Graph.{Graph, earlier, earlierNeighbours, empty, Same}
 use Rattle.rule.specs.Wave.{wave, waves, waveCount}
 use Rattle.memory.specs.declared.Tally.{Tally}
-use Rattle.memory.specs.Plan.{Slices, longEnough, neighbourCells, degreeCells, countCells, tallyOf, planIn, graphIn, clashCount, holds, Clashes, PlanOf}
+use Rattle.memory.specs.Plan.{Slices, longEnough, neighbourCells, degreeCells, countCells, rankCells, tallyOf, planIn, graphIn, clashCount, holds, Clashes}
+use Rattle.memory.specs.Plan.{PlanOf}
 use Rattle.memory.specs.inner.Counts.{byCells, standing, countIn, Countable, mostOf}
 use Rattle.memory.specs.PlanCells.{planCells}
 use Rattle.memory.specs.Pairs.{pairs}
-use Rattle.memory.specs.inner.View.{Long, Shown, Rowed, Held}
+use Rattle.memory.specs.inner.View.{Long, Ranked, Shown, Rowed, Held}
 use Rattle.memory.proofs.Plans
 use Rattle.memory.proofs.Agree
 use Rattle.memory.proofs.Views
@@ -37,20 +38,22 @@ pub rows-give-clashes : (s : Slices) (t : Tally) (G : Graph) → PlanOf G s t �
     → graphIn (t .banks) s .clash x y ≡ G .clash x y
 rows-give-clashes = Question.rows-give-clashes
 
--- 2. as many banks and the same clashes between them: the same plan cells, whatever lies beyond, and the same tally
-module _ (G H : Graph) (banks : G .banks ≡ H .banks)
-    (clash : (x y : ℕ) → x < H .banks → y < H .banks → G .clash x y ≡ H .clash x y) where
+pub cells-give : (s : Slices) (t : Tally) (G : Graph) → PlanOf G s t → Same (graphIn (t .banks) s) G
+cells-give = Question.cells-give
+
+-- 2. as many banks, the same clashes between them and the same ranks: the same plan cells, whatever lies beyond, and the same tally
+module _ {G H : Graph} (a : Same G H) where
   pub same-cells : (s s′ : Slices) → planCells (H .banks) (planIn G s) ≡ planCells (H .banks) (planIn H s′)
-  same-cells = Agree.same-cells G H banks clash
+  same-cells = Agree.same-cells a
 
   pub planIn-agree : (s : Slices) → planIn G s ≡ planIn H s
-  planIn-agree = Agree.planIn-agree G H banks clash
+  planIn-agree = Agree.planIn-agree a
 
   pub tally-agree : tallyOf G ≡ tallyOf H
-  tally-agree = Agree.tally-agree G H banks clash
+  tally-agree = Agree.tally-agree a
 
   pub plan-agree : (s : Slices) (t : Tally) → PlanOf H s t → PlanOf G s t
-  plan-agree = Agree.plan-agree G H banks clash
+  plan-agree = Agree.plan-agree a
 
 -- 3. a plan put over one of as many banks, or over itself
 pub plan-over : (G H : Graph) (s : Slices) → H .banks ≡ G .banks → planIn H (planIn G s) ≡ planIn H s
@@ -71,6 +74,9 @@ length-waves = Plans.length-waves
 
 pub length-countCells : (G : Graph) → length (countCells G) ≡ 24 * G .banks
 length-countCells = Plans.length-countCells
+
+pub length-rankCells : (G : Graph) → length (rankCells G) ≡ G .banks
+length-rankCells = Plans.length-rankCells
 
 pub long : (n : ℕ) (s : Slices) → longEnough n s ≡ true → Long n s
 long = Plans.long
@@ -96,18 +102,18 @@ pub held-small : {G : Graph} {s : Slices} {n : ℕ} → Held G s n → (x : ℕ)
 held-small = Views.held-small
 
 -- 6. what the code finds in cells that show a plan: its order, its Counts, its number of waves
-pub shown : {G : Graph} {ns ds : List ℕ} → Rowed G ns ds → Shown G ns ds
+pub shown : {G : Graph} {ns ds rs : List ℕ} → Rowed G ns ds → Ranked G rs → Shown G ns ds rs
 shown = Tallies.shown
 
-module _ {G : Graph} {ns ds : List ℕ} (sh : Shown G ns ds) where
-  pub cells-earlier : (p q : ℕ) → p < G .banks → q < G .banks → byCells ds p q ≡ earlier G p q
+module _ {G : Graph} {ns ds rs : List ℕ} (sh : Shown G ns ds rs) where
+  pub cells-earlier : (p q : ℕ) → p < G .banks → q < G .banks → byCells ds rs p q ≡ earlier G p q
   cells-earlier = Tallies.cells-earlier sh
 
-  pub countable : {ws : List ℕ} {n b : ℕ} → n ≡ G .banks → n ≤ length ws → ((x : ℕ) → x < n → getD ws x 0 < 24) → b < n → Countable ns ds ws n b
+  pub countable : {ws : List ℕ} {n b : ℕ} → n ≡ G .banks → n ≤ length ws → ((x : ℕ) → x < n → getD ws x 0 < 24) → b < n → Countable ns ds rs ws n b
   countable = Tallies.countable sh
 
   pub counts-are : (ws : List ℕ) (b c : ℕ) → b < G .banks
-      → countIn ds ws b (take (getD ds b 0) (drop (b * 23) ns)) c ≡ standing (λ v. getD ws v 0) c (earlierNeighbours G b)
+      → countIn ds rs ws b (take (getD ds b 0) (drop (b * 23) ns)) c ≡ standing (λ v. getD ws v 0) c (earlierNeighbours G b)
   counts-are = Tallies.counts-are sh
 
 pub wave-count-is : (G : Graph) (ws : List ℕ) → ((x : ℕ) → x < G .banks → getD ws x 0 ≡ wave G x) → mostOf ws (G .banks) ≡ waveCount G

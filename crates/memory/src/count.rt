@@ -26,23 +26,24 @@ fn clear(row: &mut [u16])
 fn count_one(
     neighbours: &[u16],
     degrees: &[u16],
+    ranks: &[u16],
     waves: &[u16],
     row: &mut [u16],
     banks: u16,
     b: Bank,
     i: usize,
 )
-    requires { ⌜ Countable (now neighbours) (now degrees) (now waves) banks (b .0) ⌝ }
+    requires { ⌜ Countable (now neighbours) (now degrees) (now ranks) (now waves) banks (b .0) ⌝ }
     requires { ⌜ i < getD (now degrees) (b .0) 0 ⌝ }
-    requires { ⌜ CountedTo (now neighbours) (now degrees) (now waves) (now row) (b .0) i ⌝ }
-    ensures { λ _. ⌜ CountedTo (now (neighbours .entry)) (now (degrees .entry)) (now (waves .entry))
+    requires { ⌜ CountedTo (now neighbours) (now degrees) (now ranks) (now waves) (now row) (b .0) i ⌝ }
+    ensures { λ _. ⌜ CountedTo (now (neighbours .entry)) (now (degrees .entry)) (now (ranks .entry)) (now (waves .entry))
         (now (row .exit)) (b .0) (i + 1) ⌝ }
 {
     let at = b.0 as usize;
     let v = neighbours[at * ROW_CELLS + i];
     let w = wide(waves[wide(v)]);
     let mut more: u16 = 0;
-    if is_earlier(degrees, Bank(v), b) {
+    if is_earlier(degrees, ranks, Bank(v), b) {
         more = 1;
     }
     row[w] = row[w] + more;
@@ -52,14 +53,15 @@ fn count_one(
 pub fn count_earlier(
     neighbours: &[u16],
     degrees: &[u16],
+    ranks: &[u16],
     waves: &[u16],
     row: &mut [u16],
     banks: u16,
     b: Bank,
 )
-    requires { ⌜ Countable (now neighbours) (now degrees) (now waves) banks (b .0) ⌝ }
+    requires { ⌜ Countable (now neighbours) (now degrees) (now ranks) (now waves) banks (b .0) ⌝ }
     requires { ⌜ length (now row) ≡ 24 ⌝ }
-    ensures { λ _. ⌜ CountedTo (now (neighbours .entry)) (now (degrees .entry)) (now (waves .entry))
+    ensures { λ _. ⌜ CountedTo (now (neighbours .entry)) (now (degrees .entry)) (now (ranks .entry)) (now (waves .entry))
         (now (row .exit)) (b .0) (getD (now (degrees .entry)) (b .0) 0) ⌝ }
 {
     clear(row);
@@ -67,7 +69,7 @@ pub fn count_earlier(
     let degree = wide(degrees[at]);
     let mut i = 0;
     while i < degree {
-        count_one(neighbours, degrees, waves, row, banks, b, i);
+        count_one(neighbours, degrees, ranks, waves, row, banks, b, i);
         i += 1;
     }
 }

@@ -1,4 +1,4 @@
-// Question 4 of the four slices of plan memory.
+// Question 4 of the five slices of plan memory.
 use rule::COUNT_CELLS;
 use rule::ROW_CELLS;
 use rule::wide;
@@ -12,9 +12,10 @@ pub fn long_enough(
     degrees: &[u16],
     waves: &[u16],
     counts: &[u16],
+    ranks: &[u16],
     banks: u16,
 ) -> bool
-    ensures { λ r. ⌜ r ≡ longEnough banks (slicesBefore neighbours degrees waves counts) ⌝ }
+    ensures { λ r. ⌜ r ≡ longEnough banks (slicesBefore neighbours degrees waves counts ranks) ⌝ }
 {
     let n = wide(banks);
     if neighbours.len() < n * ROW_CELLS {
@@ -27,6 +28,9 @@ pub fn long_enough(
         return false;
     }
     if counts.len() < n * COUNT_CELLS {
+        return false;
+    }
+    if ranks.len() < n {
         return false;
     }
     true

@@ -6,6 +6,7 @@ use crate::walk::row_matched;
 use rule::Bank;
 use rule::COUNT_CELLS;
 use rule::MOST_BANKS;
+use rule::MOST_RANK;
 use rule::MOST_WAVES;
 use rule::ROW_CELLS;
 use rule::UNUSED;
@@ -18,7 +19,7 @@ ghost use lib.ListN.{length, getD};
 ghost use Rattle.memory.specs.Plan.{longEnough, holds};
 ghost use Rattle.memory.specs.Lent.{slicesGiven, slicesBefore};
 ghost use Rattle.memory.specs.inner.Test.{Says, row, part, Named, RowRight, RowsRight, Rows, Symmetric, Lowest};
-ghost use Rattle.memory.specs.inner.Test.{PartRight, CellsRight, CountsRight, ClashesRight, Small, WavesSmall, sum};
+ghost use Rattle.memory.specs.inner.Test.{PartRight, CellsRight, CountsRight, ClashesRight, Under, Small, WavesSmall, sum};
 
 // Whether cell i of b's row is a bank other than b, larger than that before it.
 fn named_right(row: &[u16], i: usize, banks: u16, b: Bank) -> bool
@@ -125,15 +126,15 @@ fn rows_right(neighbours: &[u16], degrees: &[u16], banks: u16) -> bool
     true
 }
 
-// Whether every wave is below 24.
-fn waves_small(waves: &[u16], banks: u16) -> bool
-    requires { ⌜ banks ≤ length (now waves) ⌝ }
-    ensures { λ r. ⌜ Says (Small (now (waves .entry)) banks) r ⌝ }
+// Whether the first cells are below a bound.
+fn all_under(cells: &[u16], banks: u16, bound: u16) -> bool
+    requires { ⌜ banks ≤ length (now cells) ⌝ }
+    ensures { λ r. ⌜ Says (Under bound (now (cells .entry)) banks) r ⌝ }
 {
     let n = banks as usize;
     let mut i = 0;
     while i < n {
-        if MOST_WAVES <= waves[i] {
+        if bound <= cells[i] {
             return false;
         }
         i += 1;
@@ -236,12 +237,14 @@ fn clashes_right(
     degrees: &[u16],
     waves: &[u16],
     counts: &[u16],
+    ranks: &[u16],
     banks: u16,
 ) -> bool
     requires { ⌜ Rows (now neighbours) (now degrees) banks ⌝ }
     requires { ⌜ WavesSmall (now waves) banks ⌝ }
     requires { ⌜ 24 * banks ≤ length (now counts) ⌝ }
-    ensures { λ r. ⌜ Says (ClashesRight (slicesBefore neighbours degrees waves counts) banks) r ⌝ }
+    requires { ⌜ banks ≤ length (now ranks) ⌝ }
+    ensures { λ r. ⌜ Says (ClashesRight (slicesBefore neighbours degrees waves counts ranks) banks) r ⌝ }
 {
     let mut cursors = [0u16; MOST_BANKS];
     let mut cells = [0u16; ALL_COUNTS];
@@ -250,6 +253,7 @@ fn clashes_right(
         if !row_matched(
             neighbours,
             degrees,
+            ranks,
             waves,
             &mut cursors,
             &mut cells,
@@ -286,20 +290,24 @@ pub fn holds_plan(
     degrees: &[u16],
     waves: &[u16],
     counts: &[u16],
+    ranks: &[u16],
     tally: Tally,
 ) -> bool
     requires { ⌜ tally .banks ≤ 1024 ⌝ }
-    requires { ⌜ longEnough (tally .banks) (slicesGiven neighbours degrees waves counts) ≡ true ⌝ }
-    ensures { λ r. ⌜ r ≡ holds (slicesBefore neighbours degrees waves counts) tally ⌝ }
+    requires { ⌜ longEnough (tally .banks) (slicesGiven neighbours degrees waves counts ranks) ≡ true ⌝ }
+    ensures { λ r. ⌜ r ≡ holds (slicesBefore neighbours degrees waves counts ranks) tally ⌝ }
 {
     let banks = tally.banks;
     if !rows_right(neighbours, degrees, banks) {
         return false;
     }
-    if !waves_small(waves, banks) {
+    if !all_under(waves, banks, MOST_WAVES) {
         return false;
     }
-    if !clashes_right(neighbours, degrees, waves, counts, banks) {
+    if !all_under(ranks, banks, MOST_RANK + 1) {
+        return false;
+    }
+    if !clashes_right(neighbours, degrees, waves, counts, ranks, banks) {
         return false;
     }
     if tally.clashes != degree_sum(degrees, banks) / 2 {

@@ -14,15 +14,15 @@ ghost use Rattle.memory.specs.inner.Walk.{pairCell, Pairable, Seen, Walk
 pub const ALL_COUNTS: usize = COUNT_CELLS * MOST_BANKS;
 
 // The cell in which the earlier of the two banks is counted by its wave for the later one.
-fn pair_cell(degrees: &[u16], waves: &[u16], b: Bank, v: Bank) -> usize
-    requires { ⌜ Pairable (now degrees) (now waves) (b .0) (v .0) ⌝ }
-    ensures { λ r. ⌜ r ≡ pairCell (now (degrees .entry)) (now (waves .entry)) (b .0) (v .0) ⌝ }
+fn pair_cell(degrees: &[u16], ranks: &[u16], waves: &[u16], b: Bank, v: Bank) -> usize
+    requires { ⌜ Pairable (now degrees) (now ranks) (now waves) (b .0) (v .0) ⌝ }
+    ensures { λ r. ⌜ r ≡ pairCell (now (degrees .entry)) (now (ranks .entry)) (now (waves .entry)) (b .0) (v .0) ⌝ }
 {
     let at_b = wide(b.0);
     let at_v = wide(v.0);
     let for_b = at_b * COUNT_CELLS + wide(waves[at_v]);
     let for_v = at_v * COUNT_CELLS + wide(waves[at_b]);
-    if is_earlier(degrees, b, v) {
+    if is_earlier(degrees, ranks, b, v) {
         return for_v;
     }
     for_b
@@ -33,6 +33,7 @@ fn pair_cell(degrees: &[u16], waves: &[u16], b: Bank, v: Bank) -> usize
 fn match_one(
     neighbours: &[u16],
     degrees: &[u16],
+    ranks: &[u16],
     waves: &[u16],
     cursors: &mut [u16; MOST_BANKS],
     cells: &mut [u16; ALL_COUNTS],
@@ -40,10 +41,10 @@ fn match_one(
     b: Bank,
     i: usize,
 ) -> bool
-    requires { ⌜ Walk (now neighbours) (now degrees) (now waves) banks (b .0) i (now cursors) (now cells) ⌝ }
+    requires { ⌜ Walk (now neighbours) (now degrees) (now ranks) (now waves) banks (b .0) i (now cursors) (now cells) ⌝ }
     requires { ⌜ i < getD (now degrees) (b .0) 0 ⌝ }
     ensures { λ r. ⌜ OrNot
-        (Walk (now (neighbours .entry)) (now (degrees .entry)) (now (waves .entry)) banks (b .0) (i + 1)
+        (Walk (now (neighbours .entry)) (now (degrees .entry)) (now (ranks .entry)) (now (waves .entry)) banks (b .0) (i + 1)
         (now (cursors .exit)) (now (cells .exit)))
         (now (neighbours .entry)) banks r ⌝ }
 {
@@ -61,7 +62,7 @@ fn match_one(
         return false;
     }
     cursors[to] = met + 1;
-    let cell = pair_cell(degrees, waves, b, Bank(v));
+    let cell = pair_cell(degrees, ranks, waves, b, Bank(v));
     cells[cell] = cells[cell] + 1;
     true
 }
@@ -70,16 +71,17 @@ fn match_one(
 pub fn row_matched(
     neighbours: &[u16],
     degrees: &[u16],
+    ranks: &[u16],
     waves: &[u16],
     cursors: &mut [u16; MOST_BANKS],
     cells: &mut [u16; ALL_COUNTS],
     banks: u16,
     b: Bank,
 ) -> bool
-    requires { ⌜ Seen (now neighbours) (now degrees) (now waves) banks (b .0) (now cursors) (now cells) ⌝ }
+    requires { ⌜ Seen (now neighbours) (now degrees) (now ranks) (now waves) banks (b .0) (now cursors) (now cells) ⌝ }
     requires { ⌜ b .0 < banks ⌝ }
     ensures { λ r. ⌜ OrNot
-        (Seen (now (neighbours .entry)) (now (degrees .entry)) (now (waves .entry)) banks (b .0 + 1)
+        (Seen (now (neighbours .entry)) (now (degrees .entry)) (now (ranks .entry)) (now (waves .entry)) banks (b .0 + 1)
         (now (cursors .exit)) (now (cells .exit)))
         (now (neighbours .entry)) banks r ⌝ }
 {
@@ -87,7 +89,17 @@ pub fn row_matched(
     let degree = wide(degrees[at]);
     let mut i = wide(cursors[at]);
     while i < degree {
-        if !match_one(neighbours, degrees, waves, cursors, cells, banks, b, i) {
+        if !match_one(
+            neighbours,
+            degrees,
+            ranks,
+            waves,
+            cursors,
+            cells,
+            banks,
+            b,
+            i,
+        ) {
             return false;
         }
         i += 1;

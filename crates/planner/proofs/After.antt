@@ -8,7 +8,7 @@ use native.Mathlib.Omega.{arith}
 use Prim.Native.Nat.{ℕ, zero, suc, _+_, _*_, _≤_, _<_}
 use lib.Dec.{T, eqb, T-not}
 use lib.ListN.{length, getD}
-use Rattle.rule.specs.Graph.{Graph, neighbours, degree, earlier, earlierNeighbours, pair, added, struck}
+use Rattle.rule.specs.Graph.{Graph, neighbours, degree, earlier, earlierNeighbours, pair, added, struck, Same}
 use Rattle.rule.specs.Wave.{wave}
 use Rattle.rule.specs.Reach.{edited, inverse, isNamed, isReached, onTrail}
 use Rattle.rule.specs.declared.Kind.{Kind}
@@ -35,6 +35,7 @@ use Rattle.planner.specs.Calls.{editResult, noEdit, refused, accepted, e
 use Rattle.memory.specs.Memory.{Ready}
 use Rattle.planner.proofs.Numbers.{strike-fine, add-fine, two-banks}
 use Rattle.planner.proofs.Outcomes.{acceptable, edited-banks}
+use Rattle.rule.proofs.Fixed.{edited-ranks}
 
 pair-apart : (a b x : ℕ) → a ≢ b → T (pair a b x x) → ⊥
 pair-apart a b x d t = elim (pair-is a b x x t) [ inl e ↦ d (sym (e .0) ∙ e .1) | inr e ↦ d (sym (e .1) ∙ e .0) ]
@@ -64,6 +65,7 @@ module _ (G : Graph) (a b : ℕ) (c : Clashes G) where
         apart = λ x l t. elim (or-cases (G .clash x x) (pair a b x x) t) [ inl u ↦ c .apart x l u | inr u ↦ pair-apart a b x (ok .differ) u ];
         few = at-each (λ x. x < G .banks → degree (added G a b) x ≤ 23) (λ l. omega (arith, r .0, ok .room .0)) (λ l. omega (arith, r .1, ok .room .1))
             (λ x na nb l. omega (arith, degree-added G a b x na nb, c .few x l));
+        ranks = c .ranks;
       }
   clashes-edited Striking ok =
       let r = degrees-less G a b (ok .bankA) (ok .bankB) (ok .differ) (ok .allowed) (T-along (c .symmetric a b (ok .bankA) (ok .bankB)) (ok .allowed)) in
@@ -73,6 +75,7 @@ module _ (G : Graph) (a b : ℕ) (c : Clashes G) where
         apart = λ x l t. c .apart x l (and-l (G .clash x x) (not (pair a b x x)) t);
         few = at-each (λ x. x < G .banks → degree (struck G a b) x ≤ 23) (λ l. omega (arith, r .0, c .few a l)) (λ l. omega (arith, r .1, c .few b l))
             (λ x na nb l. omega (arith, degree-struck G a b x na nb, c .few x l));
+        ranks = c .ranks;
       }
 
   neighbours-kept : (k : Kind) (x : ℕ) → x ≢ a → x ≢ b → neighbours (edited k G a b) x ≡ neighbours G x
@@ -161,6 +164,7 @@ module _ (k : Kind) (G : Graph) (a b : ℕ) (m : Memory) (ready : Ready G m) (du
       degree = is .rowed .degrees x l′ ∙ degree-same ∙ sym (was .rowed .degrees x l);
       wave = is .waves x l′ ∙ sym kept-wave ∙ sym (was .waves x l);
       counts = λ c h. is .counted .cell x c l′ h ∙ kept-counts c ∙ sym (was .counted .cell x c l h);
+      rank = is .ranked .cells x l′ ∙ sym (one .sameRanks x l′) ∙ sym (was .ranked .cells x l);
     }
 
 -- back by the inverse
@@ -204,6 +208,14 @@ module _ (k : Kind) (G : Graph) (a b : ℕ) (m : Memory) (ready : Ready G m) (du
   back-banks : edited (inverse k) (edited k G a b) a b .banks ≡ G .banks
   back-banks = edited-banks (inverse k) (edited k G a b) a b ∙ edited-banks k G a b
 
+  -- back to the clashes and ranks before
+  back-same : Same (edited (inverse k) (edited k G a b) a b) G
+  back-same = record {
+    banks = back-banks;
+    clash = λ x y lx ly. edited-back G a b (ready .plan .clashes) k (acceptable G a b k due) x y;
+    rank = λ x l. ap (λ (f : ℕ → ℕ). f x) (edited-ranks (inverse k) (edited k G a b) a b ∙ edited-ranks k G a b);
+  }
+
   -- an accepted edit and then its inverse, which is accepted too, give back the plan cell by cell, and the tally
   pub inverse-due : editNumber (inverse k) (edited k G a b) a b ≡ 0
   inverse-due = back-due G a b (ready .plan .clashes) k (acceptable G a b k due)
@@ -213,14 +225,12 @@ module _ (k : Kind) (G : Graph) (a b : ℕ) (m : Memory) (ready : Ready G m) (du
   inverse-cells =
       let K = edited (inverse k) (edited k G a b) a b in
       plan-over (edited k G a b) K (m .slices) (edited-banks (inverse k) (edited k G a b) a b)
-      ∙ planIn-agree K G back-banks (λ x y lx ly. edited-back G a b (ready .plan .clashes) k (acceptable G a b k due) x y) (m .slices)
+      ∙ planIn-agree back-same (m .slices)
       ∙ ready .plan .cells
 
   pub inverse-tally : back .tally ≡ m .tally
   unfolding accepted
-  inverse-tally =
-      let K = edited (inverse k) (edited k G a b) a b in
-      tally-agree K G back-banks (λ x y lx ly. edited-back G a b (ready .plan .clashes) k (acceptable G a b k due) x y) ∙ sym (ready .plan .tally)
+  inverse-tally = tally-agree back-same ∙ sym (ready .plan .tally)
 
 edit-same : (y : ℕ) (k : Kind) (G : Graph) (a b : ℕ) (m : Memory) (c : ℕ) → editBy y k G a b m .answer .number ≡ suc c → editBy y k G a b m ≡ refused (suc c) m
 unfolding editBy accepted refused

@@ -24,7 +24,7 @@ use Rattle.memory.specs.Plan.{planIn, tallyOf, clashCount, graphIn, Clashes}
 use Rattle.memory.specs.Memory.{Memory, Ready}
 use Rattle.memory.proofs.ClashPairs.{clash-count-more}
 use Rattle.memory.proofs.Fronts.{over-long}
-use Rattle.memory.proofs.Theorems.{planIn-agree, tally-agree, rows-give-clashes}
+use Rattle.memory.proofs.Theorems.{planIn-agree, tally-agree, cells-give}
 use Rattle.edits.specs.Edits.{Acceptable}
 use Rattle.planner.specs.Questions.{firstNo}
 use Rattle.planner.specs.Calls.{EditResult, clashQuestions, memoryNumber, editNumber, accepted, editBy, editOf, checkedBy, edit}
@@ -33,12 +33,12 @@ use Rattle.planner.proofs.Outcomes.{acceptable, edited-banks, accepted-
 use Rattle.planner.proofs.Made.{ready-banks}
 use Rattle.planner.proofs.After.{after-plan, inverse-due, inverse-cells, inverse-tally}
 
--- the same clashes between the banks: the same questions, and the same edit
+-- the same clashes between the banks and the same ranks: the same questions, and the same edit
 module _ {G H : Graph} (s : Same G H) where
   pub edited-same : (k : Kind) (a b : ℕ) → Same (edited k G a b) (edited k H a b)
   unfolding edited
-  edited-same Adding a b = record { banks = s .banks; clash = λ x y lx ly. ap (λ (t : Bool). t || pair a b x y) (s .clash x y lx ly) }
-  edited-same Striking a b = record { banks = s .banks; clash = λ x y lx ly. ap (λ (t : Bool). t && not (pair a b x y)) (s .clash x y lx ly) }
+  edited-same Adding a b = record { banks = s .banks; clash = λ x y lx ly. ap (λ (t : Bool). t || pair a b x y) (s .clash x y lx ly); rank = s .rank }
+  edited-same Striking a b = record { banks = s .banks; clash = λ x y lx ly. ap (λ (t : Bool). t && not (pair a b x y)) (s .clash x y lx ly); rank = s .rank }
 
   pub number-agree : (k : Kind) (a b : ℕ) → editNumber k G a b ≡ editNumber k H a b
   number-agree k a b = elim (lt-or-ge a (H .banks)) [
@@ -53,7 +53,7 @@ module _ {G H : Graph} (s : Same G H) where
       named la lb (yes e) = one-bank G a b (omega (arith, s .banks)) (omega (arith, s .banks)) k e ∙ sym (one-bank H a b la lb k e)
       named la lb (no d) =
           two-banks G a b (omega (arith, s .banks)) (omega (arith, s .banks)) k d
-          ∙ rw (s .clash a b la lb, degree-agree G H (s .banks) (s .clash) a la, degree-agree G H (s .banks) (s .clash) b lb) (sym (two-banks H a b la lb k d))
+          ∙ rw (s .clash a b la lb, degree-agree s a la, degree-agree s b lb) (sym (two-banks H a b la lb k d))
 
   accepted-agree : (k : Kind) (a b : ℕ) (m : Memory) → a < H .banks → b < H .banks → accepted k G a b m ≡ accepted k H a b m
   unfolding accepted
@@ -63,8 +63,8 @@ module _ {G H : Graph} (s : Same G H) where
       rw (
         trail-agree s n banks k a b (omega (arith, edited-banks k H a b)) (omega (arith, edited-banks k H a b)),
         moved-agree s n banks,
-        planIn-agree (edited k G a b) (edited k H a b) (n .banks) (n .clash) (m .slices),
-        tally-agree (edited k G a b) (edited k H a b) (n .banks) (n .clash),
+        planIn-agree n (m .slices),
+        tally-agree n,
       )
 
   edit-agree : (k : Kind) (a b : ℕ) (m : Memory) → editOf k G a b m ≡ editOf k H a b m
@@ -86,7 +86,7 @@ module _ {G : Graph} {m : Memory} (ready : Ready G m) where
       ∙ held-number G (m .slices) (m .tally) (ready .plan)
 
   pub rows-same : Same (graphIn (m .tally .banks) (m .slices)) G
-  rows-same = record { banks = unfold graphIn in same-banks; clash = rows-give-clashes (m .slices) (m .tally) G (ready .plan) }
+  rows-same = cells-give (m .slices) (m .tally) G (ready .plan)
 
   -- so the call is the edit of G, refused or not
   pub edit-of : (k : Kind) (a b : ℕ) → edit k a b m ≡ editOf k G a b m

@@ -6,6 +6,7 @@ pub mod Rows
 pub mod Outcomes
 pub mod After
 pub mod Made
+pub mod RanksSet
 pub mod Lengths
 pub mod EditCalls
 pub mod Theorems

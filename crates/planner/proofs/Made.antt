@@ -1,9 +1,9 @@
 -- A pass's state: what opening and what one edit make of it.
-use mathlib.Core.Bool.{true}
+use mathlib.Core.Bool.{Bool, true}
 use mathlib.Core.List.{[], _∷_}
-use mathlib.Core.Path.{_≡_, ap, _∙_}
+use mathlib.Core.Path.{_≡_, ap, subst, _∙_}
 use Prim.Native.Nat.{ℕ, zero, suc, _≤_}
-use lib.Dec.{leb}
+use lib.Dec.{T, leb}
 use borrow.Author.Tests.{le-leb, leb-true}
 use Rattle.rule.specs.Graph.{Graph}
 use Rattle.rule.specs.Reach.{edited}
@@ -17,7 +17,7 @@ use Rattle.planner.specs.declared.Edited.{Edited}
 use Rattle.planner.specs.Questions.{firstNo}
 use Rattle.planner.specs.Calls.{EditResult, allLong, editResult, editNumber, accepted, refused, editBy, editOf}
 use Rattle.planner.specs.States.{State, make, begin, beginNumber}
-use Rattle.planner.specs.inner.Held.{graphBy, graphAfter, EditMade, at, tried, Stands}
+use Rattle.planner.specs.inner.Held.{graphBy, graphAfter, EditMade, at, Fresh, tried, Stands}
 use Rattle.planner.proofs.Numbers.{none}
 use Rattle.planner.proofs.Outcomes.{acceptable, edited-banks}
 use Rattle.planner.proofs.After.{clashes-edited, plan-in}
@@ -27,21 +27,32 @@ pub ready-banks : (G : Graph) (m : Memory) → Ready G m → m .tally .banks ≡
 unfolding tallyOf
 ready-banks G m r = ap (λ (t : Tally). t .banks) (r .plan .tally)
 
-module _ (k : Kind) (G : Graph) (a b : ℕ) (m : Memory) (r : Edited) (m′ : Memory) where
-  by-number : (n : ℕ) → editResult (r .answer) m′ ≡ editBy n k G a b m → Ready (graphBy n k G a b) m′
-      → (r .answer .number ≡ n) × Stands (tried n (make k a b (at G m)) (at G m)) m′
-  unfolding editBy graphBy accepted refused tried make
-  by-number zero e h = (ap (λ (d : EditResult). d .answer .number) e, record { memory = ap (λ (d : EditResult). d .memory) e; ready = h })
-  by-number (suc c) e h = (ap (λ (d : EditResult). d .answer .number) e, record { memory = ap (λ (d : EditResult). d .memory) e; ready = h })
+-- an edit has come, so a plan without clashes is not asked for
+pub not-fresh : (G : Graph) → Fresh true G
+not-fresh G f = absurd (subst T f tt)
 
-  pub edit-made : EditMade k G a b m r m′ → (r .answer .number ≡ editNumber k G a b) × Stands (tried (editNumber k G a b) (make k a b (at G m)) (at G m)) m′
+module _ (k : Kind) (begun : Bool) (G : Graph) (a b : ℕ) (m : Memory) (r : Edited) (m′ : Memory) where
+  abbrev s : State
+  s = at begun G m
+
+  by-number : (n : ℕ) → editResult (r .answer) m′ ≡ editBy n k G a b m → Ready (graphBy n k G a b) m′ → Fresh begun G
+      → (r .answer .number ≡ n) × Stands (tried n (make k a b s) s) m′
+  unfolding editBy graphBy accepted refused tried make
+  by-number zero e h f = (
+    ap (λ (d : EditResult). d .answer .number) e,
+    record { memory = ap (λ (d : EditResult). d .memory) e; ready = h; fresh = not-fresh (edited k G a b) },
+  )
+  by-number (suc c) e h f = (ap (λ (d : EditResult). d .answer .number) e, record { memory = ap (λ (d : EditResult). d .memory) e; ready = h; fresh = f })
+
+  pub edit-made : EditMade k G a b m r m′ → Fresh begun G
+      → (r .answer .number ≡ editNumber k G a b) × Stands (tried (editNumber k G a b) (make k a b s) s) m′
   unfolding editOf graphAfter
   edit-made e = by-number (editNumber k G a b) (e .is) (e .ready)
 
   -- an edit to which no refusal is due
-  pub edit-accepted : editNumber k G a b ≡ 0 → EditMade k G a b m r m′ → (r .answer .number ≡ 0) × Stands (make k a b (at G m)) m′
+  pub edit-accepted : editNumber k G a b ≡ 0 → EditMade k G a b m r m′ → Fresh begun G → (r .answer .number ≡ 0) × Stands (make k a b s) m′
   unfolding tried
-  edit-accepted z e = rw z at (edit-made e)
+  edit-accepted z e f = rw z at (edit-made e f)
 
 -- memory holds the plan of the state's clashes
 abbrev pub Holding : State → Type 0

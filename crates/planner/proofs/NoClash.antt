@@ -1,5 +1,5 @@
 -- The plan of no clash, cell by cell, and what opening leaves.
-use mathlib.Core.Bool.{true, false}
+use mathlib.Core.Bool.{Bool, true, false, _&&_}
 use mathlib.Core.List.{List, [], _∷_, _++_, map, foldr}
 use mathlib.Core.Path.{_≡_, refl, sym, ap, ap₂, _∙_}
 use native.Mathlib.Omega.{arith}
@@ -7,14 +7,16 @@ use Prim.Native.Nat.{ℕ, zero, suc, _+_, _*_, _/_, _%_, _≤_, _<_, max, min}
 use lib.Dec.{T, eqb}
 use lib.ListN.{length, getD, drop, replicate, length-replicate}
 use Rattle.rule.specs.Lists.{upto, memb, filter}
-use Rattle.rule.specs.Graph.{neighbours, degree, earlierNeighbours, empty}
+use Rattle.rule.specs.Graph.{Graph, neighbours, degree, earlier, earlierNeighbours, empty}
 use Rattle.rule.specs.Wave.{lowestFrom, lowestFree, wave, waves, waveCount}
-use Rattle.rule.proofs.Lists.{length-upto, upto-below, in-head, in-tail, filter-none}
+use Rattle.rule.proofs.Lists.{length-upto, upto-below, in-head, in-tail, filter-cong, filter-none}
 use Rattle.rule.proofs.Theorems.{wave-equation}
 use Rattle.memory.specs.declared.Tally.{Tally}
 use Rattle.memory.specs.Cells.{cells, over}
-use Rattle.memory.specs.Plan.{Slices, slicesOf, longEnough, neighbourCells, degreeCells, countCells, clashCount, tallyOf, planIn, PlanOf}
+use Rattle.memory.specs.Plan.{Slices, slicesOf, longEnough, neighbourCells, degreeCells, countCells, rankCells, clashCount, tallyOf, planIn}
+use Rattle.memory.specs.Plan.{PlanOf}
 use Rattle.planner.specs.Calls.{OpenResult, openResult, openNumber, openedBy, opened}
+use Rattle.planner.specs.inner.Held.{Bare}
 use Rattle.memory.proofs.Theorems.{open-plan}
 use Rattle.planner.proofs.Numbers.{open-many, open-short, open-fine, open-passed}
 
@@ -31,64 +33,81 @@ unfolding over
 over-const k v front xs e =
     ap (λ (f : List ℕ). f ++ drop (length f) xs) e ∙ ap (λ (m : ℕ). replicate k v ++ drop m xs) (length-replicate k v)
 
-sum-none : (g : ℕ → ℕ) (xs : List ℕ) → ((x : ℕ) → g x ≡ 0) → foldr (λ (b m : ℕ). g b + m) 0 xs ≡ 0
+sum-none : (g : ℕ → ℕ) (xs : List ℕ) → ((x : ℕ) → T (memb x xs) → g x ≡ 0) → foldr (λ (b m : ℕ). g b + m) 0 xs ≡ 0
 sum-none g [] h = refl
-sum-none g (x ∷ xs) h = omega (arith, h x, sum-none g xs h)
+sum-none g (x ∷ xs) h = omega (arith, h x (in-head x x xs refl), sum-none g xs (λ y m. h y (in-tail y x xs m)))
 
 most-none : (g : ℕ → ℕ) (xs : List ℕ) → ((x : ℕ) → T (memb x xs) → g x ≡ 0) → foldr (λ (b k : ℕ). max (suc (g b)) k) 0 xs ≡ min 1 (length xs)
 most-none g [] h = refl
 most-none g (x ∷ xs) h = omega (arith, h x (in-head x x xs refl), most-none g xs (λ y m. h y (in-tail y x xs m)))
 
-module _ (n : ℕ) where
-  no-neighbours : (b : ℕ) → neighbours (empty n) b ≡ []
+-- a plan in which no two banks clash, whatever their ranks
+module _ (G : Graph) (bare : Bare G) where
+  abbrev n : ℕ
+  n = G .banks
+
+  no-neighbours : (b : ℕ) → b < n → neighbours G b ≡ []
   unfolding neighbours
-  no-neighbours b = filter-none (upto n)
+  no-neighbours b h = filter-cong (G .clash b) (λ v. false) (upto n) (λ v m. bare b v h (upto-below n v m)) ∙ filter-none (upto n)
 
-  no-degree : (b : ℕ) → degree (empty n) b ≡ 0
+  no-degree : (b : ℕ) → b < n → degree G b ≡ 0
   unfolding degree
-  no-degree b = ap length (no-neighbours b)
+  no-degree b h = ap length (no-neighbours b h)
 
-  no-earlier : (b : ℕ) → earlierNeighbours (empty n) b ≡ []
+  no-earlier : (b : ℕ) → b < n → earlierNeighbours G b ≡ []
   unfolding earlierNeighbours
-  no-earlier b = filter-none (upto n)
+  no-earlier b h =
+      filter-cong (λ v. G .clash b v && earlier G v b) (λ v. false) (upto n) (λ v m. ap (λ (t : Bool). t && earlier G v b) (bare b v h (upto-below n v m)))
+      ∙ filter-none (upto n)
 
-  first-wave : (b : ℕ) → b < n → wave (empty n) b ≡ 0
+  first-wave : (b : ℕ) → b < n → wave G b ≡ 0
   unfolding lowestFree lowestFrom
-  first-wave b h = wave-equation (empty n) b h ∙ ap lowestFree (ap (map (wave (empty n))) (no-earlier b))
+  first-wave b h = wave-equation G b h ∙ ap lowestFree (ap (map (wave G)) (no-earlier b h))
 
-  empty-neighbours : neighbourCells (empty n) ≡ replicate (23 * n) 65535
+  pub bare-neighbours : neighbourCells G ≡ replicate (23 * n) 65535
   unfolding neighbourCells
-  empty-neighbours = cells-const (23 * n) _ 65535 (λ i h. ap (λ (l : List ℕ). getD l (i % 23) 65535) (no-neighbours (i / 23)))
+  bare-neighbours = cells-const (23 * n) _ 65535 (λ i h. ap (λ (l : List ℕ). getD l (i % 23) 65535) (no-neighbours (i / 23) (omega arith)))
 
-  empty-degrees : degreeCells (empty n) ≡ replicate n 0
+  pub bare-degrees : degreeCells G ≡ replicate n 0
   unfolding degreeCells
-  empty-degrees = cells-const n (degree (empty n)) 0 (λ i h. no-degree i)
+  bare-degrees = cells-const n (degree G) 0 (λ i h. no-degree i h)
 
-  empty-waves : waves (empty n) ≡ replicate n 0
+  pub bare-waves : waves G ≡ replicate n 0
   unfolding waves
-  empty-waves = unfold cells in cells-const n (wave (empty n)) 0 (λ i h. first-wave i h)
+  bare-waves = unfold cells in cells-const n (wave G) 0 (λ i h. first-wave i h)
 
-  empty-counts : countCells (empty n) ≡ replicate (24 * n) 0
+  pub bare-counts : countCells G ≡ replicate (24 * n) 0
   unfolding countCells filter
-  empty-counts = cells-const (24 * n) _ 0 (λ i h. ap (λ (l : List ℕ). length (filter (λ v. eqb (wave (empty n) v) (i % 24)) l)) (no-earlier (i / 24)))
+  bare-counts = cells-const (24 * n) _ 0 (λ i h. ap (λ (l : List ℕ). length (filter (λ v. eqb (wave G v) (i % 24)) l)) (no-earlier (i / 24) (omega arith)))
 
-  empty-tally : tallyOf (empty n) ≡ record { banks = n; clashes = 0; waves = min 1 n }
+  pub bare-tally : tallyOf G ≡ record { banks = n; clashes = 0; waves = min 1 n }
   unfolding tallyOf clashCount waveCount
-  empty-tally =
-      let c : foldr (λ (b m : ℕ). degree (empty n) b + m) 0 (upto n) / 2 ≡ 0 = omega (arith, sum-none (degree (empty n)) (upto n) no-degree) in
-      let w : foldr (λ (b k : ℕ). max (suc (wave (empty n) b)) k) 0 (upto n) ≡ min 1 n =
-      most-none (wave (empty n)) (upto n) (λ x m. first-wave x (upto-below n x m)) ∙ ap (λ (k : ℕ). min 1 k) (length-upto n) in
+  bare-tally =
+      let c : foldr (λ (b m : ℕ). degree G b + m) 0 (upto n) / 2 ≡ 0 = omega (arith, sum-none (degree G) (upto n) (λ x m. no-degree x (upto-below n x m))) in
+      let w : foldr (λ (b k : ℕ). max (suc (wave G b)) k) 0 (upto n) ≡ min 1 n =
+      most-none (wave G) (upto n) (λ x m. first-wave x (upto-below n x m)) ∙ ap (λ (k : ℕ). min 1 k) (length-upto n) in
       λ i. record { banks = n; clashes = c i; waves = w i }
 
-  empty-plan : (ns ds ws cs : List ℕ)
-      → planIn (empty n) (slicesOf ns ds ws cs)
+-- n banks of rank 0
+module _ (n : ℕ) where
+  pub none-clash : Bare (empty n)
+  none-clash x y hx hy = refl
+
+  empty-ranks : rankCells (empty n) ≡ replicate n 0
+  unfolding rankCells
+  empty-ranks = cells-const n (λ x. 0) 0 (λ i h. refl)
+
+  empty-plan : (ns ds ws cs rs : List ℕ)
+      → planIn (empty n) (slicesOf ns ds ws cs rs)
       ≡ slicesOf (replicate (23 * n) 65535 ++ drop (23 * n) ns) (replicate n 0 ++ drop n ds) (replicate n 0 ++ drop n ws) (replicate (24 * n) 0 ++ drop (24 * n) cs)
+      (replicate n 0 ++ drop n rs)
   unfolding planIn
-  empty-plan ns ds ws cs = λ i. record {
-    neighbours = over-const (23 * n) 65535 (neighbourCells (empty n)) ns empty-neighbours i;
-    degrees = over-const n 0 (degreeCells (empty n)) ds empty-degrees i;
-    waves = over-const n 0 (waves (empty n)) ws empty-waves i;
-    counts = over-const (24 * n) 0 (countCells (empty n)) cs empty-counts i;
+  empty-plan ns ds ws cs rs = λ i. record {
+    neighbours = over-const (23 * n) 65535 (neighbourCells (empty n)) ns (bare-neighbours (empty n) none-clash) i;
+    degrees = over-const n 0 (degreeCells (empty n)) ds (bare-degrees (empty n) none-clash) i;
+    waves = over-const n 0 (waves (empty n)) ws (bare-waves (empty n) none-clash) i;
+    counts = over-const (24 * n) 0 (countCells (empty n)) cs (bare-counts (empty n) none-clash) i;
+    ranks = over-const n 0 (rankCells (empty n)) rs empty-ranks i;
   }
 
 -- refused
@@ -109,22 +128,23 @@ module _ (n : ℕ) (s : Slices) (t : Tally) where
   unfolding openedBy
   opened-fine h e = opened-by 0 (open-fine n s h e)
 
--- accepted: what the four fills leave
-pub opened-filled : (n m : ℕ) (ns ds ws cs : List ℕ) (t : Tally) → m ≡ n → n ≤ 1024 → longEnough n (slicesOf ns ds ws cs) ≡ true
-    → {ns′ ds′ ws′ cs′ : List ℕ} {w : ℕ}
+-- accepted: what the five fills leave
+pub opened-filled : (n m : ℕ) (ns ds ws cs rs : List ℕ) (t : Tally) → m ≡ n → n ≤ 1024 → longEnough n (slicesOf ns ds ws cs rs) ≡ true
+    → {ns′ ds′ ws′ cs′ rs′ : List ℕ} {w : ℕ}
     → ns′ ≡ replicate (m * 23) 65535 ++ drop (m * 23) ns → ds′ ≡ replicate m 0 ++ drop m ds → ws′ ≡ replicate m 0 ++ drop m ws
-    → cs′ ≡ replicate (m * 24) 0 ++ drop (m * 24) cs → w ≡ min 1 n
-    → openResult 0 (slicesOf ns′ ds′ ws′ cs′) (record { banks = n; clashes = 0; waves = w }) ≡ opened n (slicesOf ns ds ws cs) t
-opened-filled n m ns ds ws cs t same few long p q r u v =
+    → cs′ ≡ replicate (m * 24) 0 ++ drop (m * 24) cs → rs′ ≡ replicate m 0 ++ drop m rs → w ≡ min 1 n
+    → openResult 0 (slicesOf ns′ ds′ ws′ cs′ rs′) (record { banks = n; clashes = 0; waves = w }) ≡ opened n (slicesOf ns ds ws cs rs) t
+opened-filled n m ns ds ws cs rs t same few long p q r u z v =
     let k : m * 23 ≡ 23 * n = omega arith in
     let j : m * 24 ≡ 24 * n = omega arith in
     let e₁ = p ∙ ap (λ (x : ℕ). replicate x 65535 ++ drop x ns) k in
     let e₂ = q ∙ ap (λ (x : ℕ). replicate x 0 ++ drop x ds) same in
     let e₃ = r ∙ ap (λ (x : ℕ). replicate x 0 ++ drop x ws) same in
     let e₄ = u ∙ ap (λ (x : ℕ). replicate x 0 ++ drop x cs) j in
-    ap₂ (openResult 0) ((λ i. slicesOf (e₁ i) (e₂ i) (e₃ i) (e₄ i)) ∙ sym (empty-plan n ns ds ws cs))
-    ((λ i. record { banks = n; clashes = 0; waves = v i }) ∙ sym (empty-tally n))
-    ∙ opened-fine n (slicesOf ns ds ws cs) t few long
+    let e₅ = z ∙ ap (λ (x : ℕ). replicate x 0 ++ drop x rs) same in
+    ap₂ (openResult 0) ((λ i. slicesOf (e₁ i) (e₂ i) (e₃ i) (e₄ i) (e₅ i)) ∙ sym (empty-plan n ns ds ws cs rs))
+    ((λ i. record { banks = n; clashes = 0; waves = v i }) ∙ sym (bare-tally (empty n) (none-clash n)))
+    ∙ opened-fine n (slicesOf ns ds ws cs rs) t few long
 
 opened-plan-by : (c n : ℕ) (s : Slices) (t : Tally) → openNumber n s ≡ c → {s′ : Slices} {t′ : Tally} → openResult 0 s′ t′ ≡ openedBy c n s t → PlanOf (empty n) s′ t′
 unfolding openedBy

@@ -1,4 +1,4 @@
--- Opening a plan for a pass over edits: questions 3 and 4 for all six slices.
+-- Opening a plan for a pass over edits: questions 3 and 4 for all seven slices.
 use mathlib.Core.Bool.{Bool, true, false, cond, _&&_}
 use mathlib.Core.Path.{_≡_, refl, sym, ap, _∙_}
 use Prim.Native.Nat.{ℕ, zero, suc, _≤_, _<_}
@@ -14,7 +14,7 @@ use Rattle.planner.specs.Questions.{firstNo}
 use Rattle.planner.specs.Calls.{OpenResult, openResult, allLong, openNumber, openedBy, opened}
 use Rattle.planner.specs.States.{begin, beginNumber}
 use Rattle.planner.specs.inner.Held.{OpensAll, roomNumber}
-use Rattle.planner.proofs.NoClash.{opened-plan}
+use Rattle.planner.proofs.NoClash.{none-clash, opened-plan}
 
 -- the number by the answers to questions 3 and 4, part by part
 abbrev roomBy : Bool → Bool → Bool → ℕ
@@ -98,7 +98,7 @@ module _ (n : ℕ) (m : Memory) where
   by-opening zero p q = (ap (λ (x : OpenResult). x .number) q, λ f. absurd (f refl), λ z. ap (after m) q)
   by-opening (suc c) p q = (ap (λ (x : OpenResult). x .number) q, λ f. ap (after m) q, λ z. absurd (omega arith))
 
-  -- they are long enough: what opening the four plan slices does
+  -- they are long enough: what opening the five plan slices does
   pub room-opened : (k : ℕ) → k ≡ roomNumber n (length (m .trail)) (length (m .moved)) → k ≡ 0 → (r : Opened) (s′ : Slices)
       → openResult (r .number) s′ (r .tally) ≡ opened n (m .slices) (m .tally) → OpensAll n m r (after m (openResult (r .number) s′ (r .tally)))
   unfolding opened begin
@@ -111,5 +111,6 @@ module _ (n : ℕ) (m : Memory) where
         opened = λ q. record {
           memory = b .2 (sym (b .0) ∙ q);
           ready = record { plan = opened-plan n (m .slices) (m .tally) (rw q at o); trailRoom = p .0; movedRoom = p .1 };
+          fresh = λ f. none-clash n;
         };
       }

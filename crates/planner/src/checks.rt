@@ -17,19 +17,20 @@ pub fn check_plan(
     degrees: &[u16],
     waves: &[u16],
     counts: &[u16],
+    ranks: &[u16],
     tally: Tally,
 ) -> u16
-    ensures number { λ r. ⌜ r ≡ planNumber (slicesBefore neighbours degrees waves counts) tally ⌝ }
-    ensures plan { λ r. ⌜ (r ≡ 0 → PlanIn (slicesBefore neighbours degrees waves counts) tally) ⌝ }
+    ensures number { λ r. ⌜ r ≡ planNumber (slicesBefore neighbours degrees waves counts ranks) tally ⌝ }
+    ensures plan { λ r. ⌜ (r ≡ 0 → PlanIn (slicesBefore neighbours degrees waves counts ranks) tally) ⌝ }
 {
     let banks = tally.banks;
     if MOST_BANKS < wide(banks) {
         return 1;
     }
-    if !long_enough(neighbours, degrees, waves, counts, banks) {
+    if !long_enough(neighbours, degrees, waves, counts, ranks, banks) {
         return 2;
     }
-    if !holds_plan(neighbours, degrees, waves, counts, tally) {
+    if !holds_plan(neighbours, degrees, waves, counts, ranks, tally) {
         return 3;
     }
     0
@@ -41,13 +42,14 @@ pub fn check_bank(
     degrees: &[u16],
     waves: &[u16],
     counts: &[u16],
+    ranks: &[u16],
     tally: Tally,
     b: Bank,
 ) -> u16
-    ensures number { λ r. ⌜ r ≡ bankNumber (b .0) (slicesBefore neighbours degrees waves counts) tally ⌝ }
-    ensures plan { λ r. ⌜ (r ≡ 0 → PlanIn (slicesBefore neighbours degrees waves counts) tally × (b .0 < tally .banks)) ⌝ }
+    ensures number { λ r. ⌜ r ≡ bankNumber (b .0) (slicesBefore neighbours degrees waves counts ranks) tally ⌝ }
+    ensures plan { λ r. ⌜ (r ≡ 0 → PlanIn (slicesBefore neighbours degrees waves counts ranks) tally × (b .0 < tally .banks)) ⌝ }
 {
-    let number = check_plan(neighbours, degrees, waves, counts, tally);
+    let number = check_plan(neighbours, degrees, waves, counts, ranks, tally);
     if number != 0 {
         return number;
     }
@@ -63,12 +65,13 @@ pub fn check_memory(
     degrees: &[u16],
     waves: &[u16],
     counts: &[u16],
+    ranks: &[u16],
     trail: &[u16],
     moved: &[u16],
     tally: Tally,
 ) -> u16
-    ensures number { λ r. ⌜ r ≡ memoryNumber (before neighbours degrees waves counts trail moved tally) ⌝ }
-    ensures ready { λ r. ⌜ (r ≡ 0 → ReadyIn (before neighbours degrees waves counts trail moved tally)) ⌝ }
+    ensures number { λ r. ⌜ r ≡ memoryNumber (before neighbours degrees waves counts ranks trail moved tally) ⌝ }
+    ensures ready { λ r. ⌜ (r ≡ 0 → ReadyIn (before neighbours degrees waves counts ranks trail moved tally)) ⌝ }
 {
     let n = wide(tally.banks);
     if MOST_BANKS < n {
@@ -80,5 +83,5 @@ pub fn check_memory(
     if moved.len() < n {
         return 2;
     }
-    check_plan(neighbours, degrees, waves, counts, tally)
+    check_plan(neighbours, degrees, waves, counts, ranks, tally)
 }

@@ -78,13 +78,14 @@ pub fn edit_number(
     degrees: &[u16],
     waves: &[u16],
     counts: &[u16],
+    ranks: &[u16],
     tally: Tally,
     a: Bank,
     b: Bank,
 ) -> u16
-    requires { ⌜ ((G : Graph) × PlanOf G (slicesGiven neighbours degrees waves counts) tally) ⌝ }
+    requires { ⌜ ((G : Graph) × PlanOf G (slicesGiven neighbours degrees waves counts ranks) tally) ⌝ }
     ensures { λ r. ⌜ ((G : Graph)
-        → PlanOf G (slicesBefore neighbours degrees waves counts) tally
+        → PlanOf G (slicesBefore neighbours degrees waves counts ranks) tally
         → r ≡ editNumber kind G (a .0) (b .0)) ⌝ }
 {
     if tally.banks <= a.0 {
@@ -96,14 +97,14 @@ pub fn edit_number(
     if a.0 == b.0 {
         return 5;
     }
-    let row = clashes_held(neighbours, degrees, waves, counts, tally, a);
+    let row = clashes_held(neighbours, degrees, waves, counts, ranks, tally, a);
     let at_a = wide(a.0);
     let at_b = wide(b.0);
     clash_number(kind, row, b, degrees[at_a], degrees[at_b])
 }
 
 // A refused edit: the number, counts 0, the tally as it was.
-fn refuse(number: u16, tally: Tally) -> Edited
+pub fn refuse(number: u16, tally: Tally) -> Edited
     ensures { λ r. ⌜ (r .answer ≡ noEdit number) × (r .tally ≡ tally) ⌝ }
 {
     Edited {
@@ -124,20 +125,21 @@ pub fn edit_held(
     degrees: &mut [u16],
     waves: &mut [u16],
     counts: &mut [u16],
+    ranks: &[u16],
     trail: &mut [u16],
     moved: &mut [u16],
     tally: Tally,
     a: Bank,
     b: Bank,
 ) -> Edited
-    requires { ⌜ HoldsPlan (given neighbours degrees waves counts trail moved tally) ⌝ }
+    requires { ⌜ HoldsPlan (given neighbours degrees waves counts ranks trail moved tally) ⌝ }
     ensures { λ r. ⌜ ((G : Graph)
-        → Ready G (before neighbours degrees waves counts trail moved tally)
+        → Ready G (before neighbours degrees waves counts ranks trail moved tally)
         → EditMade kind G (a .0) (b .0)
-        (before neighbours degrees waves counts trail moved tally) r
-        (after neighbours degrees waves counts trail moved (r .tally))) ⌝ }
+        (before neighbours degrees waves counts ranks trail moved tally) r
+        (after neighbours degrees waves counts ranks trail moved (r .tally))) ⌝ }
 {
-    let number = edit_number(kind, neighbours, degrees, waves, counts, tally, a, b);
+    let number = edit_number(kind, neighbours, degrees, waves, counts, ranks, tally, a, b);
     if number != 0 {
         return refuse(number, tally);
     }
@@ -147,6 +149,7 @@ pub fn edit_held(
         degrees,
         waves,
         counts,
+        ranks,
         trail,
         moved,
         tally,
@@ -171,16 +174,26 @@ pub fn edit_core(
     degrees: &mut [u16],
     waves: &mut [u16],
     counts: &mut [u16],
+    ranks: &[u16],
     trail: &mut [u16],
     moved: &mut [u16],
     tally: Tally,
     a: Bank,
     b: Bank,
 ) -> Edited
-    ensures { λ r. ⌜ editResult (r .answer) (after neighbours degrees waves counts trail moved (r .tally))
-        ≡ edit kind (a .0) (b .0) (before neighbours degrees waves counts trail moved tally) ⌝ }
+    ensures { λ r. ⌜ editResult (r .answer) (after neighbours degrees waves counts ranks trail moved (r .tally))
+        ≡ edit kind (a .0) (b .0) (before neighbours degrees waves counts ranks trail moved tally) ⌝ }
 {
-    let number = check_memory(neighbours, degrees, waves, counts, trail, moved, tally);
+    let number = check_memory(
+        neighbours,
+        degrees,
+        waves,
+        counts,
+        ranks,
+        trail,
+        moved,
+        tally,
+    );
     if number != 0 {
         return refuse(number, tally);
     }
@@ -190,6 +203,7 @@ pub fn edit_core(
         degrees,
         waves,
         counts,
+        ranks,
         trail,
         moved,
         tally,
@@ -204,14 +218,15 @@ pub fn add_core(
     degrees: &mut [u16],
     waves: &mut [u16],
     counts: &mut [u16],
+    ranks: &[u16],
     trail: &mut [u16],
     moved: &mut [u16],
     tally: Tally,
     a: Bank,
     b: Bank,
 ) -> Edited
-    ensures { λ r. ⌜ editResult (r .answer) (after neighbours degrees waves counts trail moved (r .tally))
-        ≡ edit Adding (a .0) (b .0) (before neighbours degrees waves counts trail moved tally) ⌝ }
+    ensures { λ r. ⌜ editResult (r .answer) (after neighbours degrees waves counts ranks trail moved (r .tally))
+        ≡ edit Adding (a .0) (b .0) (before neighbours degrees waves counts ranks trail moved tally) ⌝ }
 {
     edit_core(
         Kind::Adding,
@@ -219,6 +234,7 @@ pub fn add_core(
         degrees,
         waves,
         counts,
+        ranks,
         trail,
         moved,
         tally,
@@ -233,14 +249,15 @@ pub fn strike_core(
     degrees: &mut [u16],
     waves: &mut [u16],
     counts: &mut [u16],
+    ranks: &[u16],
     trail: &mut [u16],
     moved: &mut [u16],
     tally: Tally,
     a: Bank,
     b: Bank,
 ) -> Edited
-    ensures { λ r. ⌜ editResult (r .answer) (after neighbours degrees waves counts trail moved (r .tally))
-        ≡ edit Striking (a .0) (b .0) (before neighbours degrees waves counts trail moved tally) ⌝ }
+    ensures { λ r. ⌜ editResult (r .answer) (after neighbours degrees waves counts ranks trail moved (r .tally))
+        ≡ edit Striking (a .0) (b .0) (before neighbours degrees waves counts ranks trail moved tally) ⌝ }
 {
     edit_core(
         Kind::Striking,
@@ -248,6 +265,7 @@ pub fn strike_core(
         degrees,
         waves,
         counts,
+        ranks,
         trail,
         moved,
         tally,

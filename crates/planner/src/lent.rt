@@ -16,14 +16,15 @@ pub fn open(
     degrees: &mut [u16],
     waves: &mut [u16],
     counts: &mut [u16],
+    ranks: &mut [u16],
     banks: u16,
     tally: &mut Tally,
 ) -> u16
-    ensures { λ r. ⌜ openResult r (slicesAfter neighbours degrees waves counts) (now (tally .exit))
-        ≡ opened banks (slicesBefore neighbours degrees waves counts) (now (tally .entry)) ⌝ }
+    ensures { λ r. ⌜ openResult r (slicesAfter neighbours degrees waves counts ranks) (now (tally .exit))
+        ≡ opened banks (slicesBefore neighbours degrees waves counts ranks) (now (tally .entry)) ⌝ }
 {
     let t = *tally;
-    let opened = open_core(neighbours, degrees, waves, counts, banks, t);
+    let opened = open_core(neighbours, degrees, waves, counts, ranks, banks, t);
     *tally = opened.tally;
     opened.number
 }
@@ -34,17 +35,29 @@ pub fn add(
     degrees: &mut [u16],
     waves: &mut [u16],
     counts: &mut [u16],
+    ranks: &[u16],
     trail: &mut [u16],
     moved: &mut [u16],
     tally: &mut Tally,
     a: Bank,
     b: Bank,
 ) -> Answer
-    ensures { λ r. ⌜ editResult r (after neighbours degrees waves counts trail moved (now (tally .exit)))
-        ≡ edit Adding (a .0) (b .0) (before neighbours degrees waves counts trail moved (now (tally .entry))) ⌝ }
+    ensures { λ r. ⌜ editResult r (after neighbours degrees waves counts ranks trail moved (now (tally .exit)))
+        ≡ edit Adding (a .0) (b .0) (before neighbours degrees waves counts ranks trail moved (now (tally .entry))) ⌝ }
 {
     let t = *tally;
-    let added = add_core(neighbours, degrees, waves, counts, trail, moved, t, a, b);
+    let added = add_core(
+        neighbours,
+        degrees,
+        waves,
+        counts,
+        ranks,
+        trail,
+        moved,
+        t,
+        a,
+        b,
+    );
     *tally = added.tally;
     added.answer
 }
@@ -55,17 +68,29 @@ pub fn strike(
     degrees: &mut [u16],
     waves: &mut [u16],
     counts: &mut [u16],
+    ranks: &[u16],
     trail: &mut [u16],
     moved: &mut [u16],
     tally: &mut Tally,
     a: Bank,
     b: Bank,
 ) -> Answer
-    ensures { λ r. ⌜ editResult r (after neighbours degrees waves counts trail moved (now (tally .exit)))
-        ≡ edit Striking (a .0) (b .0) (before neighbours degrees waves counts trail moved (now (tally .entry))) ⌝ }
+    ensures { λ r. ⌜ editResult r (after neighbours degrees waves counts ranks trail moved (now (tally .exit)))
+        ≡ edit Striking (a .0) (b .0) (before neighbours degrees waves counts ranks trail moved (now (tally .entry))) ⌝ }
 {
     let t = *tally;
-    let struck = strike_core(neighbours, degrees, waves, counts, trail, moved, t, a, b);
+    let struck = strike_core(
+        neighbours,
+        degrees,
+        waves,
+        counts,
+        ranks,
+        trail,
+        moved,
+        t,
+        a,
+        b,
+    );
     *tally = struck.tally;
     struck.answer
 }

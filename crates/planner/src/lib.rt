@@ -1,6 +1,7 @@
 // The planner: a wave plan in caller-lent memory.
 mod checks;
 mod editing;
+mod entering;
 mod lent;
 mod opening;
 mod reading;
@@ -12,6 +13,8 @@ pub use editing::edit_core;
 pub use editing::edit_held;
 pub use editing::edit_number;
 pub use editing::strike_core;
+pub use entering::begun_by;
+pub use entering::enter_held;
 pub use lent::add;
 pub use lent::open;
 pub use lent::strike;

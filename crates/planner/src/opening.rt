@@ -44,11 +44,12 @@ pub fn open_core(
     degrees: &mut [u16],
     waves: &mut [u16],
     counts: &mut [u16],
+    ranks: &mut [u16],
     banks: u16,
     tally: Tally,
 ) -> Opened
-    ensures { λ r. ⌜ openResult (r .number) (slicesAfter neighbours degrees waves counts) (r .tally)
-        ≡ opened banks (slicesBefore neighbours degrees waves counts) tally ⌝ }
+    ensures { λ r. ⌜ openResult (r .number) (slicesAfter neighbours degrees waves counts ranks) (r .tally)
+        ≡ opened banks (slicesBefore neighbours degrees waves counts ranks) tally ⌝ }
 {
     let n = wide(banks);
     if MOST_BANKS < n {
@@ -57,7 +58,7 @@ pub fn open_core(
             tally: tally,
         };
     }
-    if !long_enough(neighbours, degrees, waves, counts, banks) {
+    if !long_enough(neighbours, degrees, waves, counts, ranks, banks) {
         return Opened {
             number: 2,
             tally: tally,
@@ -67,6 +68,7 @@ pub fn open_core(
     fill(degrees, n, 0);
     fill(waves, n, 0);
     fill(counts, n * COUNT_CELLS, 0);
+    fill(ranks, n, 0);
     Opened {
         number: 0,
         tally: Tally {
@@ -100,14 +102,15 @@ pub fn open_all(
     degrees: &mut [u16],
     waves: &mut [u16],
     counts: &mut [u16],
+    ranks: &mut [u16],
     trail: &[u16],
     moved: &[u16],
     banks: u16,
     tally: Tally,
 ) -> Opened
     ensures { λ r. ⌜ OpensAll banks
-        (before neighbours degrees waves counts trail moved tally) r
-        (after neighbours degrees waves counts trail moved (r .tally)) ⌝ }
+        (before neighbours degrees waves counts ranks trail moved tally) r
+        (after neighbours degrees waves counts ranks trail moved (r .tally)) ⌝ }
 {
     let number = room_number(banks, trail.len(), moved.len());
     if number != 0 {
@@ -116,5 +119,5 @@ pub fn open_all(
             tally: tally,
         };
     }
-    open_core(neighbours, degrees, waves, counts, banks, tally)
+    open_core(neighbours, degrees, waves, counts, ranks, banks, tally)
 }

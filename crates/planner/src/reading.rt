@@ -19,13 +19,14 @@ pub fn wave_of(
     degrees: &[u16],
     waves: &[u16],
     counts: &[u16],
+    ranks: &[u16],
     tally: Tally,
     b: Bank,
 ) -> Found
-    ensures number { λ r. ⌜ r .number ≡ bankNumber (b .0) (slicesBefore neighbours degrees waves counts) tally ⌝ }
-    ensures wave { λ r. ⌜ r .wave .0 ≡ waveOf (b .0) (slicesBefore neighbours degrees waves counts) tally ⌝ }
+    ensures number { λ r. ⌜ r .number ≡ bankNumber (b .0) (slicesBefore neighbours degrees waves counts ranks) tally ⌝ }
+    ensures wave { λ r. ⌜ r .wave .0 ≡ waveOf (b .0) (slicesBefore neighbours degrees waves counts ranks) tally ⌝ }
 {
-    let number = check_bank(neighbours, degrees, waves, counts, tally, b);
+    let number = check_bank(neighbours, degrees, waves, counts, ranks, tally, b);
     if number != 0 {
         return Found {
             number: number,
@@ -45,12 +46,13 @@ pub fn clashes_held<'a>(
     degrees: &[u16],
     waves: &[u16],
     counts: &[u16],
+    ranks: &[u16],
     tally: Tally,
     b: Bank,
 ) -> &'a [u16]
-    requires { ⌜ ((G : Graph) × PlanOf G (slicesGiven neighbours degrees waves counts) tally) × (b .0 < tally .banks) ⌝ }
+    requires { ⌜ ((G : Graph) × PlanOf G (slicesGiven neighbours degrees waves counts ranks) tally) × (b .0 < tally .banks) ⌝ }
     ensures { λ r. ⌜ ((G : Graph)
-        → PlanOf G (slicesBefore neighbours degrees waves counts) tally
+        → PlanOf G (slicesBefore neighbours degrees waves counts ranks) tally
         → now r ≡ neighboursOf G (b .0)) ⌝ }
 {
     let at = wide(b.0);
@@ -65,13 +67,14 @@ pub fn clashes_of<'a>(
     degrees: &[u16],
     waves: &[u16],
     counts: &[u16],
+    ranks: &[u16],
     tally: Tally,
     b: Bank,
 ) -> &'a [u16]
-    ensures { λ r. ⌜ now r ≡ clashesOf (b .0) (slicesBefore neighbours degrees waves counts) tally ⌝ }
+    ensures { λ r. ⌜ now r ≡ clashesOf (b .0) (slicesBefore neighbours degrees waves counts ranks) tally ⌝ }
 {
-    if check_bank(neighbours, degrees, waves, counts, tally, b) != 0 {
+    if check_bank(neighbours, degrees, waves, counts, ranks, tally, b) != 0 {
         return &neighbours[0..0];
     }
-    clashes_held(neighbours, degrees, waves, counts, tally, b)
+    clashes_held(neighbours, degrees, waves, counts, ranks, tally, b)
 }

@@ -1,16 +1,15 @@
--- The bits of a queue against the banks that wait, and the order of its words against the rule order.
-use mathlib.Core.Bool.{Bool, _&&_, not}
+-- The bits of a queue against the banks that wait.
+use mathlib.Core.Bool.{Bool, not}
 use mathlib.Core.List.{List}
-use mathlib.Core.Logic.{_⊎_, inl, inr, _≢_}
+use mathlib.Core.Logic.{_≢_}
 use mathlib.Core.Path.{_≡_, sym, ap, _∙_}
 use Prim.Native.Nat.{ℕ, _+_, _*_, _-_, _/_, _%_, _<_}
 use native.Mathlib.Decide.{ℕ-discrete}
 use native.Mathlib.Omega.{arith}
-use lib.Dec.{T, ltb, eqb, eqb→eq, ltb→lt}
+use lib.Dec.{T, eqb}
 use lib.ListN.{getD}
-use Rattle.rule.specs.Order.{earlierBy}
-use Rattle.rule.specs.Graph.{Graph, degree, earlier}
-use Rattle.rule.proofs.Booleans.{and-l, and-r, or-cases, T-along, lt-or-ge}
+use Rattle.rule.specs.Graph.{Graph}
+use Rattle.rule.proofs.Booleans.{T-along}
 use Rattle.queue.specs.Queue.{testBit, wordOf, waits, Queue, Keyed}
 use Rattle.queue.specs.inner.Words.{HasBit, Written}
 use Rattle.queue.proofs.Bits.{bit-none}
@@ -19,24 +18,7 @@ use Rattle.queue.proofs.Bits.{bit-none}
 pub zero-bit : {a : ℕ} (k : ℕ) → a ≡ 0 → T (testBit a k) → ⊥
 zero-bit k e t = T-along (ap (λ (x : ℕ). testBit x k) e ∙ bit-none k) t
 
--- ---- the order
-
--- an earlier bank stands in an earlier word, or at a lower bit of the same
-pub earlier-words : {G : Graph} → Keyed G → (x y : ℕ) → x < G .banks → y < G .banks → T (earlier G x y) → (wordOf G x < wordOf G y) ⊎ ((wordOf G x ≡ wordOf G y) × (x % 64 < y % 64))
-unfolding earlier earlierBy
-earlier-words {G} keyed x y lx ly t =
-    let dx = degree G x in
-    let dy = degree G y in
-    let sx = keyed .small x lx in
-    let sy = keyed .small y ly in
-    let few = keyed .few in
-    elim (or-cases (ltb dy dx) (eqb dx dy && ltb x y) t) [
-      | inl u ↦ inl (omega (arith, ltb→lt dy dx u))
-      | inr u ↦
-          let e = eqb→eq dx dy (and-l (eqb dx dy) (ltb x y) u) in
-          let l = ltb→lt x y (and-r (eqb dx dy) (ltb x y) u) in
-          elim (lt-or-ge (x / 64) (y / 64)) [ inl k ↦ inl (omega arith) | inr k ↦ inr (omega arith, omega arith) ]
-    ]
+-- ---- the words
 
 -- distinct banks have distinct bits
 same-bank : {G : Graph} → Keyed G → (x y : ℕ) → x < G .banks → y < G .banks → wordOf G x ≡ wordOf G y → x % 64 ≡ y % 64 → x ≡ y

@@ -1,17 +1,18 @@
 -- Bits of numbers: set, cleared, and the lowest that is set.
 use mathlib.Core.Bool.{Bool, true, false, _&&_, _||_, not}
-use mathlib.Core.Logic.{_≢_}
+use mathlib.Core.Logic.{inl, inr, _≢_}
 use mathlib.Core.Path.{_≡_, refl, sym, ap, _∙_, subst}
 use Prim.Native.Nat.{ℕ, zero, suc, _/_, _%_, _^_, _<_, max}
 use native.Mathlib.Nat.{mod-lt, div-one, zero-div, pow-suc, div-add-mod', mul-mod-left, mul-div-cancel}
 use native.Mathlib.Numerals.{one-add}
+use native.Mathlib.Decide.{ℕ-discrete}
 use native.Mathlib.Omega.{arith}
 use lib.Arith.{digits-mod, lt-one}
 use lib.Bits.{bitOr, bitXor, differ, or-step, xor-step, or-shr, xor-shr}
 use lib.Count.{trailingZeros, under}
-use lib.Dec.{T, eqb, eqb→eq, eqb·zero-suc, eqb·suc-zero, eqb·suc-suc}
+use lib.Dec.{T, eqb, eqb→eq, T-not, eqb·zero-suc, eqb·suc-zero, eqb·suc-suc}
 use lib.Pow.{shr-shr}
-use Rattle.rule.proofs.Booleans.{eq→eqb, T-along}
+use Rattle.rule.proofs.Booleans.{and-l, and-r, eq→eqb, T-along, lt-or-ge}
 use Rattle.queue.specs.Queue.{testBit}
 
 bit-first : (a : ℕ) → testBit a 0 ≡ eqb (a % 2) 1
@@ -114,3 +115,28 @@ pub trailing : (w a : ℕ) → a ≢ 0 → a < 2 ^ w → LowestBit w a (trailing
 unfolding trailingZeros
 trailing zero a n l = absurd (n (lt-one l))
 trailing (suc w) a n l = lowest-under w a (a % 2) (trailingZeros w (a / 2)) refl n (λ m. trailing w (a / 2) m (omega (arith, pow-suc 2 w)))
+
+-- 0 has as many zeros as bits
+trailing-zero : (w : ℕ) → trailingZeros w 0 ≡ w
+unfolding trailingZeros
+trailing-zero zero = refl
+trailing-zero (suc w) = ap suc (trailing-zero w)
+
+-- once the lowest bit is cleared, more zeros trail
+pub trailing-more : (w : ℕ) {a b : ℕ} → a ≢ 0 → a < 2 ^ w → b < 2 ^ w → ((k : ℕ) → testBit b k ≡ (testBit a k && not (eqb k (trailingZeros w a)))) → trailingZeros w a < trailingZeros w b
+trailing-more w {a} {b} n la lb cut =
+    let low = trailing w a n la in
+    elim (ℕ-discrete b 0) [
+      | yes e ↦ rw (e, trailing-zero w) (low .inside)
+      | no m ↦
+          let t = trailingZeros w a in
+          let u = trailingZeros w b in
+          let kept = T-along (cut u) (trailing w b m lb .set) in
+          elim (lt-or-ge t u) [
+            | inl l ↦ l
+            | inr l ↦ elim (ℕ-discrete u t) [
+              | yes e ↦ absurd (T-not (eqb u t) (and-r (testBit a u) (not (eqb u t)) kept) (eq→eqb u t e))
+              | no d ↦ absurd (low .below u (omega arith) (and-l (testBit a u) (not (eqb u t)) kept))
+            ]
+          ]
+    ]

@@ -3,5 +3,6 @@ pub mod Bits
 pub mod Writing
 pub mod Banks
 pub mod Putting
+pub mod Ranks
 pub mod Taking
 pub mod Queues

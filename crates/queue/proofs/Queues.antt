@@ -3,10 +3,10 @@ use mathlib.Core.Bool.{Bool, true, false, not}
 use mathlib.Core.List.{List}
 use mathlib.Core.Logic.{inl, inr}
 use mathlib.Core.Path.{_≡_, refl, sym, ap, _∙_}
-use Prim.Native.Nat.{ℕ, _+_, _/_, _%_}
+use Prim.Native.Nat.{ℕ, _+_, _/_, _%_, _<_, _≤_}
 use native.Mathlib.Omega.{arith}
 use lib.Dec.{eqb}
-use lib.ListN.{getD, replicate, length-replicate, getD-replicate, List·getD-eq-default}
+use lib.ListN.{length, getD, replicate, length-replicate, getD-replicate, List·getD-eq-default}
 use Rattle.rule.specs.Graph.{Graph}
 use Rattle.rule.proofs.Booleans.{lt-or-ge}
 use Rattle.queue.specs.Queue.{testBit, wordOf, waits, Queue, Keyed, Empty, TellsEmpty, Waiting}
@@ -49,5 +49,5 @@ module _ {G : Graph} {words : List ℕ} {r : Bool} (tells : TellsEmpty G words r
   pub none-waits : not r ≡ false → Empty G words
   none-waits e = tells .none (not-false r e)
 
-  pub some-waits : Keyed G → Queue G words → not r ≡ true → Waiting G words
-  some-waits keyed queue e = record { keyed = keyed; queue = queue; some = tells .some (not-true r e) }
+  pub some-waits : {rs : List ℕ} → Keyed G → Queue G words → G .banks ≤ length rs → ((b : ℕ) → b < G .banks → getD rs b 0 ≡ G .rank b) → not r ≡ true → Waiting G rs words
+  some-waits keyed queue wide ranks e = record { keyed = keyed; queue = queue; some = tells .some (not-true r e); wide-ranks = wide; ranks = ranks }

@@ -9,13 +9,15 @@ use native.Mathlib.Omega.{arith}
 use lib.Count.{trailingZeros}
 use lib.Dec.{T, eqb, eqb→eq, T-not, not-T}
 use lib.ListN.{getD}
-use Rattle.rule.specs.Graph.{Graph, earlier}
+use Rattle.rule.specs.Graph.{Graph, degree, earlier}
 use Rattle.rule.proofs.Booleans.{T-along, and-true, eq→eqb, lt-or-ge, and-false}
+use Rattle.rule.proofs.Degrees.{earlier-degree, earlier-tie}
 use Rattle.queue.specs.Queue.{testBit, wordOf, waits, Queue, Keyed, Empty, TellsEmpty, Waiting, Dequeued}
-use Rattle.queue.specs.inner.Words.{Written, First, Head}
+use Rattle.queue.specs.inner.Words.{HasBit, Written, First, Head}
+use Rattle.queue.specs.inner.Ties.{tied, inDegree, FirstOfDegree}
 use Rattle.queue.proofs.Bits.{LowestBit, trailing}
 use Rattle.queue.proofs.Writing.{own-place, other-place}
-use Rattle.queue.proofs.Banks.{zero-bit, earlier-words, word-inside, written-queue, written-own, written-other}
+use Rattle.queue.proofs.Banks.{zero-bit, word-inside, word-bits, written-queue, written-own, written-other}
 
 module _ {G : Graph} {q : List ℕ} (queue : Queue G q) where
   -- a word whose bit in the summary is not set is 0
@@ -74,7 +76,7 @@ module _ {G : Graph} {q : List ℕ} (queue : Queue G q) where
     abbrev bank : ℕ
     bank = w % 16 * 64 + low
 
-    pub lowest : LowestBit 64 (getD q w 0) (trailingZeros 64 (getD q w 0))
+    lowest : LowestBit 64 (getD q w 0) (trailingZeros 64 (getD q w 0))
     lowest = trailing 64 (getD q w 0) (head .some) (queue .fits w)
 
     named : (bank < G .banks) × (w ≡ wordOf G bank)
@@ -91,34 +93,66 @@ module _ {G : Graph} {q : List ℕ} (queue : Queue G q) where
     pub one-waits : Empty G q → ⊥
     one-waits none = none bank (named .0) head-waits
 
-    head-first : Keyed G → (x : ℕ) → x < G .banks → T (waits G q x) → T (earlier G x bank) → ⊥
-    unfolding waits
-    head-first keyed x lx t e =
-        elim (earlier-words keyed x bank lx (named .0) e) [
-          | inl l ↦ zero-bit (x % 64) (head .none (wordOf G x) (omega (arith, named .1))) t
-          | inr r ↦ lowest .below (x % 64) (omega (arith, own-bit, r .1)) (subst (λ (i : ℕ). T (testBit (getD q i 0) (x % 64))) (r .0 ∙ sym (named .1)) t)
-        ]
+-- the first bank of the first degree that has one
+module _ {G : Graph} {rs q : List ℕ} (wait : Waiting G rs q) {w h : ℕ} (head : Head q w) (found : FirstOfDegree rs q w h) where
+  abbrev spot : ℕ
+  spot = w / 16 * 16 + h / 64
 
-    -- its word has its bit in the summary, also once it is written
-    pub still-marked : {q₁ : List ℕ} {value : Bool} → Written q q₁ w (trailingZeros 64 (getD q w 0)) value → T (testBit (getD q₁ (384 + w / 64) 0) (w % 64))
-    still-marked one =
-        T-along (sym (ap (λ (a : ℕ). testBit a (w % 64)) (one .elsewhere (384 + w / 64) (λ e. omega (arith, head .inside))) ∙ queue .summary w (head .inside)))
-        (not-T (eqb (getD q w 0) 0) (λ t. head .some (eqb→eq (getD q w 0) 0 t)))
+  pub spot-less : w / 16 * 16 + h / 64 < 384
+  spot-less = omega (arith, head .inside, found .inside)
 
-    -- what `dequeue` does
-    pub dequeued : {q₁ q₂ : List ℕ} → Keyed G → Written q q₁ w (trailingZeros 64 (getD q w 0)) false → Written q₁ q₂ (384 + w / 64) (w % 64) (not (eqb (getD q₁ w 0) 0))
-        → Dequeued G q q₂ (w % 16 * 64 + trailingZeros 64 (getD q w 0))
-    dequeued keyed one two = record {
-      queue = written-queue keyed queue (named .0) (named .1) own-bit one two refl;
-      next = record { bank = named .0; waits = head-waits; first = head-first keyed };
-      members = λ x l. elim (ℕ-discrete x bank) [
-        | yes e ↦ rw (e, own-place bank, and-false) (written-own keyed queue (named .0) (named .1) own-bit one two)
-        | no n ↦ rw (other-place n, and-true) (written-other keyed queue (named .0) (named .1) own-bit one two x l n)
-      ];
-    }
+  pub has-bit : HasBit q (w / 16 * 16 + h / 64) (h % 64)
+  has-bit = word-bits (wait .queue) spot-less (omega arith)
+
+  pub bit-set : T (testBit (getD q (w / 16 * 16 + h / 64) 0) (h % 64))
+  unfolding inDegree
+  bit-set = found .waits
+
+  found-named : (h < G .banks) × (spot ≡ wordOf G h)
+  found-named =
+      let e : spot % 16 * 64 + h % 64 ≡ h = omega (arith, found .inside) in
+      rw e at (wait .queue .names spot (h % 64) spot-less (omega arith) bit-set)
+
+  found-waits : T (waits G q h)
+  unfolding waits
+  found-waits = rw (← (found-named .1)) bit-set
+
+  -- a bank of a higher degree would stand in a word before the first; in the same degree rank and number decide
+  found-first : (x : ℕ) → x < G .banks → T (waits G q x) → T (earlier G x h) → ⊥
+  unfolding waits inDegree tied
+  found-first x lx t e =
+      let few = wait .keyed .few in
+      let sx = wait .keyed .small x lx in
+      let sh = wait .keyed .small h (found-named .0) in
+      elim (lt-or-ge (degree G h) (degree G x)) [
+        | inl l ↦ zero-bit (x % 64) (head .none (wordOf G x) (omega (arith, found-named .1))) t
+        | inr l ↦
+            let d : degree G x ≡ degree G h = omega (arith, earlier-degree G x h e) in
+            let i : wordOf G x ≡ w / 16 * 16 + x / 64 = omega (arith, found-named .1) in
+            found .first x (omega arith) (rw i at t) (rw (wait .ranks x lx, wait .ranks h (found-named .0)) (T-along (earlier-tie G x h d) e))
+      ]
+
+  -- its word has its bit in the summary, also once it is written
+  pub still-marked : {q₁ : List ℕ} {value : Bool} → Written q q₁ (w / 16 * 16 + h / 64) (h % 64) value
+      → T (testBit (getD q₁ (384 + (w / 16 * 16 + h / 64) / 64) 0) ((w / 16 * 16 + h / 64) % 64))
+  still-marked one =
+      T-along (sym (ap (λ (a : ℕ). testBit a (spot % 64)) (one .elsewhere (384 + spot / 64) (λ e. omega (arith, spot-less))) ∙ wait .queue .summary spot spot-less))
+      (not-T (eqb (getD q spot 0) 0) (λ t. zero-bit (h % 64) (eqb→eq (getD q spot 0) 0 t) bit-set))
+
+  -- what `dequeue` does
+  pub dequeued : {q₁ q₂ : List ℕ} → Written q q₁ (w / 16 * 16 + h / 64) (h % 64) false
+      → Written q₁ q₂ (384 + (w / 16 * 16 + h / 64) / 64) ((w / 16 * 16 + h / 64) % 64) (not (eqb (getD q₁ (w / 16 * 16 + h / 64) 0) 0)) → Dequeued G q q₂ h
+  dequeued one two = record {
+    queue = written-queue (wait .keyed) (wait .queue) (found-named .0) (found-named .1) refl one two refl;
+    next = record { bank = found-named .0; waits = found-waits; first = found-first };
+    members = λ x l. elim (ℕ-discrete x h) [
+      | yes e ↦ rw (e, own-place h, and-false) (written-own (wait .keyed) (wait .queue) (found-named .0) (found-named .1) refl one two)
+      | no n ↦ rw (other-place n, and-true) (written-other (wait .keyed) (wait .queue) (found-named .0) (found-named .1) refl one two x l n)
+    ];
+  }
 
 -- some bank waits, so the summary is not 0
-pub summary-inside : {G : Graph} {q : List ℕ} {s : ℕ} → Waiting G q → First q s → s < 390
+pub summary-inside : {G : Graph} {rs q : List ℕ} {s : ℕ} → Waiting G rs q → First q s → s < 390
 summary-inside {s = s} wait first =
     elim (lt-or-ge s 390) [
       | inl l ↦ l

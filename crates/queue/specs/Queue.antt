@@ -54,11 +54,13 @@ pub record TellsEmpty (G : Graph) (words : List ℕ) (r : Bool) : Type 0 where
   pub none : r ≡ true → Empty G words
   pub some : r ≡ false → Empty G words → ⊥
 
--- some bank waits
-pub record Waiting (G : Graph) (words : List ℕ) : Type 0 where
+-- some bank waits, and the cells hold the ranks
+pub record Waiting (G : Graph) (rs words : List ℕ) : Type 0 where
   pub keyed : Keyed G
   pub queue : Queue G words
   pub some : Empty G words → ⊥
+  pub wide-ranks : G .banks ≤ length rs
+  pub ranks : (b : ℕ) → b < G .banks → getD rs b 0 ≡ G .rank b
 
 -- h, the earliest bank that waits, is out of the queue
 pub record Dequeued (G : Graph) (old new : List ℕ) (h : ℕ) : Type 0 where

@@ -1,2 +1,3 @@
 -- What only this crate's own functions speak of.
 pub mod Words
+pub mod Ties

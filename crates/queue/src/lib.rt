@@ -1,6 +1,7 @@
-// The priority queue of an edit: a bit for each degree and number, so that the set bits stand in the rule order and no bank stands there twice. A
-// summary has a bit for each word, so that the first word that is not 0 is found in a few steps.
+// The priority queue of an edit: a bit for each degree and number, so that the degrees stand in the rule order and no bank stands there twice. A
+// summary has a bit for each word, so that the first word that is not 0 is found in a few steps. Among the banks of its degree ranks decide.
 mod queue;
+mod ties;
 mod words;
 
 pub use queue::dequeue;

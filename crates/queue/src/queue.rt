@@ -1,20 +1,19 @@
 // The banks of a queue: put in, taken out, the earliest first.
+use crate::ties::first_of_degree;
 use crate::words::BANK_WORDS;
+use crate::words::DEGREE_WORDS;
+use crate::words::WORD_BITS;
 use crate::words::WORDS;
 use crate::words::clear_bit;
 use crate::words::first_summary;
 use crate::words::set_bit;
 use rule::Bank;
 use rule::MOST_CLASHES;
+ghost use mathlib.Core.List.{List};
+ghost use Prim.Native.Nat.{ℕ};
 ghost use Rattle.rule.specs.Graph.{Graph};
 ghost use Rattle.queue.specs.Queue.{Queue, Keyed, Enqueuable, Enqueued, TellsEmpty, Waiting, Dequeued};
 ghost use Rattle.queue.specs.inner.Words.{Head};
-
-// The bits of a word.
-const WORD_BITS: usize = 64;
-
-// The words of a degree: a bit for each of the 1,024 banks.
-const DEGREE_WORDS: usize = 16;
 
 // If `put`, puts v into the queue.
 pub fn enqueue(degrees: &[u16], queue: &mut [u64; WORDS], v: Bank, put: bool)
@@ -38,7 +37,7 @@ pub fn is_empty(queue: &[u64; WORDS]) -> bool
 
 // The first word in which a bank waits, where some bank waits.
 fn first_word(queue: &[u64; WORDS]) -> usize
-    requires { ⌜ ((G : Graph) × Waiting G (now queue)) ⌝ }
+    requires { ⌜ ((G : Graph) × (rs : List ℕ) × Waiting G rs (now queue)) ⌝ }
     ensures { λ r. ⌜ Head (now (queue .entry)) r ⌝ }
 {
     let at = first_summary(queue);
@@ -47,16 +46,15 @@ fn first_word(queue: &[u64; WORDS]) -> usize
 }
 
 // Takes the earliest bank out of the queue, where some bank waits.
-pub fn dequeue(queue: &mut [u64; WORDS]) -> Bank
-    requires { ⌜ ((G : Graph) × Waiting G (now queue)) ⌝ }
-    ensures { λ r. ⌜ ((G : Graph) → Waiting G (now (queue .entry))
+pub fn dequeue(ranks: &[u16], queue: &mut [u64; WORDS]) -> Bank
+    requires { ⌜ ((G : Graph) × Waiting G (now ranks) (now queue)) ⌝ }
+    ensures { λ r. ⌜ ((G : Graph) → Waiting G (now (ranks .entry)) (now (queue .entry))
         → Dequeued G (now (queue .entry)) (now (queue .exit)) (r .0)) ⌝ }
 {
-    let word = first_word(queue);
-    let bits = queue[word];
-    let low = u64::trailing_zeros(bits) as usize;
-    let number = word % DEGREE_WORDS * WORD_BITS + low;
-    clear_bit(queue, word, low, true);
+    let head = first_word(queue);
+    let number = first_of_degree(ranks, queue, head);
+    let word = head / DEGREE_WORDS * DEGREE_WORDS + number / WORD_BITS;
+    clear_bit(queue, word, number % WORD_BITS, true);
     let left = queue[word];
     clear_bit(
         queue,

@@ -11,6 +11,12 @@ pub const BANK_WORDS: usize = 384;
 // The words of a queue: those of the banks, and a summary with a bit for each of them.
 pub const WORDS: usize = 390;
 
+// The bits of a word.
+pub const WORD_BITS: usize = 64;
+
+// The words of a degree: a bit for each of the 1,024 banks.
+pub const DEGREE_WORDS: usize = 16;
+
 // If `put`, sets bit `place` of a word. No branch: of a bank's neighbours about half are put.
 pub fn set_bit(queue: &mut [u64; WORDS], word: usize, place: usize, put: bool)
     requires { ⌜ HasBit (now queue) word place ⌝ }

@@ -20,6 +20,12 @@ unfolding edited
 edited-banks Adding G a b = refl
 edited-banks Striking G a b = refl
 
+-- an edit changes no rank
+pub edited-ranks : (k : Kind) (G : Graph) (a b : ℕ) → edited k G a b .rank ≡ G .rank
+unfolding edited
+edited-ranks Adding G a b = refl
+edited-ranks Striking G a b = refl
+
 -- a clash that was not there (c, and d in the other plan) and now is: by p in the one, so by q in the other
 came : (c d p q : Bool) → (T c → ⊥) → T p → c ≡ d → (c || p) ≡ (d || q) → T q
 came true d p q n t e f = absurd (n tt)

@@ -16,4 +16,5 @@ pub mod Turned
 pub mod Reaches
 pub mod Strike
 pub mod Fixed
+pub mod Renumbering
 pub mod Theorems

@@ -1,11 +1,11 @@
 -- Lists by their members: `T (memb x xs)` is "x is in xs".
 use mathlib.Core.Bool.{Bool, true, false, cond, _&&_}
-use mathlib.Core.List.{List, [], _∷_, _++_, map, append-nil}
+use mathlib.Core.List.{List, [], _∷_, _++_, map, foldr, append-nil}
 use mathlib.Core.Logic.{_⊎_, inl, inr, ⊎-elim}
 use mathlib.Core.Path.{_≡_, refl, sym, ap, subst, _∙_}
 use native.Mathlib.Nat.{eq-or-lt-of-le}
 use native.Mathlib.Omega.{arith}
-use Prim.Native.Nat.{ℕ, zero, suc, _≤_, _<_}
+use Prim.Native.Nat.{ℕ, zero, suc, _≤_, _<_, max}
 use lib.Dec.{T, eqb, eqb→eq}
 use lib.ListN.{length, length-append}
 use Rattle.rule.specs.Lists.{upto, filter, some, memb}
@@ -220,3 +220,35 @@ in-some p (y ∷ ys) t =
       | inl u ↦ (y, in-head y y ys refl, u)
       | inr u ↦ let r = in-some p ys u in (r .0, in-tail (r .0) y ys (r .1), r .2)
     ]
+
+-- the members of a list of values
+pub in-map : (f : ℕ → ℕ) (xs : List ℕ) (x : ℕ) → T (memb x xs) → T (memb (f x) (map f xs))
+in-map f [] x m = absurd (in-none x m)
+in-map f (y ∷ ys) x m = elim (in-cons x y ys m) [ inl e ↦ in-head (f x) (f y) (map f ys) (ap f e) | inr u ↦ in-tail (f x) (f y) (map f ys) (in-map f ys x u) ]
+
+pub map-in : (f : ℕ → ℕ) (xs : List ℕ) (y : ℕ) → T (memb y (map f xs)) → (x : ℕ) × T (memb x xs) × (y ≡ f x)
+map-in f [] y m = absurd (in-none y m)
+map-in f (x ∷ xs) y m =
+    elim (in-cons y (f x) (map f xs) m) [
+      | inl e ↦ (x, in-head x x xs refl, e)
+      | inr t ↦ let r = map-in f xs y t in (r .0, in-tail (r .0) x xs (r .1), r .2)
+    ]
+
+pub count-map : (p : ℕ → Bool) (f : ℕ → ℕ) (xs : List ℕ) → length (filter p (map f xs)) ≡ length (filter (λ x. p (f x)) xs)
+unfolding filter
+count-map p f [] = refl
+count-map p f (x ∷ xs) = go (p (f x)) (count-map p f xs)
+  where
+    go : (t : Bool) → length (filter p (map f xs)) ≡ length (filter (λ x. p (f x)) xs)
+        → length (cond t (f x ∷ filter p (map f xs)) (filter p (map f xs))) ≡ length (cond t (x ∷ filter (λ x. p (f x)) xs) (filter (λ x. p (f x)) xs))
+    go true e = omega arith
+    go false e = e
+
+-- the largest value is no smaller than each, and no larger than what bounds each
+pub most-above : (f : ℕ → ℕ) (xs : List ℕ) (x : ℕ) → T (memb x xs) → f x ≤ foldr (λ b k. max (f b) k) 0 xs
+most-above f [] x m = absurd (in-none x m)
+most-above f (y ∷ ys) x m = elim (in-cons x y ys m) [ inl e ↦ rw e (omega arith) | inr u ↦ omega (arith, most-above f ys x u) ]
+
+pub most-below : (f : ℕ → ℕ) (xs : List ℕ) (m : ℕ) → ((x : ℕ) → T (memb x xs) → f x ≤ m) → foldr (λ b k. max (f b) k) 0 xs ≤ m
+most-below f [] m h = omega arith
+most-below f (y ∷ ys) m h = omega (arith, h y (in-head y y ys refl), most-below f ys m (λ x i. h x (in-tail x y ys i)))

@@ -6,9 +6,10 @@ use native.Mathlib.Omega.{arith}
 use Prim.Native.Nat.{ℕ}
 use lib.Dec.{T, ltb, eqb, ltb→lt, lt→ltb, eqb→eq, not-T, T-not}
 use Rattle.rule.specs.Lists.{Strict}
-use Rattle.rule.specs.Order.{earlierBy}
+use Rattle.rule.specs.Order.{tieBy, earlierBy}
 use Rattle.rule.specs.Graph.{Graph, degree, earlier}
 use Rattle.rule.proofs.Booleans.{and-l, and-r, both, or-l, or-r, or-cases, passes?, eq→eqb, lt-or-ge, test-ext}
+use Rattle.rule.proofs.Degrees.{without-numbers}
 
 pub ltb-strict : Strict ltb
 ltb-strict = record {
@@ -64,20 +65,34 @@ module _ (key : ℕ → ℕ) (K R : ℕ → ℕ → Bool) (strictK : Strict K) (
     ];
   }
 
--- the larger key first, then the smaller number
-pub keyed-strict : (key : ℕ → ℕ) → Strict (λ x y. earlierBy (key x) x (key y) y)
-unfolding earlierBy
-keyed-strict key = byKey-strict key (λ m n. ltb n m) ltb (turn-strict ltb ltb-strict) ltb-strict
+-- the smaller rank first, then the smaller number
+pub tie-strict : (rank : ℕ → ℕ) → Strict (λ x y. tieBy (rank x) x (rank y) y)
+unfolding tieBy
+tie-strict rank = byKey-strict rank ltb ltb ltb-strict ltb-strict
 
--- `earlier` depends on the two degrees alone
-pub earlier-same : (G H : Graph) (p q : ℕ) → degree G p ≡ degree H p → degree G q ≡ degree H q → earlier G p q ≡ earlier H p q
+-- the larger key first, then the smaller rank, then the smaller number
+pub keyed-strict : (key rank : ℕ → ℕ) → Strict (λ x y. earlierBy (key x) (rank x) x (key y) (rank y) y)
+unfolding earlierBy
+keyed-strict key rank =
+    byKey-strict key (λ m n. ltb n m) (λ x y. tieBy (rank x) x (rank y) y) (turn-strict ltb ltb-strict) (tie-strict rank)
+
+-- `earlier` depends on the two degrees and ranks alone
+pub earlier-same : (G H : Graph) (p q : ℕ) → degree G p ≡ degree H p → degree G q ≡ degree H q → G .rank p ≡ H .rank p → G .rank q ≡ H .rank q
+    → earlier G p q ≡ earlier H p q
 unfolding earlier
-earlier-same G H p q dp dq = cc
+earlier-same G H p q dp dq rp rq = cc
+
+-- where the two ranks differ, the numbers do not count: the banks may have others
+pub earlier-elsewhere : (G H : Graph) (p q p′ q′ : ℕ) → degree G p ≡ degree H p′ → degree G q ≡ degree H q′ → G .rank p ≡ H .rank p′ → G .rank q ≡ H .rank q′
+    → G .rank p ≢ G .rank q → earlier G p q ≡ earlier H p′ q′
+unfolding earlier
+earlier-elsewhere G H p q p′ q′ dp dq rp rq n =
+    let e = without-numbers (degree G p) (G .rank p) p p′ (degree G q) (G .rank q) q q′ n in cc
 
 module _ (G : Graph) where
   pub earlier-strict : Strict (earlier G)
   unfolding earlier
-  earlier-strict = keyed-strict (degree G)
+  earlier-strict = keyed-strict (degree G) (G .rank)
 
   pub earlier-irrefl : (p : ℕ) → T (earlier G p p) → ⊥
   earlier-irrefl = earlier-strict .irrefl

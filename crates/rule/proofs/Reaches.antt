@@ -131,10 +131,10 @@ module _ (k : Kind) (old new : Graph) (a b : ℕ) (la : a < new .banks) (lb : b 
 -- of two sets of clashes that agree between the banks
 module _ {G H : Graph} (s : Same G H) where
   same-earlier : (x y : ℕ) → x < H .banks → y < H .banks → earlier G x y ≡ earlier H x y
-  same-earlier = earlier-agree G H (s .banks) (s .clash)
+  same-earlier = earlier-agree s
 
   same-wave : (x : ℕ) → x < H .banks → wave G x ≡ wave H x
-  same-wave = wave-agree G H (s .banks) (s .clash)
+  same-wave = wave-agree s
 
   sorted-along : (xs : List ℕ) → ((x : ℕ) → T (memb x xs) → x < H .banks) → Sorted (earlier H) xs → Sorted (earlier G) xs
   sorted-along [] h t = tt

@@ -58,6 +58,7 @@ module _ (old new : Graph) (a b : ℕ) (edit : OneEdit old new a b) where
         | inr na ↦ elim (passes? (eqb v b)) [
           | inl t ↦ let e = eqb→eq v b t in rw e (not-turned b x (rw e at hv) hx (s .1) (s .3) (rw e at c))
           | inr nb ↦ earlier-same old new v x (degree-elsewhere v hv (λ e. na (eq→eqb v a e)) (λ e. nb (eq→eqb v b e))) (degree-elsewhere x hx (s .0) (s .1))
+              (edit .sameRanks v hv) (edit .sameRanks x hx)
         ]
       ])
 

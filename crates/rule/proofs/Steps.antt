@@ -28,6 +28,7 @@ module _ (G : Graph) (symmetric : (x y : ℕ) → x < G .banks → y < G .banks 
   added-one = record {
     sameBanks = refl;
     elsewhere = λ x y hx hy n. or-fail (G .clash x y) (pair a b x y) n;
+    sameRanks = λ x hx. refl;
     symmetric = λ x y hx hy. ap₂ _||_ (symmetric x y hx hy) (pair-comm a b x y);
   }
 
@@ -35,6 +36,7 @@ module _ (G : Graph) (symmetric : (x y : ℕ) → x < G .banks → y < G .banks 
   struck-one = record {
     sameBanks = refl;
     elsewhere = λ x y hx hy n. and-pass (G .clash x y) (pair a b x y) n;
+    sameRanks = λ x hx. refl;
     symmetric = λ x y hx hy. ap₂ (λ s t. s && not t) (symmetric x y hx hy) (pair-comm a b x y);
   }
 

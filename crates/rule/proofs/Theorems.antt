@@ -9,8 +9,9 @@ use lib.Dec.{T, ltb, eqb}
 use lib.ListN.{length}
 use Rattle.rule.specs.Lists.{memb, insertBy, Sorted, Once, Strict}
 use Rattle.rule.specs.Graph.{Graph, degree, earlier, earlierNeighbours, order, Same}
-use Rattle.rule.specs.Wave.{lowestFree, wave}
+use Rattle.rule.specs.Wave.{lowestFree, wave, waveCount}
 use Rattle.rule.specs.Reach.{edited, changed, isTurned, onTrail, trail, moved, around}
+use Rattle.rule.specs.Renumbering.{Renumbered, RanksDiffer}
 use Rattle.rule.specs.declared.Kind.{Kind}
 use Rattle.rule.specs.WorkList.{OneEdit, Allowed, turned, seed, isTaken, taken, WorkList, Next}
 use Rattle.rule.proofs.Free
@@ -24,6 +25,7 @@ use Rattle.rule.proofs.Steps
 use Rattle.rule.proofs.Turned
 use Rattle.rule.proofs.Reaches
 use Rattle.rule.proofs.Fixed
+use Rattle.rule.proofs.Renumbering
 use Rattle.rule.proofs.Booleans.{T-along, and-l, and-r, both}
 use Rattle.rule.proofs.Lists.{filter-true}
 
@@ -63,9 +65,8 @@ wave-le = Waves.wave-le
 pub wave-small : (G : Graph) (b : ℕ) → b < G .banks → degree G b ≤ 23 → wave G b ≤ 23
 wave-small G b h few = omega (arith, Waves.wave-le G b h, Neighbours.fewer-earlier G b)
 
--- 4. only the clashes between banks count: for the waves, the order, the trail and the moved list
-pub wave-agree : (G H : Graph) → G .banks ≡ H .banks → ((x y : ℕ) → x < H .banks → y < H .banks → G .clash x y ≡ H .clash x y)
-    → (x : ℕ) → x < H .banks → wave G x ≡ wave H x
+-- 4. only the clashes between banks and their ranks count: for the waves, the order, the trail and the moved list
+pub wave-agree : {G H : Graph} → Same G H → (x : ℕ) → x < H .banks → wave G x ≡ wave H x
 wave-agree = Agree.wave-agree
 
 pub order-agree : {G H : Graph} → Same G H → order G ≡ order H
@@ -79,10 +80,14 @@ module _ {old new old′ new′ : Graph} (o : Same old old′) (n : Same new new
   pub trail-agree : (k : Kind) (a b : ℕ) → a < new′ .banks → b < new′ .banks → trail k old new a b ≡ trail k old′ new′ a b
   trail-agree = Reaches.trail-agree o n banks
 
--- the old and the new clashes fix the trail of an edit, whatever its kind, and whichever of its banks is named first
+-- the old and the new clashes and the ranks fix the trail of an edit, whatever its kind, and whichever of its banks is named first
 pub trail-fixed : {G H : Graph} (k k′ : Kind) (a b a′ b′ : ℕ) → a < G .banks → b < G .banks → Allowed k G a b
     → Same G H → Same (edited k G a b) (edited k′ H a′ b′) → trail k G (edited k G a b) a b ≡ trail k′ H (edited k′ H a′ b′) a′ b′
 trail-fixed = Fixed.trail-fixed
+
+-- and an edit changes no rank
+pub edited-ranks : (k : Kind) (G : Graph) (a b : ℕ) → edited k G a b .rank ≡ G .rank
+edited-ranks = Fixed.edited-ranks
 
 -- 5. the trail and the moved list are in the new order, name none twice, and name exactly the banks of their test
 module _ (k : Kind) (old new : Graph) (a b : ℕ) where
@@ -209,3 +214,11 @@ pub is-moved : (old new : Graph) (xs : List ℕ) → Sorted (earlier new) xs
     → ((x : ℕ) → memb x xs ≡ (ltb x (new .banks) && changed old new x)) → xs ≡ moved old new
 unfolding moved
 is-moved old new = Sorting.ordered-unique new (changed old new)
+
+-- 9. if the banks are renumbered and no two ranks are equal, each bank keeps its wave, and the plan has as many waves
+module _ {G H : Graph} {to from : ℕ → ℕ} where
+  pub renumbered-waves : Renumbered G H to from → RanksDiffer G → (x : ℕ) → x < G .banks → wave H (to x) ≡ wave G x
+  renumbered-waves = Renumbering.renumbered-waves
+
+  pub renumbered-count : Renumbered G H to from → RanksDiffer G → waveCount H ≡ waveCount G
+  renumbered-count = Renumbering.renumbered-count

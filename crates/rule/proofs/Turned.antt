@@ -2,12 +2,12 @@
 -- one, so no neighbour gets earlier than they are.
 use mathlib.Core.Bool.{Bool, true, false, _&&_, _||_, not, Bool·beq}
 use mathlib.Core.Logic.{_⊎_, inl, inr, _≢_}
-use mathlib.Core.Path.{_≡_, refl, sym, ap, ap₂}
+use mathlib.Core.Path.{_≡_, refl, sym, ap, ap₂, subst}
 use native.Mathlib.Decide.{ℕ-discrete}
 use native.Mathlib.Omega.{arith}
 use Prim.Native.Nat.{ℕ, _+_, _<_}
 use lib.Dec.{T, eqb, ltb, eqb→eq, ltb→lt, lt→ltb}
-use Rattle.rule.specs.Order.{earlierBy}
+use Rattle.rule.specs.Order.{tieBy, earlierBy}
 use Rattle.rule.specs.Graph.{Graph, degree, earlier, later, order, added, struck}
 use Rattle.rule.specs.Reach.{edited, isNamed, isTurned, isReached, onTrail, trail}
 use Rattle.rule.specs.declared.Kind.{Kind}
@@ -19,49 +19,58 @@ use Rattle.rule.proofs.Order.{earlier-irrefl}
 use Rattle.rule.proofs.OneClash.{degrees-more, degrees-less, degree-added, degree-struck}
 use Rattle.rule.proofs.Steps.{added-one, struck-one}
 
-says : (dp p dq q : ℕ) → T (earlierBy dp p dq q) → (dq < dp) ⊎ ((dp ≡ dq) × (p < q))
-unfolding earlierBy
-says dp p dq q t =
-    elim (or-cases (ltb dq dp) (eqb dp dq && ltb p q) t) [
-      | inl u ↦ inl (ltb→lt dq dp u)
-      | inr u ↦ inr (eqb→eq dp dq (and-l (eqb dp dq) (ltb p q) u), ltb→lt p q (and-r (eqb dp dq) (ltb p q) u))
-    ]
+-- the ranks and numbers of two banks, p and q
+module _ (rp p rq q : ℕ) where
+  says : (dp dq : ℕ) → T (earlierBy dp rp p dq rq q) → (dq < dp) ⊎ ((dp ≡ dq) × T (tieBy rp p rq q))
+  unfolding earlierBy
+  says dp dq t =
+      elim (or-cases (ltb dq dp) (eqb dp dq && tieBy rp p rq q) t) [
+        | inl u ↦ inl (ltb→lt dq dp u)
+        | inr u ↦ inr (eqb→eq dp dq (and-l (eqb dp dq) (tieBy rp p rq q) u), and-r (eqb dp dq) (tieBy rp p rq q) u)
+      ]
 
-by-more : (dp p dq q : ℕ) → dq < dp → T (earlierBy dp p dq q)
-unfolding earlierBy
-by-more dp p dq q h = or-l (ltb dq dp) _ (lt→ltb dq dp h)
+  by-more : (dp dq : ℕ) → dq < dp → T (earlierBy dp rp p dq rq q)
+  unfolding earlierBy
+  by-more dp dq h = or-l (ltb dq dp) _ (lt→ltb dq dp h)
 
-by-number : (dp p dq q : ℕ) → dp ≡ dq → p < q → T (earlierBy dp p dq q)
-unfolding earlierBy
-by-number dp p dq q e h = or-r (ltb dq dp) _ (both (eqb dp dq) (ltb p q) (eq→eqb dp dq e) (lt→ltb p q h))
+  by-tie : (dp dq : ℕ) → dp ≡ dq → T (tieBy rp p rq q) → T (earlierBy dp rp p dq rq q)
+  unfolding earlierBy
+  by-tie dp dq e h = or-r (ltb dq dp) _ (both (eqb dp dq) (tieBy rp p rq q) (eq→eqb dp dq e) h)
 
--- the degrees of a and b are one higher in `hi`, all others the same
+  -- from one pair of degrees to another
+  carry : (hp hq lp lq : ℕ) → (hq < hp → lq < lp) → (hp ≡ hq → T (tieBy rp p rq q) → T (earlierBy lp rp p lq rq q))
+      → T (earlierBy hp rp p hq rq q) → T (earlierBy lp rp p lq rq q)
+  carry hp hq lp lq f g t = elim (says hp hq t) [ inl h ↦ by-more lp lq (f h) | inr h ↦ g (h .0) (h .1) ]
+
+-- the degrees of a and b are one higher in `hi`, all others the same, and the ranks
 record Raised (lo hi : Graph) (a b : ℕ) : Type 0 where
+  ranks : hi .rank ≡ lo .rank
   atA : degree hi a ≡ degree lo a + 1
   atB : degree hi b ≡ degree lo b + 1
   others : (x : ℕ) → x ≢ a → x ≢ b → degree hi x ≡ degree lo x
 
 raised-swap : {lo hi : Graph} {a b : ℕ} → Raised lo hi a b → Raised lo hi b a
-raised-swap r = record { atA = r .atB; atB = r .atA; others = λ x db da. r .others x da db }
-
--- from one pair of degrees to another
-carry : (hx x ha a lx la : ℕ) → (ha < hx → la < lx) → (hx ≡ ha → x < a → T (earlierBy lx x la a)) → T (earlierBy hx x ha a) → T (earlierBy lx x la a)
-carry hx x ha a lx la f g t = elim (says hx x ha a t) [ inl h ↦ by-more lx x la a (f h) | inr h ↦ g (h .0) (h .1) ]
+raised-swap r = record { ranks = r .ranks; atA = r .atB; atB = r .atA; others = λ x db da. r .others x da db }
 
 -- who is earlier than a by the higher degrees is so by the lower ones
 still-earlier : (lo hi : Graph) (a b : ℕ) → Raised lo hi a b → (x : ℕ) → T (earlier hi x a) → T (earlier lo x a)
 still-earlier lo hi a b r x t = go (ℕ-discrete x a) (ℕ-discrete x b)
   where
+    by-lower : T (earlier hi x a) → T (earlierBy (degree hi x) (lo .rank x) x (degree hi a) (lo .rank a) a)
+    by-lower u = unfold earlier in subst (λ (k : ℕ → ℕ). T (earlierBy (degree hi x) (k x) x (degree hi a) (k a) a)) (r .ranks) u
+
     go : Dec (x ≡ a) → Dec (x ≡ b) → T (earlier lo x a)
     go (yes e) d = absurd (earlier-irrefl hi a (rw e at t))
     go (no na) (yes e) =
         let dx : degree hi x ≡ degree lo x + 1 = rw e (r .atB) in
-        let at = carry (degree hi x) x (degree hi a) a (degree lo x) (degree lo a) (λ h. omega (arith, r .atA)) (λ q h. by-number (degree lo x) x (degree lo a) a (omega (arith, r .atA)) h) in
-        unfold earlier in at t
+        let at = carry (lo .rank x) x (lo .rank a) a (degree hi x) (degree hi a) (degree lo x) (degree lo a) (λ h. omega (arith, r .atA))
+        (λ q h. by-tie (lo .rank x) x (lo .rank a) a (degree lo x) (degree lo a) (omega (arith, r .atA)) h) in
+        unfold earlier in at (by-lower t)
     go (no na) (no nb) =
         let dx = r .others x na nb in
-        let at = carry (degree hi x) x (degree hi a) a (degree lo x) (degree lo a) (λ h. omega (arith, r .atA)) (λ q h. by-more (degree lo x) x (degree lo a) a (omega (arith, r .atA))) in
-        unfold earlier in at t
+        let at = carry (lo .rank x) x (lo .rank a) a (degree hi x) (degree hi a) (degree lo x) (degree lo a) (λ h. omega (arith, r .atA))
+        (λ q h. by-more (lo .rank x) x (lo .rank a) a (degree lo x) (degree lo a) (omega (arith, r .atA))) in
+        unfold earlier in at (by-lower t)
 
 -- one way only
 turns-down : (p q : Bool) → (T q → T p) → (p && not q) ≡ not (Bool·beq p q)
@@ -81,12 +90,12 @@ module _ (G : Graph) (symmetric : (x y : ℕ) → x < G .banks → y < G .banks 
   added-raised : (T (G .clash a b) → ⊥) → Raised G (added G a b) a b
   added-raised free =
       let r = degrees-more G a b la lb d free (λ t. free (T-along (symmetric b a lb la) t)) in
-      record { atA = r .0; atB = r .1; others = degree-added G a b }
+      record { ranks = refl; atA = r .0; atB = r .1; others = degree-added G a b }
 
   struck-raised : T (G .clash a b) → Raised (struck G a b) G a b
   struck-raised there =
       let r = degrees-less G a b la lb d there (T-along (symmetric a b la lb) there) in
-      record { atA = r .0; atB = r .1; others = λ x da db. sym (degree-struck G a b x da db) }
+      record { ranks = refl; atA = r .0; atB = r .1; others = λ x da db. sym (degree-struck G a b x da db) }
 
   -- (ii) is "turned over", of a and of b
   pub is-turned : (k : Kind) → Allowed k G a b → (x : ℕ)

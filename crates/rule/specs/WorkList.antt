@@ -11,10 +11,11 @@ use Rattle.rule.specs.Reach.{changed, isNamed, isReached}
 use Rattle.rule.specs.declared.Kind.{Kind}
 use Rattle.rule.specs.declared.Kind.the-variants.{Adding, Striking}
 
--- the two sets of clashes differ at most in the clash of a and b, and a new clash goes both ways
+-- the two sets of clashes differ at most in the clash of a and b, the ranks are the same, and a new clash goes both ways
 pub record OneEdit (old new : Graph) (a b : ℕ) : Type 0 where
   pub sameBanks : old .banks ≡ new .banks
   pub elsewhere : (x y : ℕ) → x < new .banks → y < new .banks → (T (pair a b x y) → ⊥) → old .clash x y ≡ new .clash x y
+  pub sameRanks : (x : ℕ) → x < new .banks → old .rank x ≡ new .rank x
   pub symmetric : (x y : ℕ) → x < new .banks → y < new .banks → new .clash x y ≡ new .clash y x
 
 -- an add has no clash of a and b before it, a strike has one

@@ -14,6 +14,12 @@ pub enum Kind {
     Striking,
 }
 
+// What an entry of a list or of a journal asks for: the edit of one clash, or a bank's rank.
+pub enum Entry {
+    Clash(Kind, Bank, Bank),
+    Rank(Bank, u16),
+}
+
 // The most banks of a plan.
 pub const MOST_BANKS: usize = 1024;
 
@@ -29,6 +35,9 @@ pub const MOST_CLASHES: u16 = 23;
 // The most waves of a plan.
 pub const MOST_WAVES: u16 = 24;
 
+// The highest rank of a bank.
+pub const MOST_RANK: u16 = 9999;
+
 // What stands in the cells of a row that are left over.
 pub const UNUSED: u16 = 65535;
 
@@ -39,13 +48,15 @@ pub fn wide(x: u16) -> usize
     x as usize
 }
 
-// Whether p is earlier than q: a larger degree, or the same degree and a smaller number.
-pub fn earlier(degree_p: u16, p: Bank, degree_q: u16, q: Bank) -> bool
-    ensures { λ r. ⌜ r ≡ earlierBy «degree_p» (p .0) «degree_q» (q .0) ⌝ }
+// Whether p is earlier than q: a larger degree; or the same degree and a smaller rank; or the same of both and a smaller number.
+pub fn earlier(degree_p: u16, rank_p: u16, p: Bank, degree_q: u16, rank_q: u16, q: Bank) -> bool
+    ensures { λ r. ⌜ r ≡ earlierBy «degree_p» «rank_p» (p .0) «degree_q» «rank_q» (q .0) ⌝ }
 {
-    if degree_p == degree_q {
-        p.0 < q.0
-    } else {
-        degree_q < degree_p
+    if degree_p != degree_q {
+        return degree_q < degree_p;
     }
+    if rank_p != rank_q {
+        return rank_p < rank_q;
+    }
+    p.0 < q.0
 }

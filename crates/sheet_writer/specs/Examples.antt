@@ -4,7 +4,7 @@ use mathlib.Core.List.{List, [], _∷_, foldr}
 use Prim.Native.Nat.{ℕ}
 use lib.Dec.{T, eqb}
 use Rattle.rule.specs.Lists.{upto, filter, some, memb, insertBy, sortBy}
-use Rattle.rule.specs.Order.{earlierBy}
+use Rattle.rule.specs.Order.{tieBy, earlierBy}
 use Rattle.rule.specs.Graph.{Graph, neighbours, degree, earlier, later, earlierNeighbours, order, empty, pair, added}
 use Rattle.rule.specs.Wave.{lowestFrom, lowestFree, waveIn, wave, waves, waveCount}
 use Rattle.rule.specs.Reach.{edited, changed, isNamed, isTurned, isReached, onTrail, trail, moved}
@@ -73,7 +73,7 @@ cases =
     ∷ []
 
 pub examples-hold : T (allRight cases (empty 0))
-unfolding same clashes after right allRight cases upto filter some memb insertBy sortBy earlierBy neighbours degree earlier later
+unfolding same clashes after right allRight cases upto filter some memb insertBy sortBy tieBy earlierBy neighbours degree earlier later
     earlierNeighbours order pair lowestFrom lowestFree waveIn wave waves waveCount edited changed isNamed isTurned isReached onTrail trail moved
     letters banksOf linesOf joined decimalIn decimal bankText lineText headText sheet
 examples-hold = tt

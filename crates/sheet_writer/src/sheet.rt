@@ -55,16 +55,17 @@ pub fn write_sheet(
     degrees: &[u16],
     waves: &[u16],
     counts: &[u16],
+    ranks: &[u16],
     tally: Tally,
     out: &mut [u8],
 ) -> Written
     ensures { λ r. ⌜ textResult r (now (out .exit))
         ≡ writeSheet
-        (slicesBefore neighbours degrees waves counts)
+        (slicesBefore neighbours degrees waves counts ranks)
         tally
         (now (out .entry)) ⌝ }
 {
-    let number = check_plan(neighbours, degrees, waves, counts, tally);
+    let number = check_plan(neighbours, degrees, waves, counts, ranks, tally);
     if number != 0 {
         return Written {
             number: number,

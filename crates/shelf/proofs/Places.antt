@@ -10,7 +10,7 @@ use lib.ListN.{length, getD, take, drop, length-take, length-drop}
 use Rattle.memory.specs.declared.Tally.{Tally}
 use Rattle.memory.specs.Plan.{slicesOf, longEnough, holds}
 use Rattle.memory.proofs.Theorems.{long-enough}
-use Rattle.shelf.specs.Shelf.{placeSize, part, place, used, slicesIn, tallyIn, holdsIn, placeRight, shelfRight}
+use Rattle.shelf.specs.Shelf.{degreesAt, wavesAt, countsAt, tallyAt, ranksAt, placeSize, part, place, used, slicesIn, tallyIn, holdsIn, placeRight, shelfRight}
 use Rattle.shelf.proofs.Putting.{part-cell}
 
 -- a part that is lent, by its size
@@ -18,8 +18,8 @@ pub lent-part : (a e size : ℕ) (cells : List ℕ) → e ≡ a + size → take 
 lent-part a e size cells h = let s : e - a ≡ size = omega arith in rw s refl
 
 -- the tally by its first cell
-pub tally-from : (n at : ℕ) (cells : List ℕ) → at ≡ 49 * n
-    → record { banks = getD cells (at + 1) 0; clashes = getD cells (at + 2) 0; waves = getD cells (at + 3) 0 } ≡ tallyIn n cells
+pub tally-from : (n at : ℕ) (cells : List ℕ) → at ≡ tallyAt n
+    → record { banks = getD cells at 0; clashes = getD cells (at + 1) 0; waves = getD cells (at + 2) 0 } ≡ tallyIn n cells
 unfolding tallyIn
 tally-from n at cells e = rw e refl
 
@@ -47,18 +47,21 @@ module _ (n : ℕ) (cells : List ℕ) where
   right-used r e h = h ∙ rw e refl
 
 -- the slices of a place, part by part
-pub slices-from : (n d w c e : ℕ) (cells : List ℕ) → d ≡ 1 + 23 * n → w ≡ d + n → c ≡ w + n → e ≡ c + 24 * n
-    → slicesOf (take (d - 1) (drop 1 cells)) (take (w - d) (drop d cells)) (take (c - w) (drop w cells)) (take (e - c) (drop c cells))
+pub slices-from : (n d w c o k e : ℕ) (cells : List ℕ) → d ≡ degreesAt n → w ≡ d + n → c ≡ w + n → o ≡ c + 24 * n → k ≡ o + 3 → e ≡ k + n
+    → slicesOf (take (d - 1) (drop 1 cells)) (take (w - d) (drop d cells)) (take (c - w) (drop w cells)) (take (o - c) (drop c cells))
+    (take (e - k) (drop k cells))
     ≡ slicesIn n cells
 unfolding slicesIn
-slices-from n d w c e cells hd hw hc he =
+slices-from n d w c o k e cells hd hw hc ho hk he =
     let sd : d - 1 ≡ 23 * n = omega arith in
     let sw : w - d ≡ n = omega arith in
     let sc : c - w ≡ n = omega arith in
-    let se : e - c ≡ 24 * n = omega arith in
-    let aw : w ≡ 1 + 24 * n = omega arith in
-    let ac : c ≡ 1 + 25 * n = omega arith in
-    rw (sd, sw, sc, se, hd, aw, ac) refl
+    let so : o - c ≡ 24 * n = omega arith in
+    let se : e - k ≡ n = omega arith in
+    let aw : w ≡ wavesAt n = omega arith in
+    let ac : c ≡ countsAt n = omega arith in
+    let ak : k ≡ ranksAt n = omega arith in
+    rw (sd, sw, sc, so, se, hd, aw, ac, ak) refl
 
 -- a place of the shelf, and the shelf place after place
 module _ (n : ℕ) (shelf : List ℕ) where
@@ -109,7 +112,8 @@ unfolding slicesIn
 slices-long n cells e =
     long-enough n _ (record {
       neighbours = omega (arith, length-take (23 * n) (drop 1 cells), length-drop 1 cells);
-      degrees = omega (arith, length-take n (drop (1 + 23 * n) cells), length-drop (1 + 23 * n) cells);
-      waves = omega (arith, length-take n (drop (1 + 24 * n) cells), length-drop (1 + 24 * n) cells);
-      counts = omega (arith, length-take (24 * n) (drop (1 + 25 * n) cells), length-drop (1 + 25 * n) cells);
+      degrees = omega (arith, length-take n (drop (degreesAt n) cells), length-drop (degreesAt n) cells);
+      waves = omega (arith, length-take n (drop (wavesAt n) cells), length-drop (wavesAt n) cells);
+      counts = omega (arith, length-take (24 * n) (drop (countsAt n) cells), length-drop (countsAt n) cells);
+      ranks = omega (arith, length-take n (drop (ranksAt n) cells), length-drop (ranksAt n) cells);
     })

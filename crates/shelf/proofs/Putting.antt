@@ -5,7 +5,7 @@ use Prim.Native.Nat.{ℕ, _+_, _-_, _≤_, _<_}
 use native.Mathlib.Nat.{add-zero}
 use native.Mathlib.Omega.{arith}
 use lib.ListN.{length, getD, take, drop, length-append, length-take, length-drop, take-append-drop}
-use lib.Seq.{take-at, take-take, length-take-le, take-append-le, take-append-seam, drop-append-le, drop-append-add, drop-at, drop-drop, getD-append-add, getD-drop, getD-take}
+use lib.Seq.{take-at, take-take, length-take-le, take-append-le, take-append-seam, drop-append-le, drop-append-add, drop-at, drop-drop, getD-drop, getD-take}
 use Rattle.memory.specs.Cells.{over}
 use Rattle.text.specs.Places.{put, Puts}
 use Rattle.text.proofs.Putting.{puts-then, put-front}
@@ -15,9 +15,6 @@ use Rattle.shelf.specs.inner.Copies.{Copied}
 -- a list of two parts, from a place in the second on
 pub skip : (a b : List ℕ) (from m : ℕ) → from ≡ length a + m → drop from (a ++ b) ≡ drop m b
 skip a b from m e = rw e (drop-append-add a b m)
-
-pub skip-cell : (a b : List ℕ) (from m : ℕ) → from ≡ length a + m → getD (a ++ b) from 0 ≡ getD b m 0
-skip-cell a b from m e = rw e (getD-append-add a b m 0)
 
 -- the front part
 pub first : (a b : List ℕ) (size : ℕ) → length a ≡ size → take size (a ++ b) ≡ a

@@ -1,4 +1,4 @@
--- The shelf of kept states, cell by cell (02, N5). A kept state is the field's checkpoint: a plan's cells and its tally.
+-- The shelf of kept states, cell by cell (02, N5; N6: ranks). A kept state is the field's checkpoint: a plan's cells and its tally.
 use mathlib.Core.Bool.{Bool, _&&_, _||_}
 use mathlib.Core.List.{List, [], _∷_, _++_}
 use Prim.Native.Nat.{ℕ, _+_, _*_}
@@ -7,9 +7,29 @@ use lib.ListN.{length, getD, take, drop}
 use Rattle.memory.specs.declared.Tally.{Tally}
 use Rattle.memory.specs.Plan.{Slices, slicesOf, holds}
 
--- the cells of a place: a used cell, the plan cells of n banks in 01's order, then banks, clashes, waves
+-- a place of n banks is a used cell, then 23 n cells of rows from cell 1 on, and from these on n degrees,
+abbrev pub degreesAt : ℕ → ℕ
+degreesAt n = 1 + 23 * n
+
+-- n waves,
+abbrev pub wavesAt : ℕ → ℕ
+wavesAt n = 1 + 24 * n
+
+-- 24 n Counts,
+abbrev pub countsAt : ℕ → ℕ
+countsAt n = 1 + 25 * n
+
+-- the tally, which is banks, clashes, waves,
+abbrev pub tallyAt : ℕ → ℕ
+tallyAt n = 1 + 49 * n
+
+-- and n ranks;
+abbrev pub ranksAt : ℕ → ℕ
+ranksAt n = 4 + 49 * n
+
+-- these are its cells
 abbrev pub placeSize : ℕ → ℕ
-placeSize n = 49 * n + 4
+placeSize n = 4 + 50 * n
 
 -- three places follow each other
 abbrev pub shelfSize : ℕ → ℕ
@@ -32,16 +52,17 @@ unfoldable pub slicesIn : ℕ → List ℕ → Slices
 slicesIn n cells =
     slicesOf
     (part 1 (23 * n) cells)
-    (part (1 + 23 * n) n cells)
-    (part (1 + 24 * n) n cells)
-    (part (1 + 25 * n) (24 * n) cells)
+    (part (degreesAt n) n cells)
+    (part (wavesAt n) n cells)
+    (part (countsAt n) (24 * n) cells)
+    (part (ranksAt n) n cells)
 
 -- the tally in a place of n banks
 unfoldable pub tallyIn : ℕ → List ℕ → Tally
 tallyIn n cells = record {
-  banks = getD cells (49 * n + 1) 0;
-  clashes = getD cells (49 * n + 2) 0;
-  waves = getD cells (49 * n + 3) 0;
+  banks = getD cells (tallyAt n) 0;
+  clashes = getD cells (tallyAt n + 1) 0;
+  waves = getD cells (tallyAt n + 2) 0;
 }
 
 -- does it hold a plan of n banks, its tally included?
@@ -65,4 +86,5 @@ placeCells s t =
     ++ (take n (s .degrees)
     ++ (take n (s .waves)
     ++ (take (24 * n) (s .counts)
-    ++ (t .banks ∷ t .clashes ∷ t .waves ∷ [])))))
+    ++ ((t .banks ∷ t .clashes ∷ t .waves ∷ [])
+    ++ take n (s .ranks))))))

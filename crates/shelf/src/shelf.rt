@@ -9,14 +9,20 @@ ghost use Prim.Native.Nat.{_≤_};
 ghost use lib.ListN.{length};
 ghost use Rattle.shelf.specs.Shelf.{placeSize, shelfSize, tallyIn, holdsIn, placeRight, shelfRight};
 
-// The cells of a place beside 49 for each bank: the used cell and the tally.
+// The cells of a place for each bank: its row, its Counts, its degree, its wave and its rank.
+const BANK_CELLS: usize = 50;
+
+// The other cells of a place: the used cell and the tally.
 const OTHER_CELLS: usize = 4;
+
+// The cells of a tally in a place.
+pub const TALLY_CELLS: usize = 3;
 
 // The cells of a place of so many banks.
 pub fn place_size(banks: u16) -> usize
     ensures { λ r. ⌜ r ≡ placeSize banks ⌝ }
 {
-    wide(banks) * (ROW_CELLS + COUNT_CELLS + 2) + OTHER_CELLS
+    wide(banks) * BANK_CELLS + OTHER_CELLS
 }
 
 // The tally in a place of n banks.
@@ -24,11 +30,11 @@ pub fn tally_in(place: &[u16], n: usize) -> Tally
     requires { ⌜ length (now place) ≡ placeSize n ⌝ }
     ensures { λ r. ⌜ r ≡ tallyIn n (now (place .entry)) ⌝ }
 {
-    let at = n * (ROW_CELLS + COUNT_CELLS + 2);
+    let at = 1 + n * (ROW_CELLS + COUNT_CELLS + 2);
     Tally {
-        banks: place[at + 1],
-        clashes: place[at + 2],
-        waves: place[at + 3],
+        banks: place[at],
+        clashes: place[at + 1],
+        waves: place[at + 2],
     }
 }
 
@@ -46,12 +52,15 @@ fn holds_in(place: &[u16], banks: u16) -> bool
     let degree = row + n * ROW_CELLS;
     let wave = degree + n;
     let count = wave + n;
-    let end = count + n * COUNT_CELLS;
+    let tally_at = count + n * COUNT_CELLS;
+    let rank = tally_at + TALLY_CELLS;
+    let end = rank + n;
     holds_plan(
         &place[row..degree],
         &place[degree..wave],
         &place[wave..count],
-        &place[count..end],
+        &place[count..tally_at],
+        &place[rank..end],
         tally,
     )
 }

@@ -48,7 +48,11 @@ counts-over G cs was ct beyond =
 -- what `is_empty` said, where the code tests its denial
 module _ {e : Edit} {m : Memory} {q : List ℕ} {p : Progress} (wk : Working e m q p) {r : Bool} (tells : Tells q r) where
   pub steppable : not r ≡ true → Steppable e m q p
-  steppable more = record { working = wk; waiting = some-waits (tells (new e) (keyed (wk .shown)) (wk .queue)) (keyed (wk .shown)) (wk .queue) more }
+  steppable more = record {
+    working = wk;
+    waiting =
+        some-waits (tells (new e) (keyed (wk .shown)) (wk .queue)) (keyed (wk .shown)) (wk .queue) (wk .shown .ranked .wide) (wk .shown .ranked .cells) more;
+  }
 
   empty : not r ≡ false → Empty (new e) q
   empty = none-waits (tells (new e) (keyed (wk .shown)) (wk .queue))

@@ -40,7 +40,7 @@ or-not false true h = absurd (h tt)
 or-not false false h = refl
 
 -- x is a later neighbour of b exactly if b is an earlier neighbour of x
-module _ {G : Graph} {ns ds : List ℕ} (sh : Shown G ns ds) (b x : ℕ) where
+module _ {G : Graph} {ns ds rs : List ℕ} (sh : Shown G ns ds rs) (b x : ℕ) where
   pub later-bank : T (laterNeighbour G b x) → x < G .banks
   unfolding laterNeighbour
   later-bank t = neighbours-in G b x (and-l (memb x (neighbours G b)) (earlier G b x) t) .0
@@ -69,7 +69,7 @@ notified-cong {G} {cs} {q = q} {o = o} {w = w} f g same n = record {
   members = λ x l. n .members x l ∙ ap (λ (t : Bool). waits G q x || t) (same x);
 }
 
-module _ {G : Graph} {ns ds cs q : List ℕ} {b : ℕ} {changed : Bool} {o w : ℕ} (nf : Notifiable G ns ds cs q b changed o w) where
+module _ {G : Graph} {ns ds rs cs q : List ℕ} {b : ℕ} {changed : Bool} {o w : ℕ} (nf : Notifiable G ns ds rs cs q b changed o w) where
   pub few-neighbours : getD ds b 0 ≤ 23
   few-neighbours = omega (arith, nf .shown .degrees b (nf .bank), nf .shown .small b (nf .bank))
 
@@ -82,7 +82,7 @@ module _ {G : Graph} {ns ds cs q : List ℕ} {b : ℕ} {changed : Bool} {o w : �
     members = λ x l. sym (or-false (waits G q x)) ∙ ap (λ (t : Bool). waits G q x || t) (sym (no-one x));
   }
 
-module _ {s : Notice} {ns ds cs q : List ℕ} {h o w i : ℕ} (nt : Notifying s ns ds cs q h o w i) (lt : i < getD ds h 0) where
+module _ {s : Notice} {ns ds rs cs q : List ℕ} {h o w i : ℕ} (nt : Notifying s ns ds rs cs q h o w i) (lt : i < getD ds h 0) where
   abbrev G : Graph
   G = s .graph
 
@@ -104,10 +104,16 @@ module _ {s : Notice} {ns ds cs q : List ℕ} {h o w i : ℕ} (nt : Notifying s 
   pub h-degree : h < length ds
   h-degree = omega (arith, nt .start .bank, nt .start .shown .wide-degrees)
 
+  pub v-rank : v < length rs
+  v-rank = omega (arith, v-bank, nt .start .shown .ranked .wide)
+
+  pub h-rank : h < length rs
+  h-rank = omega (arith, nt .start .bank, nt .start .shown .ranked .wide)
+
   next-memb : (x : ℕ) → memb x (take (i + 1) N) ≡ (memb x (take i N) || eqb x v)
   next-memb = row-memb (nt .start .shown) h i (nt .start .bank) lt
 
-  order-is : byCells ds h v ≡ earlier G h v
+  order-is : byCells ds rs h v ≡ earlier G h v
   order-is = cells-earlier (nt .start .shown) h v (nt .start .bank) v-bank
 
   -- v is one of those that h notifies, if it is later
@@ -129,7 +135,7 @@ module _ {s : Notice} {ns ds cs q : List ℕ} {h o w i : ℕ} (nt : Notifying s 
   enqueuable = enqueuable-of (nt .start .shown) (nt .made .queue) v-bank
 
   -- v is notified exactly if it is later
-  module _ {later : Bool} (is : later ≡ byCells ds h v) where
+  module _ {later : Bool} (is : later ≡ byCells ds rs h v) where
     notified-is : later ≡ earlier G h v
     notified-is = is ∙ order-is
 
@@ -173,7 +179,7 @@ module _ {s : Notice} {ns ds cs q : List ℕ} {h o w i : ℕ} (nt : Notifying s 
         ]
 
     -- one neighbour more
-    pub notified : {q′ : List ℕ} → Enqueued G q q′ v later → Notifying s ns ds (cond later (oneMoved cs v o w) cs) q′ h o w (i + 1)
+    pub notified : {q′ : List ℕ} → Enqueued G q q′ v later → Notifying s ns ds rs (cond later (oneMoved cs v o w) cs) q′ h o w (i + 1)
     notified put = record {
       start = nt .start;
       made = record {
@@ -190,12 +196,12 @@ abbrev pub noticeOf : Graph → List ℕ → List ℕ → Notice
 noticeOf G cs q = record { graph = G; counts = cs; queue = q }
 
 -- no neighbour is looked at
-pub start-notifying : {G : Graph} {ns ds cs q : List ℕ} {b o w : ℕ} {changed : Bool} → changed ≡ true → Notifiable G ns ds cs q b changed o w
-    → Notifying (noticeOf G cs q) ns ds cs q b o w 0
+pub start-notifying : {G : Graph} {ns ds rs cs q : List ℕ} {b o w : ℕ} {changed : Bool} → changed ≡ true → Notifiable G ns ds rs cs q b changed o w
+    → Notifying (noticeOf G cs q) ns ds rs cs q b o w 0
 start-notifying {G} {b = b} said nf = record { start = rw said at nf; made = none-notified nf _ (λ x. ap (λ (t : Bool). t && earlier G b x) (memb-none x)) }
 
 -- all are
-pub all-notified : {s : Notice} {ns ds cs q : List ℕ} {h o w : ℕ} {changed : Bool} → changed ≡ true → Notifying s ns ds cs q h o w (getD ds h 0)
+pub all-notified : {s : Notice} {ns ds rs cs q : List ℕ} {h o w : ℕ} {changed : Bool} → changed ≡ true → Notifying s ns ds rs cs q h o w (getD ds h 0)
     → Notified (s .graph) (s .counts) cs (s .queue) q o w (λ x. changed && laterNeighbour (s .graph) h x)
 unfolding laterNeighbour
 all-notified {s} {h = h} said nt =

@@ -17,7 +17,7 @@ use Rattle.memory.proofs.Fronts.{take-next, drop-next, in-cell, memb-snoc}
 use Rattle.queue.specs.Queue.{Keyed, Queue, Enqueuable}
 use Rattle.steps.proofs.SortedLists.{sorted-apart}
 
-module _ {G : Graph} {ns ds : List ℕ} (sh : Shown G ns ds) where
+module _ {G : Graph} {ns ds rs : List ℕ} (sh : Shown G ns ds rs) where
   pub few-earlier : (b : ℕ) → b < G .banks → length (earlierNeighbours G b) ≤ 23
   few-earlier b h = omega (arith, fewer-earlier G b, sh .small b h)
 

@@ -55,7 +55,7 @@ module _ {e : Edit} {m : Memory} {q q₁ : List ℕ} {p : Progress} {h : ℕ} (w
 
   -- memory with these waves, Counts, trail and moved list
   abbrev memoryWith : List ℕ → List ℕ → List ℕ → List ℕ → Memory
-  memoryWith ws cs tr mv = memoryOf (slicesOf (m .slices .neighbours) (m .slices .degrees) ws cs) tr mv (m .tally)
+  memoryWith ws cs tr mv = memoryOf (slicesOf (m .slices .neighbours) (m .slices .degrees) ws cs (m .slices .ranks)) tr mv (m .tally)
 
   -- what is done, and the same with h
   abbrev D : List ℕ
@@ -173,7 +173,7 @@ module _ {e : Edit} {m : Memory} {q q₁ : List ℕ} {p : Progress} {h : ℕ} (w
             pos-standing W o (earlierNeighbours G x) (in-map W (earlierNeighbours G x) h (later-counts (wk .shown) h x (dq .next .bank) t)),
           )
 
-      pub notifiable : Notifiable (new e) (m .slices .neighbours) (m .slices .degrees) (m .slices .counts) q₁ h changes (getD (m .slices .waves) h 0) (getD ws h 0)
+      pub notifiable : Notifiable (new e) (m .slices .neighbours) (m .slices .degrees) (m .slices .ranks) (m .slices .counts) q₁ h changes (getD (m .slices .waves) h 0) (getD ws h 0)
       notifiable = record {
         shown = wk .shown;
         bank = (dq .next .bank);

@@ -38,21 +38,22 @@ pub fn can_step(
     degrees: &[u16],
     waves: &mut [u16],
     counts: &mut [u16],
+    ranks: &[u16],
     trail: &mut [u16],
     moved: &mut [u16],
     queue: &mut [u64; WORDS],
     p: Progress,
 ) -> Progress
-    requires { ⌜ ((e : Edit) × Steppable e (given neighbours degrees waves counts trail moved (e .was .tally)) (now queue) p) ⌝ }
+    requires { ⌜ ((e : Edit) × Steppable e (given neighbours degrees waves counts ranks trail moved (e .was .tally)) (now queue) p) ⌝ }
     ensures { λ r. ⌜ ((e : Edit)
-        → Steppable e (before neighbours degrees waves counts trail moved (e .was .tally)) (now (queue .entry)) p
-        → Stepped e (before neighbours degrees waves counts trail moved (e .was .tally))
-        (after neighbours degrees waves counts trail moved (e .was .tally)) (now (queue .entry)) (now (queue .exit)) p r) ⌝ }
+        → Steppable e (before neighbours degrees waves counts ranks trail moved (e .was .tally)) (now (queue .entry)) p
+        → Stepped e (before neighbours degrees waves counts ranks trail moved (e .was .tally))
+        (after neighbours degrees waves counts ranks trail moved (e .was .tally)) (now (queue .entry)) (now (queue .exit)) p r) ⌝ }
 {
     let taken = p.taken;
     let changes = p.moved;
     let next = taken + 1;
-    let b = dequeue(queue);
+    let b = dequeue(ranks, queue);
     let at = b.0 as usize;
     trail[taken] = b.0;
     let old = Wave(waves[at]);
@@ -60,7 +61,17 @@ pub fn can_step(
     let changed = assign_colour(waves, b, colours);
     let new = Wave(waves[at]);
     let moves = list_moved(moved, changes, b, changed);
-    notify_colours(neighbours, degrees, counts, queue, b, changed, old, new);
+    notify_colours(
+        neighbours,
+        degrees,
+        counts,
+        ranks,
+        queue,
+        b,
+        changed,
+        old,
+        new,
+    );
     Progress {
         taken: next,
         moved: moves,

@@ -32,6 +32,7 @@ fn notify_one(
     neighbours: &[u16],
     degrees: &[u16],
     counts: &mut [u16],
+    ranks: &[u16],
     queue: &mut [u64; WORDS],
     b: Bank,
     old: Wave,
@@ -39,13 +40,13 @@ fn notify_one(
     i: usize,
 )
     requires { ⌜ ((s : Notice)
-        × Notifying s (now neighbours) (now degrees) (now counts) (now queue) (b .0) (old .0) (new .0) i) ⌝ }
+        × Notifying s (now neighbours) (now degrees) (now ranks) (now counts) (now queue) (b .0) (old .0) (new .0) i) ⌝ }
     requires { ⌜ i < getD (now degrees) (b .0) 0 ⌝ }
-    ensures { λ _. ⌜ NotifiesNext neighbours degrees counts queue (b .0) (old .0) (new .0) i ⌝ }
+    ensures { λ _. ⌜ NotifiesNext neighbours degrees ranks counts queue (b .0) (old .0) (new .0) i ⌝ }
 {
     let at = b.0 as usize;
     let v = Bank(neighbours[at * ROW_CELLS + i]);
-    let later = is_earlier(degrees, b, v);
+    let later = is_earlier(degrees, ranks, b, v);
     move_count(counts, v, old, new, later);
     enqueue(degrees, queue, v, later);
 }
@@ -55,6 +56,7 @@ pub fn notify_colours(
     neighbours: &[u16],
     degrees: &[u16],
     counts: &mut [u16],
+    ranks: &[u16],
     queue: &mut [u64; WORDS],
     b: Bank,
     changed: bool,
@@ -62,8 +64,8 @@ pub fn notify_colours(
     new: Wave,
 )
     requires { ⌜ ((G : Graph)
-        × Notifiable G (now neighbours) (now degrees) (now counts) (now queue) (b .0) changed (old .0) (new .0)) ⌝ }
-    ensures { λ _. ⌜ NotifiesLater neighbours degrees counts queue (b .0) changed (old .0) (new .0) ⌝ }
+        × Notifiable G (now neighbours) (now degrees) (now ranks) (now counts) (now queue) (b .0) changed (old .0) (new .0)) ⌝ }
+    ensures { λ _. ⌜ NotifiesLater neighbours degrees ranks counts queue (b .0) changed (old .0) (new .0) ⌝ }
 {
     if !changed {
         return;
@@ -72,7 +74,7 @@ pub fn notify_colours(
     let degree = degrees[at] as usize;
     let mut i = 0;
     while i < degree {
-        notify_one(neighbours, degrees, counts, queue, b, old, new, i);
+        notify_one(neighbours, degrees, counts, ranks, queue, b, old, new, i);
         i += 1;
     }
 }

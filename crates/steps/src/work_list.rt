@@ -12,20 +12,31 @@ pub fn settle(
     degrees: &[u16],
     waves: &mut [u16],
     counts: &mut [u16],
+    ranks: &[u16],
     trail: &mut [u16],
     moved: &mut [u16],
     queue: &mut [u64; WORDS],
     from: Progress,
 ) -> Progress
     requires { ⌜ ((e : Edit)
-        × Working e (given neighbours degrees waves counts trail moved (e .was .tally)) (now queue) from) ⌝ }
+        × Working e (given neighbours degrees waves counts ranks trail moved (e .was .tally)) (now queue) from) ⌝ }
     ensures { λ r. ⌜ ((e : Edit)
-        → Working e (before neighbours degrees waves counts trail moved (e .was .tally)) (now (queue .entry)) from
-        → Settled e (after neighbours degrees waves counts trail moved (e .was .tally)) r) ⌝ }
+        → Working e (before neighbours degrees waves counts ranks trail moved (e .was .tally)) (now (queue .entry)) from
+        → Settled e (after neighbours degrees waves counts ranks trail moved (e .was .tally)) r) ⌝ }
 {
     let mut p = from;
     while !is_empty(queue) {
-        p = can_step(neighbours, degrees, waves, counts, trail, moved, queue, p);
+        p = can_step(
+            neighbours,
+            degrees,
+            waves,
+            counts,
+            ranks,
+            trail,
+            moved,
+            queue,
+            p,
+        );
     }
     p
 }

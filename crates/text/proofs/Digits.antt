@@ -75,3 +75,22 @@ small v (suc zero) h k = omega arith
 small v (suc (suc zero)) h k = omega arith
 small v (suc (suc (suc zero))) h k = h
 small v (suc (suc (suc (suc i)))) h k = absurd (omega arith)
+
+-- digits keep a value below a power of ten
+pub value-below : (v i : ℕ) (s : List ℕ) → digits s ≡ true → v < 10 ^ i → valueFrom v s < 10 ^ (i + length s)
+unfolding digits valueFrom
+value-below v i [] d h = let e : i + 0 ≡ i = omega arith in rw e h
+value-below v i (c ∷ cs) d h =
+    let p = both-true (leb 48 c) (leb c 57 && digits cs) d in
+    let q = both-true (leb c 57) (digits cs) (p .1) in
+    let one : c - 48 ≤ 9 = omega (arith, leb-true 48 c (p .0), leb-true c 57 (q .0)) in
+    let e : i + length (c ∷ cs) ≡ (i + 1) + length cs = omega arith in
+    rw e (value-below (10 * v + (c - 48)) (i + 1) cs (q .1) (more v (c - 48) i h one))
+
+pub tens : (v i : ℕ) → v < 10 ^ (0 + i) → i ≤ 4 → v < 10000
+tens v zero h k = omega arith
+tens v (suc zero) h k = omega arith
+tens v (suc (suc zero)) h k = omega arith
+tens v (suc (suc (suc zero))) h k = omega arith
+tens v (suc (suc (suc (suc zero)))) h k = h
+tens v (suc (suc (suc (suc (suc i))))) h k = absurd (omega arith)

@@ -6,10 +6,12 @@ use Prim.Native.Nat.{ℕ, _≤_, _<_}
 use native.Mathlib.Omega.{arith}
 use lib.Dec.{T, leb, eqb}
 use lib.ListN.{length, getD}
-use borrow.Author.Tests.{le-leb, lt-leb}
+use borrow.Author.Tests.{le-leb, lt-leb, leb-true}
+use Rattle.rule.proofs.Booleans.{both-true}
 use Rattle.text.specs.declared.number.Number.the-variants.{Value, Nothing}
 use Rattle.text.specs.Numbers.{digits, isNumber, valueFrom, number}
 use Rattle.text.specs.inner.Digits.{digitsValue}
+use Rattle.text.proofs.Digits.{tens, value-below}
 use Rattle.text.specs.Unpadded.{isUnpadded, unpaddedNumber, isPlain}
 
 module _ (p : List ℕ) where
@@ -24,6 +26,20 @@ module _ (p : List ℕ) where
   pub number-digits : 1 ≤ length p → length p ≤ 4 → digitsValue p ≡ number p
   unfolding number isNumber digitsValue
   number-digits l u = rw (le-leb 1 (length p) l, le-leb (length p) 4 u)
+
+-- what reads as a number is at most 9,999
+small-by : (b : Bool) (p : List ℕ) (x : ℕ) → isNumber p ≡ b → cond b (Value (valueFrom 0 p)) Nothing ≡ Value x → x ≤ 9999
+unfolding isNumber
+small-by true p x e q =
+    let r = both-true (leb 1 (length p)) (leb (length p) 4 && digits p) e in
+    let u = both-true (leb (length p) 4) (digits p) (r .1) in
+    let v : valueFrom 0 p ≡ x = cc in
+    omega (arith, tens (valueFrom 0 p) (length p) (value-below 0 0 p (u .1) (omega arith)) (leb-true (length p) 4 (u .0)))
+small-by false p x e q = let z : _≡_ {A = ℕ} 0 1 = cc in absurd (omega arith)
+
+pub number-small : (p : List ℕ) (x : ℕ) → number p ≡ Value x → x ≤ 9999
+unfolding number
+number-small p x q = small-by (isNumber p) p x refl q
 
 -- four tests, of which the third is dropped
 fewer : (a b c d : Bool) (v x : ℕ) → cond (a && (b && (c && d))) (Value v) Nothing ≡ Value x → cond (a && (b && d)) (Value v) Nothing ≡ Value x

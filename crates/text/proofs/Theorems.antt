@@ -45,6 +45,10 @@ reads-back = Decimal.reads-back
 pub reads-not : (x : ℕ) → 10000 ≤ x → number (decimal x) ≡ Nothing
 reads-not = Decimal.reads-not
 
+-- what reads as a number is at most 9,999
+pub number-small : (p : List ℕ) (x : ℕ) → number p ≡ Value x → x ≤ 9999
+number-small = Numbers.number-small
+
 -- it has no zero in front: 0 alone starts with one
 pub no-zero-in-front : (x : ℕ) → 1 ≤ x → getD (decimal x) 0 0 ≡ 48 → ⊥
 no-zero-in-front x some e = omega (arith, Decimal.first-digit x some)

@@ -1,22 +1,23 @@
 -- The lines of memory that holds a plan: by its wave cells they are those of its clashes.
 use mathlib.Core.Bool.{Bool, _&&_}
 use mathlib.Core.List.{List, [], _∷_, map, foldr, map-congr-left}
-use mathlib.Core.Path.{_≡_, refl, sym, ap, subst, _∙_}
-use Prim.Native.Nat.{ℕ, suc, _*_, _≤_, _<_, max}
+use mathlib.Core.Path.{_≡_, refl, sym, ap, _∙_}
+use Prim.Native.Nat.{ℕ, suc, _≤_, _<_, max}
 use native.Mathlib.Nat.{max-le}
 use native.Mathlib.Omega.{arith}
-use lib.Dec.{T, leb, eqb, leb→le}
+use lib.Dec.{T, eqb}
 use lib.ListN.{length, getD, drop, length-map, List·getD-append}
 use Rattle.rule.specs.Lists.{upto, filter, memb}
 use Rattle.rule.specs.Graph.{Graph, neighbours, degree, earlier, earlierNeighbours}
 use Rattle.rule.specs.Wave.{wave, waves, waveCount}
-use Rattle.rule.proofs.Booleans.{and-l, and-r}
+use Rattle.rule.proofs.Booleans.{and-l}
 use Rattle.rule.proofs.Lists.{in-head, in-tail, upto-below, length-upto, filter-cong, count-le}
 use Rattle.rule.proofs.Theorems.{wave-le}
 use Rattle.memory.specs.declared.Tally.{Tally}
 use Rattle.memory.specs.Cells.{over}
-use Rattle.memory.specs.Plan.{Slices, longEnough, planIn, tallyOf, Clashes, PlanOf}
+use Rattle.memory.specs.Plan.{Slices, planIn, tallyOf, Clashes, PlanOf}
 use Rattle.memory.proofs.Fronts.{getD-map, getD-upto}
+use Rattle.memory.proofs.Theorems.{long}
 use Rattle.wave_lines.specs.Lines.{letters, Line, banksOf, lineOf, linesOf}
 use Rattle.wave_lines.specs.inner.Cells.{membersOf, lineIn}
 
@@ -50,17 +51,8 @@ module _ (G : Graph) (s : Slices) (t : Tally) (p : PlanOf G s t) where
   unfolding tallyOf
   plan-count = ap (λ (u : Tally). u .waves) (p .tally)
 
-  long-waves : (n : ℕ) → T (longEnough n s) → n ≤ length (s .waves)
-  unfolding longEnough
-  long-waves n e =
-      let ns : Bool = leb (23 * n) (length (s .neighbours)) in
-      let ds : Bool = leb n (length (s .degrees)) in
-      let ws : Bool = leb n (length (s .waves)) in
-      let cs : Bool = leb (24 * n) (length (s .counts)) in
-      leb→le n (length (s .waves)) (and-l ws cs (and-r ds (ws && cs) (and-r ns (ds && (ws && cs)) e)))
-
   pub plan-room : t .banks ≤ length (s .waves)
-  plan-room = rw plan-banks (long-waves (G .banks) (subst T (sym (p .long)) tt))
+  plan-room = rw plan-banks (long (G .banks) s (p .long) .waves)
 
   pub plan-most : t .banks ≤ 1024
   plan-most = rw plan-banks (p .clashes .most)

@@ -14,6 +14,7 @@ pub extern "C" fn wave_plan_add(
     degrees: &mut [u16],
     waves: &mut [u16],
     counts: &mut [u16],
+    ranks: &[u16],
     trail: &mut [u16],
     moved: &mut [u16],
     tally: &mut [u16],
@@ -21,8 +22,8 @@ pub extern "C" fn wave_plan_add(
     a: u16,
     b: u16,
 ) -> u16
-    ensures { λ r. ⌜ answered r (cellsAfter neighbours degrees waves counts trail moved tally result)
-        ≡ editCall Adding a b (cellsBefore neighbours degrees waves counts trail moved tally result) ⌝ }
+    ensures { λ r. ⌜ answered r (cellsAfter neighbours degrees waves counts ranks trail moved tally result)
+        ≡ editCall Adding a b (cellsBefore neighbours degrees waves counts ranks trail moved tally result) ⌝ }
 {
     edit_in(
         Kind::Adding,
@@ -30,6 +31,7 @@ pub extern "C" fn wave_plan_add(
         degrees,
         waves,
         counts,
+        ranks,
         trail,
         moved,
         tally,
@@ -46,6 +48,7 @@ pub extern "C" fn wave_plan_strike(
     degrees: &mut [u16],
     waves: &mut [u16],
     counts: &mut [u16],
+    ranks: &[u16],
     trail: &mut [u16],
     moved: &mut [u16],
     tally: &mut [u16],
@@ -53,8 +56,8 @@ pub extern "C" fn wave_plan_strike(
     a: u16,
     b: u16,
 ) -> u16
-    ensures { λ r. ⌜ answered r (cellsAfter neighbours degrees waves counts trail moved tally result)
-        ≡ editCall Striking a b (cellsBefore neighbours degrees waves counts trail moved tally result) ⌝ }
+    ensures { λ r. ⌜ answered r (cellsAfter neighbours degrees waves counts ranks trail moved tally result)
+        ≡ editCall Striking a b (cellsBefore neighbours degrees waves counts ranks trail moved tally result) ⌝ }
 {
     edit_in(
         Kind::Striking,
@@ -62,6 +65,7 @@ pub extern "C" fn wave_plan_strike(
         degrees,
         waves,
         counts,
+        ranks,
         trail,
         moved,
         tally,

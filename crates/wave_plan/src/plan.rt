@@ -13,13 +13,14 @@ pub extern "C" fn wave_plan_open(
     degrees: &mut [u16],
     waves: &mut [u16],
     counts: &mut [u16],
+    ranks: &mut [u16],
     tally: &mut [u16],
     banks: u16,
 ) -> u16
-    ensures { λ r. ⌜ openAnswered r (slicesAfter neighbours degrees waves counts) (now (tally .exit))
-        ≡ openCall banks (slicesBefore neighbours degrees waves counts) (now (tally .entry)) ⌝ }
+    ensures { λ r. ⌜ openAnswered r (slicesAfter neighbours degrees waves counts ranks) (now (tally .exit))
+        ≡ openCall banks (slicesBefore neighbours degrees waves counts ranks) (now (tally .entry)) ⌝ }
 {
-    open_in(neighbours, degrees, waves, counts, tally, banks)
+    open_in(neighbours, degrees, waves, counts, ranks, tally, banks)
 }
 
 // The wave of bank b: the result.
@@ -29,14 +30,15 @@ pub extern "C" fn wave_plan_wave_of(
     degrees: &[u16],
     waves: &[u16],
     counts: &[u16],
+    ranks: &[u16],
     tally: &[u16],
     result: &mut [u16],
     b: u16,
 ) -> u16
     ensures { λ r. ⌜ bankAnswered r (now (result .exit))
-        ≡ waveCall b (slicesBefore neighbours degrees waves counts) (now (tally .entry)) (now (result .entry)) ⌝ }
+        ≡ waveCall b (slicesBefore neighbours degrees waves counts ranks) (now (tally .entry)) (now (result .entry)) ⌝ }
 {
-    wave_of_in(neighbours, degrees, waves, counts, tally, result, b)
+    wave_of_in(neighbours, degrees, waves, counts, ranks, tally, result, b)
 }
 
 // The clashes of bank b: the results are the cell of `neighbours` where they start, and how many they are. The number is that of
@@ -47,12 +49,13 @@ pub extern "C" fn wave_plan_clashes_of(
     degrees: &[u16],
     waves: &[u16],
     counts: &[u16],
+    ranks: &[u16],
     tally: &[u16],
     result: &mut [u16],
     b: u16,
 ) -> u16
     ensures { λ r. ⌜ bankAnswered r (now (result .exit))
-        ≡ clashesCall b (slicesBefore neighbours degrees waves counts) (now (tally .entry)) (now (result .entry)) ⌝ }
+        ≡ clashesCall b (slicesBefore neighbours degrees waves counts ranks) (now (tally .entry)) (now (result .entry)) ⌝ }
 {
-    clashes_of_in(neighbours, degrees, waves, counts, tally, result, b)
+    clashes_of_in(neighbours, degrees, waves, counts, ranks, tally, result, b)
 }

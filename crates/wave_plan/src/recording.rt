@@ -13,6 +13,7 @@ pub extern "C" fn wave_plan_add_recorded(
     degrees: &mut [u16],
     waves: &mut [u16],
     counts: &mut [u16],
+    ranks: &[u16],
     trail: &mut [u16],
     moved: &mut [u16],
     tally: &mut [u16],
@@ -22,8 +23,8 @@ pub extern "C" fn wave_plan_add_recorded(
     b: u16,
     length: usize,
 ) -> u16
-    ensures { λ r. ⌜ recordAnswered r (cellsAfter neighbours degrees waves counts trail moved tally result) (now (journal .exit))
-        ≡ recordCall Adding a b (cellsBefore neighbours degrees waves counts trail moved tally result) length (now (journal .entry)) ⌝ }
+    ensures { λ r. ⌜ recordAnswered r (cellsAfter neighbours degrees waves counts ranks trail moved tally result) (now (journal .exit))
+        ≡ recordCall Adding a b (cellsBefore neighbours degrees waves counts ranks trail moved tally result) length (now (journal .entry)) ⌝ }
 {
     record_in(
         Kind::Adding,
@@ -31,6 +32,7 @@ pub extern "C" fn wave_plan_add_recorded(
         degrees,
         waves,
         counts,
+        ranks,
         trail,
         moved,
         tally,
@@ -49,6 +51,7 @@ pub extern "C" fn wave_plan_strike_recorded(
     degrees: &mut [u16],
     waves: &mut [u16],
     counts: &mut [u16],
+    ranks: &[u16],
     trail: &mut [u16],
     moved: &mut [u16],
     tally: &mut [u16],
@@ -58,8 +61,8 @@ pub extern "C" fn wave_plan_strike_recorded(
     b: u16,
     length: usize,
 ) -> u16
-    ensures { λ r. ⌜ recordAnswered r (cellsAfter neighbours degrees waves counts trail moved tally result) (now (journal .exit))
-        ≡ recordCall Striking a b (cellsBefore neighbours degrees waves counts trail moved tally result) length (now (journal .entry)) ⌝ }
+    ensures { λ r. ⌜ recordAnswered r (cellsAfter neighbours degrees waves counts ranks trail moved tally result) (now (journal .exit))
+        ≡ recordCall Striking a b (cellsBefore neighbours degrees waves counts ranks trail moved tally result) length (now (journal .entry)) ⌝ }
 {
     record_in(
         Kind::Striking,
@@ -67,6 +70,7 @@ pub extern "C" fn wave_plan_strike_recorded(
         degrees,
         waves,
         counts,
+        ranks,
         trail,
         moved,
         tally,

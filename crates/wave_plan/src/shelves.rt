@@ -22,14 +22,24 @@ pub extern "C" fn wave_plan_keep(
     degrees: &[u16],
     waves: &[u16],
     counts: &[u16],
+    ranks: &[u16],
     tally: &[u16],
     shelf: &mut [u16],
     name: &[u8],
 ) -> u16
     ensures { λ r. ⌜ shelfResult r (now (shelf .exit))
-        ≡ keepCall (now (name .entry)) (slicesBefore neighbours degrees waves counts) (now (tally .entry)) (now (shelf .entry)) ⌝ }
+        ≡ keepCall (now (name .entry)) (slicesBefore neighbours degrees waves counts ranks) (now (tally .entry)) (now (shelf .entry)) ⌝ }
 {
-    keep_in(neighbours, degrees, waves, counts, tally, shelf, name)
+    keep_in(
+        neighbours,
+        degrees,
+        waves,
+        counts,
+        ranks,
+        tally,
+        shelf,
+        name,
+    )
 }
 
 // Comes back to the plan kept under a name. The result is the moved count.
@@ -39,14 +49,15 @@ pub extern "C" fn wave_plan_come_back(
     degrees: &mut [u16],
     waves: &mut [u16],
     counts: &mut [u16],
+    ranks: &mut [u16],
     moved: &mut [u16],
     tally: &mut [u16],
     shelf: &[u16],
     name: &[u8],
     result: &mut [u16],
 ) -> u16
-    ensures { λ r. ⌜ backAnswered r (slicesAfter neighbours degrees waves counts) (now (moved .exit)) (now (tally .exit)) (now (result .exit))
-        ≡ comeBackCall (now (name .entry)) (slicesBefore neighbours degrees waves counts) (now (moved .entry)) (now (tally .entry))
+    ensures { λ r. ⌜ backAnswered r (slicesAfter neighbours degrees waves counts ranks) (now (moved .exit)) (now (tally .exit)) (now (result .exit))
+        ≡ comeBackCall (now (name .entry)) (slicesBefore neighbours degrees waves counts ranks) (now (moved .entry)) (now (tally .entry))
         (now (shelf .entry)) (now (result .entry)) ⌝ }
 {
     come_back_in(
@@ -54,6 +65,7 @@ pub extern "C" fn wave_plan_come_back(
         degrees,
         waves,
         counts,
+        ranks,
         moved,
         tally,
         shelf,

@@ -15,13 +15,14 @@ pub extern "C" fn wave_plan_read_list(
     degrees: &mut [u16],
     waves: &mut [u16],
     counts: &mut [u16],
+    ranks: &mut [u16],
     trail: &mut [u16],
     moved: &mut [u16],
     tally: &mut [u16],
     result: &mut [u16],
 ) -> u16
-    ensures { λ r. ⌜ answered r (cellsAfter neighbours degrees waves counts trail moved tally result)
-        ≡ listCall (now (list .entry)) (cellsBefore neighbours degrees waves counts trail moved tally result) ⌝ }
+    ensures { λ r. ⌜ answered r (cellsAfter neighbours degrees waves counts ranks trail moved tally result)
+        ≡ listCall (now (list .entry)) (cellsBefore neighbours degrees waves counts ranks trail moved tally result) ⌝ }
 {
     make_plan_in(
         Source::FromList,
@@ -30,6 +31,7 @@ pub extern "C" fn wave_plan_read_list(
         degrees,
         waves,
         counts,
+        ranks,
         trail,
         moved,
         tally,
@@ -45,13 +47,14 @@ pub extern "C" fn wave_plan_replay(
     degrees: &mut [u16],
     waves: &mut [u16],
     counts: &mut [u16],
+    ranks: &mut [u16],
     trail: &mut [u16],
     moved: &mut [u16],
     tally: &mut [u16],
     result: &mut [u16],
 ) -> u16
-    ensures { λ r. ⌜ answered r (cellsAfter neighbours degrees waves counts trail moved tally result)
-        ≡ replayCall (now (journal .entry)) (cellsBefore neighbours degrees waves counts trail moved tally result) ⌝ }
+    ensures { λ r. ⌜ answered r (cellsAfter neighbours degrees waves counts ranks trail moved tally result)
+        ≡ replayCall (now (journal .entry)) (cellsBefore neighbours degrees waves counts ranks trail moved tally result) ⌝ }
 {
     make_plan_in(
         Source::FromJournal,
@@ -60,6 +63,7 @@ pub extern "C" fn wave_plan_replay(
         degrees,
         waves,
         counts,
+        ranks,
         trail,
         moved,
         tally,

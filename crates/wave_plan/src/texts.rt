@@ -13,12 +13,13 @@ pub extern "C" fn wave_plan_write_sheet(
     degrees: &[u16],
     waves: &[u16],
     counts: &[u16],
+    ranks: &[u16],
     tally: &[u16],
     out: &mut [u8],
     result: &mut [u16],
 ) -> u16
     ensures { λ r. ⌜ textAnswered r (now (out .exit)) (now (result .exit))
-        ≡ sheetCall (slicesBefore neighbours degrees waves counts) (now (tally .entry)) (now (out .entry)) (now (result .entry)) ⌝ }
+        ≡ sheetCall (slicesBefore neighbours degrees waves counts ranks) (now (tally .entry)) (now (out .entry)) (now (result .entry)) ⌝ }
 {
     write_in(
         Text::Sheet,
@@ -26,6 +27,7 @@ pub extern "C" fn wave_plan_write_sheet(
         degrees,
         waves,
         counts,
+        ranks,
         tally,
         out,
         result,
@@ -39,12 +41,13 @@ pub extern "C" fn wave_plan_write_poster(
     degrees: &[u16],
     waves: &[u16],
     counts: &[u16],
+    ranks: &[u16],
     tally: &[u16],
     out: &mut [u8],
     result: &mut [u16],
 ) -> u16
     ensures { λ r. ⌜ textAnswered r (now (out .exit)) (now (result .exit))
-        ≡ posterCall (slicesBefore neighbours degrees waves counts) (now (tally .entry)) (now (out .entry)) (now (result .entry)) ⌝ }
+        ≡ posterCall (slicesBefore neighbours degrees waves counts ranks) (now (tally .entry)) (now (out .entry)) (now (result .entry)) ⌝ }
 {
     write_in(
         Text::Poster,
@@ -52,6 +55,7 @@ pub extern "C" fn wave_plan_write_poster(
         degrees,
         waves,
         counts,
+        ranks,
         tally,
         out,
         result,
@@ -65,12 +69,13 @@ pub extern "C" fn wave_plan_start_journal(
     degrees: &[u16],
     waves: &[u16],
     counts: &[u16],
+    ranks: &[u16],
     tally: &[u16],
     journal: &mut [u8],
     result: &mut [u16],
 ) -> u16
     ensures { λ r. ⌜ textAnswered r (now (journal .exit)) (now (result .exit))
-        ≡ startCall (slicesBefore neighbours degrees waves counts) (now (tally .entry)) (now (journal .entry)) (now (result .entry)) ⌝ }
+        ≡ startCall (slicesBefore neighbours degrees waves counts ranks) (now (tally .entry)) (now (journal .entry)) (now (result .entry)) ⌝ }
 {
     write_in(
         Text::Journal,
@@ -78,6 +83,7 @@ pub extern "C" fn wave_plan_start_journal(
         degrees,
         waves,
         counts,
+        ranks,
         tally,
         journal,
         result,

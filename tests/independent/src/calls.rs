@@ -23,7 +23,7 @@ pub struct WaveAnswer {
 }
 
 impl Memory {
-    /// Open: n banks, no clash.
+    /// Open: n banks, no clash, all of rank 0.
     pub fn open(&mut self, n: u16) -> u16 {
         let n = usize::from(n);
         let asked = ask(n <= MAX_BANKS, TOO_MANY_BANKS)

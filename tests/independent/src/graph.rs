@@ -1,6 +1,6 @@
 //! Banks and clashes as a graph; the rule order and the rule waves, worked out from scratch.
 
-use std::cmp::Reverse;
+use std::cmp::{Ordering, Reverse};
 
 /// The number of a bank (a vertex id).
 pub type Bank = usize;
@@ -8,26 +8,46 @@ pub type Bank = usize;
 /// The number of a wave (a colour).
 pub type Wave = usize;
 
-/// A set of clashes on banks 0 to n-1: by bank, the banks that clash with it, ascending.
+/// The rank of a bank: its place in the street.
+pub type Rank = usize;
+
+/// A set of clashes on banks 0 to n-1, and their ranks: by bank, the banks that clash with it,
+/// ascending, and its rank.
 #[derive(Clone, Debug, PartialEq, Eq)]
 pub struct Graph {
     neighbours: Vec<Vec<Bank>>,
+    ranks: Vec<Rank>,
 }
 
 impl Graph {
-    /// n banks without a clash.
+    /// n banks without a clash, all of rank 0.
     pub fn empty(n: usize) -> Graph {
         Graph {
             neighbours: vec![Vec::new(); n],
+            ranks: vec![0; n],
         }
     }
 
-    /// n banks with the given clashes.
+    /// n banks with the given clashes, all of rank 0.
     pub fn of(n: usize, clashes: impl IntoIterator<Item = (Bank, Bank)>) -> Graph {
         let mut graph = Graph::empty(n);
         for (a, b) in clashes {
             graph.insert(a, b);
         }
+        graph
+    }
+
+    /// These clashes with other ranks, one for each bank.
+    pub fn with_ranks(mut self, ranks: Vec<Rank>) -> Graph {
+        assert_eq!(ranks.len(), self.banks());
+        self.ranks = ranks;
+        self
+    }
+
+    /// This graph with the rank of b set.
+    pub fn ranked(&self, b: Bank, rank: Rank) -> Graph {
+        let mut graph = self.clone();
+        graph.ranks[b] = rank;
         graph
     }
 
@@ -81,16 +101,31 @@ impl Graph {
         self.neighbours[b].len()
     }
 
-    /// Whether p is earlier than q: larger degree, or equal degree and smaller number.
+    /// The ranks by bank number.
+    pub fn ranks(&self) -> &[Rank] {
+        &self.ranks
+    }
+
+    /// The rank of b.
+    pub fn rank(&self, b: Bank) -> Rank {
+        self.ranks[b]
+    }
+
+    /// Whether p is earlier than q: larger degree, or equal degree and smaller rank, or both equal
+    /// and smaller number.
     pub fn earlier(&self, p: Bank, q: Bank) -> bool {
-        let (of_p, of_q) = (self.degree(p), self.degree(q));
-        of_p > of_q || (of_p == of_q && p < q)
+        match self.degree(p).cmp(&self.degree(q)) {
+            Ordering::Greater => true,
+            Ordering::Equal if self.rank(p) == self.rank(q) => p < q,
+            Ordering::Equal => self.rank(p) < self.rank(q),
+            Ordering::Less => false,
+        }
     }
 
     /// All banks in the rule order, earliest first.
     pub fn order(&self) -> Vec<Bank> {
         let mut banks: Vec<Bank> = (0..self.banks()).collect();
-        banks.sort_unstable_by_key(|&b| (Reverse(self.degree(b)), b));
+        banks.sort_unstable_by_key(|&b| (Reverse(self.degree(b)), self.rank(b), b));
         banks
     }
 

@@ -2,16 +2,17 @@
 
 use crate::calls::clash_questions;
 use crate::graph::{Bank, Graph};
-use crate::list::MAX_BYTES;
+use crate::list::{Pass, MAX_BYTES};
 use crate::memory::Memory;
-use crate::plan::{cell, MAX_BANKS};
+use crate::plan::{cell, MAX_BANKS, MAX_RANK};
 use crate::reach::Edit;
 use crate::refusals::*;
 
-/// The tags of the first field, of an add and of a strike.
+/// The tags of the first field, of an add, of a strike and of a rank.
 pub const FIRST: u8 = 0x4E;
 pub const ADD: u8 = 0x2B;
 pub const STRIKE: u8 = 0x2D;
+pub const RANK: u8 = 0x4B;
 
 /// The bytes of the first field, and of every other.
 pub const FIRST_BYTES: usize = 5;
@@ -23,6 +24,19 @@ pub struct Entry {
     pub edit: Edit,
     pub a: u16,
     pub b: u16,
+}
+
+/// A field after the first: an edit, or the rank that a bank gets.
+#[derive(Clone, Copy, Debug, PartialEq, Eq)]
+pub enum Field {
+    Edit(Entry),
+    Rank { bank: u16, rank: u16 },
+}
+
+impl From<Entry> for Field {
+    fn from(entry: Entry) -> Field {
+        Field::Edit(entry)
+    }
 }
 
 /// The answer to start a journal: the number and the journal's length.
@@ -50,44 +64,55 @@ pub struct ReplayAnswer {
     pub left: usize,
 }
 
-/// A field: tag, length of the value, value, low byte first.
-fn field(tag: u8, value: &[u16]) -> Vec<u8> {
+/// The bytes of a field: tag, length of the value, value, low byte first.
+fn tagged(tag: u8, value: &[u16]) -> Vec<u8> {
     let length = cell(2 * value.len());
     let words = [&[length], value].concat();
     let bytes = words.iter().flat_map(|word| word.to_le_bytes());
     std::iter::once(tag).chain(bytes).collect()
 }
 
-/// The field of an entry.
-pub fn entry_field(entry: Entry) -> Vec<u8> {
-    let tag = match entry.edit {
-        Edit::Add => ADD,
-        Edit::Strike => STRIKE,
-    };
-    field(tag, &[entry.a, entry.b])
+/// The bytes of a field after the first.
+pub fn field_bytes(field: impl Into<Field>) -> Vec<u8> {
+    match field.into() {
+        Field::Edit(Entry { edit, a, b }) => match edit {
+            Edit::Add => tagged(ADD, &[a, b]),
+            Edit::Strike => tagged(STRIKE, &[a, b]),
+        },
+        Field::Rank { bank, rank } => tagged(RANK, &[bank, rank]),
+    }
 }
 
-/// The journal of n banks and the given entries.
-pub fn journal_of(n: u16, entries: &[Entry]) -> Vec<u8> {
-    let fields = entries.iter().flat_map(|&entry| entry_field(entry));
-    field(FIRST, &[n]).into_iter().chain(fields).collect()
+/// The journal of n banks and the given fields after the first.
+pub fn journal_of<F: Copy + Into<Field>>(n: u16, fields: &[F]) -> Vec<u8> {
+    let fields = fields.iter().flat_map(|&field| field_bytes(field));
+    tagged(FIRST, &[n]).into_iter().chain(fields).collect()
 }
 
-/// A new journal of a graph: its clashes as adds, smaller bank first, lowest pair first.
+/// A new journal of a graph: the ranks other than 0, ascending by bank, then its clashes as adds,
+/// smaller bank first, lowest pair first.
 pub fn started(graph: &Graph) -> Vec<u8> {
+    let rank = |b: Bank| Field::Rank {
+        bank: cell(b),
+        rank: cell(graph.rank(b)),
+    };
     let above = |a: Bank| {
         graph
             .neighbours(a)
             .filter(move |&b| a < b)
             .map(move |b| (a, b))
     };
-    let add = |(a, b)| Entry {
-        edit: Edit::Add,
-        a: cell(a),
-        b: cell(b),
+    let add = |(a, b)| {
+        Field::Edit(Entry {
+            edit: Edit::Add,
+            a: cell(a),
+            b: cell(b),
+        })
     };
-    let entries: Vec<Entry> = (0..graph.banks()).flat_map(above).map(add).collect();
-    journal_of(cell(graph.banks()), &entries)
+    let banks = 0..graph.banks();
+    let ranks = banks.clone().filter(|&b| graph.rank(b) != 0).map(rank);
+    let fields: Vec<Field> = ranks.chain(banks.flat_map(above).map(add)).collect();
+    journal_of(cell(graph.banks()), &fields)
 }
 
 /// The bank count of the first field and the bytes after it, if that field is whole and right.
@@ -98,43 +123,64 @@ fn split_first(journal: &[u8]) -> Option<(u16, &[u8])> {
     }
 }
 
-/// What ends the edits of a journal: a wrong tag or length, or so many bytes left over.
+/// What ends the fields of a journal: a wrong tag or length or a rank above 9,999, or so many bytes
+/// left over.
 #[derive(Clone, Copy, Debug, PartialEq, Eq)]
 enum End {
     Wrong,
     LeftOver(usize),
 }
 
-/// The edits in the bytes after the first field, and what ends them.
-fn entries(mut bytes: &[u8]) -> (Vec<Entry>, End) {
-    let mut entries = Vec::new();
+/// The fields in the bytes after the first one, and what ends them.
+fn fields(mut bytes: &[u8]) -> (Vec<Field>, End) {
+    let mut fields = Vec::new();
     loop {
-        match split_entry(bytes) {
-            Ok((entry, rest)) => {
-                entries.push(entry);
+        match split_field(bytes) {
+            Ok((field, rest)) => {
+                fields.push(field);
                 bytes = rest;
             }
-            Err(end) => return (entries, end),
+            Err(end) => return (fields, end),
         }
     }
 }
 
-/// The edit at the front of the bytes, and the bytes after it.
-fn split_entry(bytes: &[u8]) -> Result<(Entry, &[u8]), End> {
-    let (edit, value) = match bytes {
+/// The field at the front of the bytes, and the bytes after it.
+fn split_field(bytes: &[u8]) -> Result<(Field, &[u8]), End> {
+    let (tag, value) = match bytes {
         [] | [_] | [_, _] => return Err(End::LeftOver(bytes.len())),
-        [ADD, 4, 0, value @ ..] => (Edit::Add, value),
-        [STRIKE, 4, 0, value @ ..] => (Edit::Strike, value),
+        [tag @ (ADD | STRIKE | RANK), 4, 0, value @ ..] => (*tag, value),
         _ => return Err(End::Wrong),
     };
-    match value {
+    let (a, b, rest) = match value {
         [a, a_high, b, b_high, rest @ ..] => {
             let a = u16::from_le_bytes([*a, *a_high]);
             let b = u16::from_le_bytes([*b, *b_high]);
-            Ok((Entry { edit, a, b }, rest))
+            (a, b, rest)
         }
-        _ => Err(End::LeftOver(bytes.len())),
+        _ => return Err(End::LeftOver(bytes.len())),
+    };
+    let edit = |edit| Ok((Field::Edit(Entry { edit, a, b }), rest));
+    match tag {
+        ADD => edit(Edit::Add),
+        STRIKE => edit(Edit::Strike),
+        _ if usize::from(b) > MAX_RANK => Err(End::Wrong),
+        _ => Ok((Field::Rank { bank: a, rank: b }, rest)),
     }
+}
+
+/// The questions on the fields so far of a journal in which an edit is recorded, field by field: is
+/// it whole and right, and does a rank come before the first edit?
+fn fields_so_far(rest: &[u8]) -> Result<(), u16> {
+    let (fields, end) = fields(rest);
+    let mut begun = false;
+    for field in fields {
+        match field {
+            Field::Edit(_) => begun = true,
+            Field::Rank { .. } => ask(!begun, RANK_AFTER_EDIT)?,
+        }
+    }
+    ask(end == End::LeftOver(0), NOT_A_FIELD)
 }
 
 /// Whether a journal of so many bytes is within the slice and the limit.
@@ -169,7 +215,7 @@ impl Memory {
             Ok((old, new)) => {
                 let (a, b) = (usize::from(entry.a), usize::from(entry.b));
                 let answer = self.store_edit(entry.edit, a, b, &old, &new);
-                slice[length..][..ENTRY_BYTES].copy_from_slice(&entry_field(entry));
+                slice[length..][..ENTRY_BYTES].copy_from_slice(&field_bytes(entry));
                 RecordAnswer {
                     number: answer.number,
                     moved: answer.moved,
@@ -195,13 +241,13 @@ impl Memory {
         let journal = slice.get(..length).ok_or(NOT_A_FIRST_FIELD)?;
         let (_, rest) = split_first(journal).ok_or(NOT_A_FIRST_FIELD)?;
         let old = self.memory_questions()?;
-        ask(entries(rest).1 == End::LeftOver(0), NOT_A_FIELD)?;
+        fields_so_far(rest)?;
         let new = clash_questions(entry.edit, entry.a.into(), entry.b.into(), &old)?;
         ask(has_space(length + ENTRY_BYTES, slice), NO_SPACE)?;
         Ok((old, new))
     }
 
-    /// Replay a journal: open the plan, then make the fields' edits in turn.
+    /// Replay a journal: open the plan, then set the fields' ranks and make their edits in turn.
     pub fn replay(&mut self, journal: &[u8]) -> ReplayAnswer {
         match self.replay_pass(journal) {
             Ok(left) => ReplayAnswer {
@@ -222,9 +268,9 @@ impl Memory {
     fn replay_pass(&mut self, journal: &[u8]) -> Result<usize, (u16, usize)> {
         ask(journal.len() <= MAX_BYTES, LIST_TOO_LONG).map_err(|number| (number, 0))?;
         let (n, rest) = self.first_field(journal).map_err(|number| (number, 1))?;
-        let mut graph = Graph::empty(n);
-        let passed = self.later_fields(rest, &mut graph);
-        self.store_plan(&graph);
+        let mut pass = Pass::begin(n);
+        let passed = self.later_fields(rest, &mut pass);
+        self.store_plan(&pass.graph);
         passed
     }
 
@@ -238,14 +284,19 @@ impl Memory {
     }
 
     /// The fields after the first, which is field 1. The answer is how many bytes were left over.
-    fn later_fields(&mut self, rest: &[u8], graph: &mut Graph) -> Result<usize, (u16, usize)> {
-        let (entries, end) = entries(rest);
-        for (place, &Entry { edit, a, b }) in (2..).zip(&entries) {
-            let made = self.edit_in_turn(edit, a.into(), b.into(), graph);
+    fn later_fields(&mut self, rest: &[u8], pass: &mut Pass) -> Result<usize, (u16, usize)> {
+        let (fields, end) = fields(rest);
+        for (place, &field) in (2..).zip(&fields) {
+            let made = match field {
+                Field::Edit(Entry { edit, a, b }) => {
+                    self.edit_in_turn(edit, a.into(), b.into(), pass)
+                }
+                Field::Rank { bank, rank } => pass.set_rank(bank.into(), rank.into()),
+            };
             made.map_err(|number| (number, place))?;
         }
         match end {
-            End::Wrong => Err((NOT_A_FIELD, entries.len() + 2)),
+            End::Wrong => Err((NOT_A_FIELD, fields.len() + 2)),
             End::LeftOver(left) => Ok(left),
         }
     }

@@ -1,11 +1,12 @@
-//! Journals for the tests, the same in each run: random edits, and random journals, whole or
-//! damaged.
+//! Journals for the tests, the same in each run: random ranks and edits, and random journals, whole
+//! or damaged.
 
 use crate::journal::{
-    entry_field, journal_of, Entry, ADD, ENTRY_BYTES, FIRST, FIRST_BYTES, STRIKE,
+    field_bytes, journal_of, Entry, Field, ADD, ENTRY_BYTES, FIRST, FIRST_BYTES, RANK, STRIKE,
 };
-use crate::plan::{cell, MAX_DEGREE};
+use crate::plan::{cell, MAX_DEGREE, MAX_RANK};
 use crate::random::Random;
+use crate::ranks::{drawn_settings, shuffled};
 use crate::reach::Edit;
 use std::collections::BTreeSet;
 
@@ -42,16 +43,33 @@ pub fn drawn_entries(random: &mut Random, n: usize, hot: usize, draws: usize) ->
     entries
 }
 
-/// The list of the same edits as a journal of n banks and the given entries.
-pub fn same_list(n: u16, entries: &[Entry]) -> Vec<u8> {
-    let row = |entry: &Entry| {
-        let sign = match entry.edit {
-            Edit::Add => '+',
-            Edit::Strike => '-',
-        };
-        format!("\n{sign} {} {}", entry.a, entry.b)
+/// Ranks of n banks as fields.
+pub fn drawn_rank_fields(random: &mut Random, n: usize) -> Vec<Field> {
+    let rank = |(bank, rank)| Field::Rank {
+        bank: cell(bank),
+        rank: cell(rank),
     };
-    let rows: String = entries.iter().map(row).collect();
+    drawn_settings(random, n).into_iter().map(rank).collect()
+}
+
+/// Ranks of n banks as fields, and then edits.
+pub fn drawn_fields(random: &mut Random, n: usize, hot: usize, draws: usize) -> Vec<Field> {
+    let mut fields = drawn_rank_fields(random, n);
+    let entries = drawn_entries(random, n, hot, draws);
+    fields.extend(entries.into_iter().map(Field::Edit));
+    fields
+}
+
+/// The list of the same ranks and edits as a journal of n banks and the given fields.
+pub fn same_list<F: Copy + Into<Field>>(n: u16, fields: &[F]) -> Vec<u8> {
+    let row = |&field: &F| match field.into() {
+        Field::Edit(Entry { edit, a, b }) => match edit {
+            Edit::Add => format!("\n+ {a} {b}"),
+            Edit::Strike => format!("\n- {a} {b}"),
+        },
+        Field::Rank { bank, rank } => format!("\nK {bank} {rank}"),
+    };
+    let rows: String = fields.iter().map(row).collect();
     format!("N {n}{rows}").into_bytes()
 }
 
@@ -64,26 +82,46 @@ pub fn random_journal(random: &mut Random) -> Vec<u8> {
         _ => (random.between(2, 30), random.below(200)),
     };
     let hot = random.between(2, 26);
-    let entries = drawn_entries(random, n, hot, draws);
-    let mut journal = journal_of(cell(n), &entries);
+    let fields = if n > 24 && random.one_in(20) {
+        overfull(random, n)
+    } else {
+        drawn_fields(random, n, hot, draws)
+    };
+    let mut journal = journal_of(cell(n), &fields);
     for _ in 0..random.below(3) {
         damage(random, n, &mut journal);
     }
     journal
 }
 
-/// One damage: a stray field, a byte, a tag, a length, a bank count or a cut.
+/// Ranks of n banks, and 24 clashes of one bank, of which the last is refused. There are more than 24
+/// banks.
+fn overfull(random: &mut Random, n: usize) -> Vec<Field> {
+    let mut fields = drawn_rank_fields(random, n);
+    let banks: Vec<u16> = shuffled(random, n).into_iter().map(cell).collect();
+    let add = |&b: &u16| {
+        Field::Edit(Entry {
+            edit: Edit::Add,
+            a: b,
+            b: banks[0],
+        })
+    };
+    fields.extend(banks[1..25].iter().map(add));
+    fields
+}
+
+/// One damage: a stray field, a byte, a tag, a length, a rank, a bank count or a cut.
 fn damage(random: &mut Random, n: usize, journal: &mut Vec<u8>) {
     let fields = journal.len().saturating_sub(FIRST_BYTES) / ENTRY_BYTES;
     let start = FIRST_BYTES + ENTRY_BYTES * random.below(fields + 1);
     if journal.len() < start + ENTRY_BYTES || random.one_in(3) {
-        let stray = entry_field(stray_entry(random, n));
+        let stray = field_bytes(stray_field(random, n));
         let start = start.min(journal.len());
         journal.splice(start..start, stray);
         return;
     }
-    match random.below(7) {
-        0 => journal[start] = *random.pick(&[ADD, STRIKE, FIRST, b'D']),
+    match random.below(8) {
+        0 => journal[start] = *random.pick(&[ADD, STRIKE, RANK, FIRST, b'D']),
         1 => journal[start + 1] = *random.pick(&[2, 3, 5, 8]),
         2 => journal[start + 2] = random.byte(),
         3 => journal.truncate(start + random.below(ENTRY_BYTES)),
@@ -91,6 +129,10 @@ fn damage(random: &mut Random, n: usize, journal: &mut Vec<u8>) {
             journal.drain(start..start + ENTRY_BYTES);
         }
         5 => journal[random.below(FIRST_BYTES)] = random.byte(),
+        6 => {
+            let rank = stray_rank(random).to_le_bytes();
+            journal[start + 5..start + 7].copy_from_slice(&rank);
+        }
         _ => {
             let place = random.below(journal.len());
             journal[place] = random.byte();
@@ -98,8 +140,8 @@ fn damage(random: &mut Random, n: usize, journal: &mut Vec<u8>) {
     }
 }
 
-/// An edit of n banks or banks near to them, accepted or not.
-fn stray_entry(random: &mut Random, n: usize) -> Entry {
+/// An edit or a rank of n banks or banks near to them, accepted or not.
+fn stray_field(random: &mut Random, n: usize) -> Field {
     let far = *random.pick(&[n, n + 1, 1024, 65_535]);
     let (a, b) = (random.below(n.max(1)), random.below(n.max(1)));
     let (a, b) = match random.below(6) {
@@ -108,9 +150,18 @@ fn stray_entry(random: &mut Random, n: usize) -> Entry {
         2 => (a, a),
         _ => (a, b),
     };
-    Entry {
-        edit: *random.pick(&[Edit::Add, Edit::Strike]),
-        a: cell(a),
-        b: cell(b),
+    let (a, b) = (cell(a), cell(b));
+    if random.one_in(3) {
+        let rank = stray_rank(random);
+        return Field::Rank { bank: a, rank };
     }
+    let edit = *random.pick(&[Edit::Add, Edit::Strike]);
+    Field::Edit(Entry { edit, a, b })
+}
+
+/// A rank, or a number near to one, or far from all.
+fn stray_rank(random: &mut Random) -> u16 {
+    let any = random.below(MAX_RANK + 1);
+    let rank = *random.pick(&[0, any, MAX_RANK, MAX_RANK + 1, 16_384, 65_535]);
+    cell(rank)
 }

@@ -3,7 +3,7 @@
 //! memory, and works every plan out from scratch: sort the banks by the rule order, colour
 //! greedily, fill in the cells.
 //!
-//! - `graph`: banks, clashes, rule order, rule waves.
+//! - `graph`: banks, clashes, ranks, rule order, rule waves.
 //! - `reach`: trail and moved of an edit, from the old and the new graph.
 //! - `plan`: the plan's cells and tally.
 //! - `memory`: the lent slices, and whether they hold a plan.
@@ -13,7 +13,7 @@
 //! - `journal`: a journal's fields, and the calls that start, record and replay.
 //! - `shelf`: three places for kept plans, and the calls that open it, keep and come back.
 //! - `sheet`, `poster`: their texts, the calls that write them, and the outputs of the programs.
-//! - `random`, `lists`, `journals`: inputs for the tests.
+//! - `random`, `ranks`, `lists`, `journals`: inputs for the tests.
 
 pub mod calls;
 pub mod graph;
@@ -25,6 +25,7 @@ pub mod memory;
 pub mod plan;
 pub mod poster;
 pub mod random;
+pub mod ranks;
 pub mod reach;
 pub mod refusals;
 pub mod sheet;

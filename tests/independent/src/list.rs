@@ -1,7 +1,7 @@
 //! The list: how its bytes split into rows, the forms of a row, and the call that reads a list.
 
 use crate::calls::clash_questions;
-use crate::graph::{Bank, Graph};
+use crate::graph::{Bank, Graph, Rank};
 use crate::memory::Memory;
 use crate::plan::MAX_BANKS;
 use crate::reach::{reach, Edit};
@@ -23,6 +23,34 @@ pub enum Row {
     Add(Bank, Bank),
     Strike(Bank, Bank),
     StrikeAll(Bank),
+    Rank(Bank, Rank),
+}
+
+/// Where a pass over a list or a journal stands: the graph so far, and whether an edit row or an
+/// edit field has come. Ranks are set before that.
+#[derive(Clone, Debug)]
+pub(crate) struct Pass {
+    pub graph: Graph,
+    pub begun: bool,
+}
+
+impl Pass {
+    /// After the first row or field: n banks, no clash, all of rank 0.
+    pub fn begin(n: usize) -> Pass {
+        Pass {
+            graph: Graph::empty(n),
+            begun: false,
+        }
+    }
+
+    /// A K row or field: its questions, then the rank. The last one of a bank counts. No wave
+    /// changes, as there is no clash.
+    pub fn set_rank(&mut self, b: Bank, rank: Rank) -> Result<(), u16> {
+        ask(!self.begun, RANK_AFTER_EDIT)?;
+        ask(b < self.graph.banks(), NO_SUCH_BANK)?;
+        self.graph = self.graph.ranked(b, rank);
+        Ok(())
+    }
 }
 
 /// The rows of a list. A row ends at a line feed or at the end of the bytes; nothing after a
@@ -43,12 +71,13 @@ pub fn n_row(row: &[u8]) -> Option<usize> {
     }
 }
 
-/// A row after row 1, if it has one of the three forms.
-pub fn edit_row(row: &[u8]) -> Option<Row> {
+/// A row after row 1, if it has one of the four forms.
+pub fn later_row(row: &[u8]) -> Option<Row> {
     match parts(row)[..] {
         [b"+", a, b] => Some(Row::Add(number(a)?, number(b)?)),
         [b"-", a, b] => Some(Row::Strike(number(a)?, number(b)?)),
         [b"D", b] => Some(Row::StrikeAll(number(b)?)),
+        [b"K", b, rank] => Some(Row::Rank(number(b)?, number(rank)?)),
         _ => None,
     }
 }
@@ -70,7 +99,7 @@ fn number(digits: &[u8]) -> Option<usize> {
 impl Memory {
     /// Read a list: open the plan, then make the rows' edits in turn.
     pub fn read_list(&mut self, list: &[u8]) -> ListAnswer {
-        match self.pass(list) {
+        match self.list_pass(list) {
             Ok(()) => ListAnswer {
                 number: ACCEPTED,
                 row: 0,
@@ -81,16 +110,16 @@ impl Memory {
 
     /// The pass over a list. A refusal is number and row. Once row 1 is accepted, the plan of the
     /// rows that were accepted is left, whether the pass ends in a refusal or not.
-    fn pass(&mut self, list: &[u8]) -> Result<(), (u16, usize)> {
+    fn list_pass(&mut self, list: &[u8]) -> Result<(), (u16, usize)> {
         ask(list.len() <= MAX_BYTES, LIST_TOO_LONG).map_err(|number| (number, 0))?;
         let rows = rows(list);
         let n = self.first_row(&rows).map_err(|number| (number, 1))?;
-        let mut graph = Graph::empty(n);
+        let mut pass = Pass::begin(n);
         let passed = (2..).zip(&rows[1..]).try_for_each(|(place, row)| {
-            let made = self.later_row(row, &mut graph);
+            let made = self.row_in_turn(row, &mut pass);
             made.map_err(|number| (number, place))
         });
-        self.store_plan(&graph);
+        self.store_plan(&pass.graph);
         passed
     }
 
@@ -103,16 +132,19 @@ impl Memory {
         Ok(n)
     }
 
-    /// One further row: its questions, then its edits.
-    fn later_row(&mut self, row: &[u8], graph: &mut Graph) -> Result<(), u16> {
-        match edit_row(row).ok_or(NOT_A_ROW)? {
-            Row::Add(a, b) => self.edit_in_turn(Edit::Add, a, b, graph),
-            Row::Strike(a, b) => self.edit_in_turn(Edit::Strike, a, b, graph),
+    /// One further row: its questions, then its edits or its rank.
+    fn row_in_turn(&mut self, row: &[u8], pass: &mut Pass) -> Result<(), u16> {
+        match later_row(row).ok_or(NOT_A_ROW)? {
+            Row::Add(a, b) => self.edit_in_turn(Edit::Add, a, b, pass),
+            Row::Strike(a, b) => self.edit_in_turn(Edit::Strike, a, b, pass),
             Row::StrikeAll(b) => {
-                ask(b < graph.banks(), NO_SUCH_BANK)?;
-                let mut ascending = graph.neighbours(b).collect::<Vec<Bank>>().into_iter();
-                ascending.try_for_each(|q| self.edit_in_turn(Edit::Strike, b, q, graph))
+                ask(b < pass.graph.banks(), NO_SUCH_BANK)?;
+                pass.begun = true;
+                let ascending: Vec<Bank> = pass.graph.neighbours(b).collect();
+                let mut ascending = ascending.into_iter();
+                ascending.try_for_each(|q| self.edit_in_turn(Edit::Strike, b, q, pass))
             }
+            Row::Rank(b, rank) => pass.set_rank(b, rank),
         }
     }
 
@@ -122,11 +154,14 @@ impl Memory {
         edit: Edit,
         a: Bank,
         b: Bank,
-        graph: &mut Graph,
+        pass: &mut Pass,
     ) -> Result<(), u16> {
-        let new = clash_questions(edit, a, b, graph)?;
-        self.store_reach(&reach(edit, a, b, graph, &new));
-        *graph = new;
+        let new = clash_questions(edit, a, b, &pass.graph)?;
+        self.store_reach(&reach(edit, a, b, &pass.graph, &new));
+        *pass = Pass {
+            graph: new,
+            begun: true,
+        };
         Ok(())
     }
 }

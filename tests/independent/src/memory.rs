@@ -1,8 +1,8 @@
-//! The memory lent to a call: six slices and the tally. Slices may be longer or shorter than a
+//! The memory lent to a call: seven slices and the tally. Slices may be longer or shorter than a
 //! plan needs.
 
-use crate::graph::{Bank, Graph};
-use crate::plan::{cell, Plan, Tally, MAX_BANKS, MAX_DEGREE, NO_BANK, WAVES};
+use crate::graph::{Bank, Graph, Rank};
+use crate::plan::{cell, Plan, Tally, MAX_BANKS, MAX_DEGREE, MAX_RANK, NO_BANK, WAVES};
 use crate::reach::Reach;
 
 #[derive(Clone, Debug, PartialEq, Eq)]
@@ -11,6 +11,7 @@ pub struct Memory {
     pub degrees: Vec<u16>,
     pub waves: Vec<u16>,
     pub counts: Vec<u16>,
+    pub ranks: Vec<u16>,
     pub trail: Vec<u16>,
     pub moved: Vec<u16>,
     pub tally: Tally,
@@ -24,6 +25,7 @@ impl Memory {
             degrees: vec![content; n],
             waves: vec![content; n],
             counts: vec![content; WAVES * n],
+            ranks: vec![content; n],
             trail: vec![content; n],
             moved: vec![content; n],
             tally: Tally {
@@ -34,15 +36,16 @@ impl Memory {
         }
     }
 
-    /// Whether the four plan slices are long enough for n banks.
+    /// Whether the five plan slices are long enough for n banks.
     pub fn plan_fits(&self, n: usize) -> bool {
         self.neighbours.len() >= MAX_DEGREE * n
             && self.degrees.len() >= n
             && self.waves.len() >= n
             && self.counts.len() >= WAVES * n
+            && self.ranks.len() >= n
     }
 
-    /// Whether all six slices are long enough for n banks.
+    /// Whether all seven slices are long enough for n banks.
     pub fn all_fit(&self, n: usize) -> bool {
         self.plan_fits(n) && self.trail.len() >= n && self.moved.len() >= n
     }
@@ -54,6 +57,7 @@ impl Memory {
         write_front(&mut self.degrees, &plan.degrees);
         write_front(&mut self.waves, &plan.waves);
         write_front(&mut self.counts, &plan.counts);
+        write_front(&mut self.ranks, &plan.ranks);
         self.tally = plan.tally;
     }
 
@@ -68,15 +72,15 @@ impl Memory {
         self.held_graph().is_some()
     }
 
-    /// The graph whose plan the memory holds, if it holds one: the graph that the rows name, if
-    /// all cells and the tally are those of its plan.
+    /// The graph whose plan the memory holds, if it holds one: the graph of the clashes that the rows
+    /// name and the ranks that stand there, if all cells and the tally are those of its plan.
     pub fn held_graph(&self) -> Option<Graph> {
         let n = usize::from(self.tally.banks);
         if n > MAX_BANKS || !self.plan_fits(n) {
             return None;
         }
         let rows: Vec<Vec<Bank>> = (0..n).map(|b| self.read_row(b)).collect::<Option<_>>()?;
-        let graph = graph_of_rows(&rows)?;
+        let graph = graph_of_rows(&rows)?.with_ranks(self.read_ranks(n)?);
         self.has_cells_of(&Plan::of(&graph)).then_some(graph)
     }
 
@@ -92,12 +96,21 @@ impl Memory {
         (named && ascending && padded).then_some(banks)
     }
 
-    /// Whether the front cells of the four plan slices, and the tally, are those of the plan.
+    /// The ranks of n banks, if none is above 9,999.
+    fn read_ranks(&self, n: usize) -> Option<Vec<Rank>> {
+        let ranks = self.ranks[..n].iter().map(|&rank| usize::from(rank));
+        ranks
+            .map(|rank| (rank <= MAX_RANK).then_some(rank))
+            .collect()
+    }
+
+    /// Whether the front cells of the five plan slices, and the tally, are those of the plan.
     fn has_cells_of(&self, plan: &Plan) -> bool {
         self.neighbours.starts_with(&plan.neighbours)
             && self.degrees.starts_with(&plan.degrees)
             && self.waves.starts_with(&plan.waves)
             && self.counts.starts_with(&plan.counts)
+            && self.ranks.starts_with(&plan.ranks)
             && self.tally == plan.tally
     }
 }

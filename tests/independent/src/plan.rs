@@ -11,6 +11,9 @@ pub const MAX_DEGREE: usize = 23;
 /// The cells of Counts of one bank, one for each wave.
 pub const WAVES: usize = 24;
 
+/// The largest rank of a bank.
+pub const MAX_RANK: usize = 9999;
+
 /// What the row cells after a bank's neighbours hold.
 pub const NO_BANK: u16 = 65_535;
 
@@ -29,11 +32,12 @@ pub struct Plan {
     pub degrees: Vec<u16>,
     pub waves: Vec<u16>,
     pub counts: Vec<u16>,
+    pub ranks: Vec<u16>,
     pub tally: Tally,
 }
 
 impl Plan {
-    /// The plan of a graph whose degrees are at most 23.
+    /// The plan of a graph whose degrees are at most 23 and whose ranks are at most 9,999.
     pub fn of(graph: &Graph) -> Plan {
         let n = graph.banks();
         let waves = graph.waves();
@@ -47,6 +51,7 @@ impl Plan {
             degrees: (0..n).map(|b| cell(graph.degree(b))).collect(),
             counts: (0..n).flat_map(|b| counts_of(graph, &waves, b)).collect(),
             waves: waves.into_iter().map(cell).collect(),
+            ranks: graph.ranks().iter().copied().map(cell).collect(),
             tally,
         }
     }

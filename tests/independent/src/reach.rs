@@ -1,4 +1,5 @@
-//! The reach of an edit: trail and moved, as functions of the old and the new graph.
+//! The reach of an edit: trail and moved, as functions of the old and the new graph, which have the
+//! same ranks.
 
 use crate::graph::{Bank, Graph, Wave};
 
@@ -29,6 +30,7 @@ struct Change<'a> {
 
 /// The reach of the edit of a and b that leads from the old graph to the new one.
 pub fn reach(edit: Edit, a: Bank, b: Bank, old: &Graph, new: &Graph) -> Reach {
+    assert_eq!(old.ranks(), new.ranks(), "an edit changes no rank");
     let change = Change {
         edit,
         a,

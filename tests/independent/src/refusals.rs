@@ -18,6 +18,7 @@ pub const NOT_A_FIELD: u16 = 14;
 pub const NO_SPACE: u16 = 15;
 pub const UNKNOWN_NAME: u16 = 16;
 pub const NOTHING_KEPT: u16 = 17;
+pub const RANK_AFTER_EDIT: u16 = 18;
 
 /// A question: the given number if the answer is no.
 pub fn ask(yes: bool, number: u16) -> Result<(), u16> {

@@ -16,9 +16,10 @@ pub struct BackAnswer {
     pub moved: usize,
 }
 
-/// The cells of a place for n banks: the used cell, a plan's cells, the three of the tally.
+/// The cells of a place for n banks: the used cell, a plan's cells but the ranks, the three of the
+/// tally, the ranks.
 pub fn place_cells(n: usize) -> usize {
-    1 + MAX_DEGREE * n + n + n + WAVES * n + 3
+    1 + MAX_DEGREE * n + n + n + WAVES * n + 3 + n
 }
 
 /// The cells of a shelf for n banks.
@@ -29,13 +30,14 @@ pub fn shelf_cells(n: usize) -> usize {
 /// The cells of a place in which a plan is kept.
 pub fn kept_cells(plan: &Plan) -> Vec<u16> {
     let tally = [plan.tally.banks, plan.tally.clashes, plan.tally.waves];
-    let parts: [&[u16]; 6] = [
+    let parts: [&[u16]; 7] = [
         &[1],
         &plan.neighbours,
         &plan.degrees,
         &plan.waves,
         &plan.counts,
         &tally,
+        &plan.ranks,
     ];
     parts.concat()
 }
@@ -73,12 +75,14 @@ fn kept_graph(cells: &[u16], n: usize) -> Option<Graph> {
     let (neighbours, rest) = cells.split_at(MAX_DEGREE * n);
     let (degrees, rest) = rest.split_at(n);
     let (waves, rest) = rest.split_at(n);
-    let (counts, tally) = rest.split_at(WAVES * n);
+    let (counts, rest) = rest.split_at(WAVES * n);
+    let (tally, ranks) = rest.split_at(3);
     let place = Memory {
         neighbours: neighbours.to_vec(),
         degrees: degrees.to_vec(),
         waves: waves.to_vec(),
         counts: counts.to_vec(),
+        ranks: ranks.to_vec(),
         trail: Vec::new(),
         moved: Vec::new(),
         tally: Tally {

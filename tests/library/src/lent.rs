@@ -9,6 +9,7 @@ pub struct Lent<'a> {
     pub degrees: &'a mut [u16],
     pub waves: &'a mut [u16],
     pub counts: &'a mut [u16],
+    pub ranks: &'a mut [u16],
     pub trail: &'a mut [u16],
     pub moved: &'a mut [u16],
     /// Banks, clashes, waves.
@@ -34,55 +35,55 @@ macro_rules! call {
 }
 
 impl Lent<'_> {
-    /// Open: n banks, no clash. Uses the plan slices and the tally.
+    /// Open: n banks, no clash, all of rank 0. Uses the plan slices and the tally.
     pub fn open(&mut self, n: u16) -> u16 {
         call!(wave_plan_open(
-            self.neighbours, self.degrees, self.waves, self.counts, self.tally; n))
+            self.neighbours, self.degrees, self.waves, self.counts, self.ranks, self.tally; n))
     }
 
     /// Add the clash of a and b. Results: moved count, trail count.
     pub fn add(&mut self, a: u16, b: u16) -> u16 {
         call!(wave_plan_add(
-            self.neighbours, self.degrees, self.waves, self.counts, self.trail, self.moved,
+            self.neighbours, self.degrees, self.waves, self.counts, self.ranks, self.trail, self.moved,
             self.tally, self.result; a, b))
     }
 
     /// Strike the clash of a and b. Results: moved count, trail count.
     pub fn strike(&mut self, a: u16, b: u16) -> u16 {
         call!(wave_plan_strike(
-            self.neighbours, self.degrees, self.waves, self.counts, self.trail, self.moved,
+            self.neighbours, self.degrees, self.waves, self.counts, self.ranks, self.trail, self.moved,
             self.tally, self.result; a, b))
     }
 
     /// Wave of bank b. Result: the wave.
     pub fn wave_of(&mut self, b: u16) -> u16 {
         call!(wave_plan_wave_of(
-            self.neighbours, self.degrees, self.waves, self.counts, self.tally, self.result; b))
+            self.neighbours, self.degrees, self.waves, self.counts, self.ranks, self.tally, self.result; b))
     }
 
     /// Clashes of bank b. Results: the first cell of the filled part of its row, and its length.
     pub fn clashes_of(&mut self, b: u16) -> u16 {
         call!(wave_plan_clashes_of(
-            self.neighbours, self.degrees, self.waves, self.counts, self.tally, self.result; b))
+            self.neighbours, self.degrees, self.waves, self.counts, self.ranks, self.tally, self.result; b))
     }
 
     /// Read a list. Result: the row of a refusal.
     pub fn read_list(&mut self, list: &[u8]) -> u16 {
         call!(wave_plan_read_list(
-            const list, self.neighbours, self.degrees, self.waves, self.counts, self.trail,
+            const list, self.neighbours, self.degrees, self.waves, self.counts, self.ranks, self.trail,
             self.moved, self.tally, self.result;))
     }
 
     /// Write a sheet to the front of the output. Result: its length.
     pub fn write_sheet(&mut self, out: &mut [u8]) -> u16 {
         call!(wave_plan_write_sheet(
-            self.neighbours, self.degrees, self.waves, self.counts, self.tally, out, self.result;))
+            self.neighbours, self.degrees, self.waves, self.counts, self.ranks, self.tally, out, self.result;))
     }
 
     /// Start a journal at the front of the slice. Result: its length.
     pub fn start_journal(&mut self, journal: &mut [u8]) -> u16 {
         call!(wave_plan_start_journal(
-            self.neighbours, self.degrees, self.waves, self.counts, self.tally, journal,
+            self.neighbours, self.degrees, self.waves, self.counts, self.ranks, self.tally, journal,
             self.result;))
     }
 
@@ -90,34 +91,34 @@ impl Lent<'_> {
     /// count, trail count, the new length.
     pub fn add_recorded(&mut self, a: u16, b: u16, journal: &mut [u8], length: usize) -> u16 {
         call!(wave_plan_add_recorded(
-            self.neighbours, self.degrees, self.waves, self.counts, self.trail, self.moved,
+            self.neighbours, self.degrees, self.waves, self.counts, self.ranks, self.trail, self.moved,
             self.tally, journal, self.result; a, b, length))
     }
 
     /// Strike the clash of a and b and record it, as `add_recorded` does.
     pub fn strike_recorded(&mut self, a: u16, b: u16, journal: &mut [u8], length: usize) -> u16 {
         call!(wave_plan_strike_recorded(
-            self.neighbours, self.degrees, self.waves, self.counts, self.trail, self.moved,
+            self.neighbours, self.degrees, self.waves, self.counts, self.ranks, self.trail, self.moved,
             self.tally, journal, self.result; a, b, length))
     }
 
     /// Replay a journal. Results: the field of a refusal, and how many bytes were left over.
     pub fn replay(&mut self, journal: &[u8]) -> u16 {
         call!(wave_plan_replay(
-            const journal, self.neighbours, self.degrees, self.waves, self.counts, self.trail,
+            const journal, self.neighbours, self.degrees, self.waves, self.counts, self.ranks, self.trail,
             self.moved, self.tally, self.result;))
     }
 
     /// Write a poster to the front of the output. Result: its length.
     pub fn write_poster(&mut self, out: &mut [u8]) -> u16 {
         call!(wave_plan_write_poster(
-            self.neighbours, self.degrees, self.waves, self.counts, self.tally, out, self.result;))
+            self.neighbours, self.degrees, self.waves, self.counts, self.ranks, self.tally, out, self.result;))
     }
 
     /// Keep the plan under a name. Uses the plan slices and the tally.
     pub fn keep(&mut self, shelf: &mut [u16], name: &[u8]) -> u16 {
         call!(wave_plan_keep(
-            self.neighbours, self.degrees, self.waves, self.counts, self.tally, shelf,
+            self.neighbours, self.degrees, self.waves, self.counts, self.ranks, self.tally, shelf,
             const name;))
     }
 
@@ -125,7 +126,7 @@ impl Lent<'_> {
     /// moved count.
     pub fn come_back(&mut self, shelf: &[u16], name: &[u8]) -> u16 {
         call!(wave_plan_come_back(
-            self.neighbours, self.degrees, self.waves, self.counts, self.moved, self.tally,
+            self.neighbours, self.degrees, self.waves, self.counts, self.ranks, self.moved, self.tally,
             const shelf, const name, self.result;))
     }
 }

@@ -47,6 +47,7 @@ pub struct Plan {
     degrees: Vec<u16>,
     waves: Vec<u16>,
     counts: Vec<u16>,
+    ranks: Vec<u16>,
     trail: Vec<u16>,
     moved: Vec<u16>,
     tally: [u16; 3],
@@ -54,7 +55,7 @@ pub struct Plan {
 }
 
 impl Plan {
-    /// A plan of n banks without a clash.
+    /// A plan of n banks without a clash, all of rank 0.
     pub fn open(n: u16) -> Result<Plan, Refused> {
         let mut plan = Plan::memory_for(n.min(MAX_BANKS));
         answer(plan.lent().open(n))?;
@@ -155,6 +156,11 @@ impl Plan {
         Ok(banks(&self.neighbours[start..start + length]))
     }
 
+    /// The ranks by bank number, as the K rows of its list or the K fields of its journal set them.
+    pub fn ranks(&self) -> &[u16] {
+        &self.ranks[..usize::from(self.tally[0])]
+    }
+
     /// The sheet.
     pub fn sheet(&mut self) -> Result<String, Refused> {
         let mut out = vec![0; SHEET_BYTES];
@@ -192,6 +198,7 @@ impl Plan {
             degrees: vec![0; n],
             waves: vec![0; n],
             counts: vec![0; 24 * n],
+            ranks: vec![0; n],
             trail: vec![0; n],
             moved: vec![0; n],
             tally: [0; 3],
@@ -205,6 +212,7 @@ impl Plan {
             degrees: &mut self.degrees,
             waves: &mut self.waves,
             counts: &mut self.counts,
+            ranks: &mut self.ranks,
             trail: &mut self.trail,
             moved: &mut self.moved,
             tally: &mut self.tally,

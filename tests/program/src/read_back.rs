@@ -1,5 +1,6 @@
 //! Reads the waves off a printed sheet or poster and holds them against the rule, bank by bank. The
-//! clashes come straight from the rows of the accepted list; nothing of the model is used.
+//! clashes and the ranks come straight from the rows of the accepted list; nothing of the model is
+//! used.
 
 use std::collections::BTreeSet;
 
@@ -15,15 +16,21 @@ pub fn poster_follows_rule(list: &[u8], poster: &[u8]) {
     follows_rule(list, &lines_of_poster(text(poster)));
 }
 
+/// The waves by bank number that the sheet of n banks shows.
+pub fn waves_on_sheet(sheet: &[u8], n: usize) -> Vec<usize> {
+    waves_of(&lines_of_sheet(text(sheet)), n)
+}
+
 /// The banks by wave are the rule's.
 fn follows_rule(list: &[u8], banks: &[Vec<usize>]) {
-    let (n, clashes) = clashes_of(text(list));
+    let Depot { ranks, clashes } = depot_of(text(list));
+    let n = ranks.len();
     let waves = waves_of(banks, n);
     let near: Vec<BTreeSet<usize>> = (0..n).map(|b| near(b, &clashes)).collect();
     for b in 0..n {
         let earlier = |&&q: &&usize| {
             let (of_q, of_b) = (near[q].len(), near[b].len());
-            of_q > of_b || (of_q == of_b && q < b)
+            of_q > of_b || (of_q == of_b && (ranks[q], q) < (ranks[b], b))
         };
         let held: BTreeSet<usize> = near[b].iter().filter(earlier).map(|&q| waves[q]).collect();
         assert!(
@@ -41,24 +48,35 @@ fn text(bytes: &[u8]) -> &str {
     std::str::from_utf8(bytes).expect("ASCII")
 }
 
-/// The bank count and the clashes, smaller bank first, that an accepted list ends in.
-fn clashes_of(list: &str) -> (usize, BTreeSet<(usize, usize)>) {
+/// The ranks by bank number and the clashes, smaller bank first, that an accepted list ends in.
+struct Depot {
+    ranks: Vec<usize>,
+    clashes: BTreeSet<(usize, usize)>,
+}
+
+fn depot_of(list: &str) -> Depot {
     let mut clashes = BTreeSet::new();
-    let mut n = 0;
+    let mut ranks = Vec::new();
+    let mut edited = false;
     for row in list.split_terminator('\n') {
         let numbers = row.split(' ').skip(1);
         let numbers: Vec<usize> = numbers
             .map(|part| part.parse().expect("a number"))
             .collect();
         match (&row[..1], &numbers[..]) {
-            ("N", &[banks]) => n = banks,
+            ("N", &[banks]) => ranks = vec![0; banks],
+            ("K", &[b, rank]) => {
+                assert!(!edited, "ranks come before the edits");
+                ranks[b] = rank;
+            }
             ("+", &[a, b]) => assert!(clashes.insert((a.min(b), a.max(b)))),
             ("-", &[a, b]) => assert!(clashes.remove(&(a.min(b), a.max(b)))),
             ("D", &[b]) => clashes.retain(|&(p, q)| p != b && q != b),
             _ => panic!("accepted: {row}"),
         }
+        edited |= ["+", "-", "D"].contains(&&row[..1]);
     }
-    (n, clashes)
+    Depot { ranks, clashes }
 }
 
 /// The banks that clash with b.

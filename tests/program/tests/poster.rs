@@ -87,6 +87,9 @@ fn edges_and_malformed_lists() {
     for list in lists::malformed_lists() {
         poster_agrees_with_model(&list);
     }
+    for (list, _, _) in lists::late_ranks() {
+        poster_agrees_with_model(&list);
+    }
 }
 
 #[test]

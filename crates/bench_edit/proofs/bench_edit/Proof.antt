@@ -11,7 +11,7 @@ tally-in-requires c κs = search needs
 edit-held-requires : tie.Need-edit-held-requires
 edit-held-requires c κs =
     let read = c .before .before .before .before .before .before in
-    held _ _ (read .tally-in .ensures) (read .before .before .before .before .before .before .before .before .before .before .pre .1)
+    held _ _ (read .tally-in .ensures) (read .before .before .before .before .before .before .before .before .before .before .before .pre .1)
 
 slice-aggregate-put-answer : tie.Need-slice-aggregate-put-answer
 slice-aggregate-put-answer c = search needs

@@ -31,6 +31,7 @@ pub record RowsChanged (e : Edit) (m : Memory) (before : Degrees) (n clashes : �
       (m .slices .neighbours) (m .slices .degrees) before
   pub sameWaves : m .slices .waves ≡ e .was .slices .waves
   pub sameCounts : m .slices .counts ≡ e .was .slices .counts
+  pub sameRanks : m .slices .ranks ≡ e .was .slices .ranks
   pub sameTrail : m .trail ≡ e .was .trail
   pub sameMoved : m .moved ≡ e .was .moved
   pub wide-trail : n ≤ length (e .was .trail)

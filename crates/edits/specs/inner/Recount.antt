@@ -21,13 +21,14 @@ pub record Recounted (cs cs′ : List ℕ) (b : ℕ) (counts : ℕ → ℕ) : Ty
   pub above : (j : ℕ) → b * 24 + 24 ≤ j → getD cs′ j 0 ≡ getD cs j 0
 
 -- that is done for b
-abbrev pub Recounts : Lent → Lent → Lent → Lent → ℕ → Type 0
-Recounts ns ds ws cs b = Recounted (cs .entry .now) (cs .exit .now) b (countsOf (ns .entry .now) (ds .entry .now) (ws .entry .now) b)
+abbrev pub Recounts : Lent → Lent → Lent → Lent → Lent → ℕ → Type 0
+Recounts ns ds ws cs rs b =
+    Recounted (cs .entry .now) (cs .exit .now) b (countsOf (ns .entry .now) (ds .entry .now) (rs .entry .now) (ws .entry .now) b)
 
 -- Counts of the banks in the queue are those of G with the stored waves, and every other cell is as in `was`
 pub record Recounting (G : Graph) (s : Slices) (was q : List ℕ) (n : ℕ) : Type 0 where
   pub banks : n ≡ G .banks
-  pub shown : Shown G (s .neighbours) (s .degrees)
+  pub shown : Shown G (s .neighbours) (s .degrees) (s .ranks)
   pub wide-waves : n ≤ length (s .waves)
   pub small : (x : ℕ) → x < n → getD (s .waves) x 0 < 24
   pub wide-counts : G .banks * 24 ≤ length (s .counts)
@@ -39,7 +40,7 @@ pub record Recounting (G : Graph) (s : Slices) (was q : List ℕ) (n : ℕ) : Ty
 
 -- the slices with these Counts
 abbrev pub withCounts : Slices → List ℕ → Slices
-withCounts s cs = slicesOf (s .neighbours) (s .degrees) (s .waves) cs
+withCounts s cs = slicesOf (s .neighbours) (s .degrees) (s .waves) cs (s .ranks)
 
 -- the same with v, which is put into the queue
 pub record SeedQueued (G : Graph) (s : Slices) (was q q′ : List ℕ) (n v : ℕ) : Type 0 where

@@ -15,9 +15,9 @@ use Rattle.neighbour_rows.specs.declared.clash.Degrees.{Degrees}
 use Rattle.steps.specs.inner.Work.{Edit, new}
 use Rattle.edits.specs.inner.Recount.{Recounting}
 
--- the order of x and y is not what it was when y had the degree d, by the degree cells
-unfoldable pub turnedFrom : List ℕ → ℕ → ℕ → ℕ → Bool
-turnedFrom ds d y x = not (Bool·beq (earlierBy (getD ds x 0) x d y) (byCells ds x y))
+-- the order of x and y is not what it was when y had the degree d, by the cells of degrees and ranks
+unfoldable pub turnedFrom : List ℕ → List ℕ → ℕ → ℕ → ℕ → Bool
+turnedFrom ds rs d y x = not (Bool·beq (earlierBy (getD ds x 0) (getD rs x 0) x d (getD rs y 0) y) (byCells ds rs x y))
 
 -- what the search for turned neighbours starts from: the clashes, Counts before the edit, and the queue's banks
 pub record Search : Type 0 where
@@ -30,7 +30,7 @@ pub record Turning (from : Search) (s : Slices) (q : List ℕ) (n y d i : ℕ) :
   pub counts : Recounting (from .graph) s (from .counts) q n
   pub bank : y < n
   pub members : (x : ℕ) → x < n
-      → waits (from .graph) q x ≡ (from .given x || (memb x (take i (neighbours (from .graph) y)) && turnedFrom (s .degrees) d y x))
+      → waits (from .graph) q x ≡ (from .given x || (memb x (take i (neighbours (from .graph) y)) && turnedFrom (s .degrees) (s .ranks) d y x))
 
 -- rows and degrees are those of the new clashes, a and b had these degrees before, and the queue is empty
 pub record Seedable (e : Edit) (s : Slices) (q : List ℕ) (n : ℕ) (before : Degrees) : Type 0 where

@@ -8,7 +8,7 @@ use Rattle.memory.specs.Memory.{Memory}
 use Rattle.planner.specs.Calls.{memoryNumber, editNumber}
 use Rattle.planner.specs.inner.Held.{ReadyIn}
 use Rattle.text.specs.Places.{put}
-use Rattle.journal_fields.specs.declared.field.Entry.{Entry}
+use Rattle.rule.specs.declared.Entry.{Entry}
 use Rattle.journal.specs.declared.record.Recorded.{Recorded}
 use Rattle.journal_fields.specs.Fields.{entrySize, entryBytes}
 use Rattle.journal_fields.specs.Numbers.{firstOf, spaceNumber, headNumber, fieldsNumber}

@@ -1,13 +1,16 @@
 -- What the functions under `read_list_core` ask (the records Asks ..) and promise.
+use mathlib.Core.Bool.{Bool, true, false}
 use mathlib.Core.List.{List}
 use mathlib.Core.Path.{_≡_}
 use Prim.Native.Nat.{ℕ, zero, suc, _+_, _-_, _≤_, _<_}
 use lib.ListN.{length, take, drop}
 use Rattle.rule.specs.Graph.{Graph}
 use Rattle.memory.specs.Memory.{Memory, Ready}
-use Rattle.planner.specs.States.{beginNumber}
-use Rattle.planner.specs.inner.Held.{HoldsPlan, at, tried, Stands}
+use Rattle.rule.specs.declared.Bank.{Bank}
+use Rattle.planner.specs.States.{State, begunBy, beginNumber}
+use Rattle.planner.specs.inner.Held.{HoldsState, at, Fresh, tried, Stands, RankFits}
 use Rattle.list_rows.specs.declared.row.Change.{Change}
+use Rattle.list_rows.specs.declared.row.Change.the-variants.{One, StrikeAll}
 use Rattle.list_rows.specs.declared.row.Row.{Row}
 use Rattle.list_rows.specs.Rows.{rowOf, rowsOf}
 use Rattle.list_reader.specs.declared.pass.Reading.{Reading}
@@ -17,18 +20,24 @@ use Rattle.text.specs.Places.{before}
 use Rattle.list_reader.specs.declared.pass.Step.{Step}
 use Rattle.list_reader.specs.Pass.{reading, listResult, changeNumber, change, rowNumber, step, pass, beginBy}
 
--- memory holds a plan
-pub record Asks (m : Memory) : Type 0 where
-  pub held : HoldsPlan m
+-- a row's rank is at most 9,999
+abbrev pub ChangeFits : Change → Type 0
+ChangeFits (One e) = RankFits e
+ChangeFits (StrikeAll b) = Unit {0}
 
--- memory holds a plan, and a row starts at `start`
-pub record AsksRow (list : List ℕ) (start : ℕ) (m : Memory) : Type 0 where
-  pub held : HoldsPlan m
+-- memory holds a plan, at this point of a pass, and the row's rank fits
+pub record Asks (begun : Bool) (c : Change) (m : Memory) : Type 0 where
+  pub held : HoldsState begun m
+  pub fits : ChangeFits c
+
+-- memory holds a plan, at this point of a pass, and a row starts at `start`
+pub record AsksRow (list : List ℕ) (start : ℕ) (begun : Bool) (m : Memory) : Type 0 where
+  pub held : HoldsState begun m
   pub inside : start < length list
 
--- memory holds a plan, and the second row starts at `first`, if there is one
+-- memory holds a plan with no clash, and the second row starts at `first`, if there is one
 pub record AsksRows (list : List ℕ) (first : ℕ) (m : Memory) : Type 0 where
-  pub held : HoldsPlan m
+  pub held : HoldsState false m
   pub few : length list ≤ 60000
   pub later : 1 ≤ first
   pub inside : first ≤ length list + 1
@@ -39,19 +48,28 @@ pub record AsksBegin (list : List ℕ) (next : ℕ) : Type 0 where
   pub later : 1 ≤ next
   pub inside : next ≤ length list + 1
 
--- a row's edit gets this number and leaves m′
-pub record Changes (c : Change) (G : Graph) (m : Memory) (number : ℕ) (m′ : Memory) : Type 0 where
-  pub is : number ≡ changeNumber c G
-  pub stands : Stands (tried (changeNumber c G) (change c (at G m)) (at G m)) m′
+-- a row's edit or rank gets this number and leaves m′
+pub record Changes (c : Change) (s : State) (number : ℕ) (m′ : Memory) : Type 0 where
+  pub is : number ≡ changeNumber c s
+  pub stands : Stands (tried (changeNumber c s) (change c s) s) m′
 
 -- the same of whichever plan the memory holds
-pub record Applies (c : Change) (m : Memory) (r : Edited) (m′ : Memory) : Type 0 where
-  pub of : (G : Graph) → Ready G m → Changes c G m (r .answer .number) m′
+pub record Applies (c : Change) (begun : Bool) (m : Memory) (r : Edited) (m′ : Memory) : Type 0 where
+  pub of : (G : Graph) → Ready G m → Fresh begun G → Changes c (at begun G m) (r .answer .number) m′
+
+-- all clashes of b are struck, wherever the pass stands
+abbrev pub StrikesAll : Bank → Memory → Edited → Memory → Type 0
+StrikesAll b m r m′ = (begun : Bool) → Applies (StrikeAll b) begun m r m′
+
+-- has an edit come, once this row has?
+unfoldable pub changeBegun : Change → Bool → Bool
+changeBegun (One e) begun = begunBy e begun
+changeBegun (StrikeAll b) begun = true
 
 -- a later row gets this number and leaves m′
-pub record RowDone (r : Row) (G : Graph) (m : Memory) (number : ℕ) (m′ : Memory) : Type 0 where
-  pub is : number ≡ rowNumber r G
-  pub stands : Stands (tried (rowNumber r G) (step r (at G m)) (at G m)) m′
+pub record RowDone (r : Row) (s : State) (number : ℕ) (m′ : Memory) : Type 0 where
+  pub is : number ≡ rowNumber r s
+  pub stands : Stands (tried (rowNumber r s) (step r s) s) m′
 
 -- where the row that starts at `start` ends, and its bytes
 unfoldable pub rowEnd : List ℕ → ℕ → ℕ
@@ -61,16 +79,17 @@ unfoldable pub rowAt : List ℕ → ℕ → List ℕ
 rowAt list start = take (rowEnd list start - start) (drop start list)
 
 -- the row that starts at `start`, which is row i, is done
-pub record EditsRow (list : List ℕ) (start i : ℕ) (m : Memory) (r : Step) (m′ : Memory) : Type 0 where
+pub record EditsRow (list : List ℕ) (start i : ℕ) (begun : Bool) (m : Memory) (r : Step) (m′ : Memory) : Type 0 where
   pub row : r .row ≡ i
   pub next : r .next ≡ rowEnd list start + 1
   pub on : start < r .next
   pub within : r .next ≤ length list + 1
-  pub of : (G : Graph) → Ready G m → RowDone (rowOf (rowAt list start)) G m (r .number) m′
+  pub of : (G : Graph) → Ready G m → Fresh begun G → RowDone (rowOf (rowAt list start)) (at begun G m) (r .number) m′
+  pub came : (G : Graph) → r .number ≡ 0 → r .begun ≡ step (rowOf (rowAt list start)) (at begun G m) .begun
 
 -- the rows from the second on, which starts at `first`, are done
 pub record ReadsEdits (list : List ℕ) (first : ℕ) (m : Memory) (r : Listed) (m′ : Memory) : Type 0 where
-  pub of : (G : Graph) → Ready G m → listResult (r .answer) m′ ≡ pass 2 (rowsOf (drop first list)) (at G m)
+  pub of : (G : Graph) → Ready G m → Fresh false G → listResult (r .answer) m′ ≡ pass 2 (rowsOf (drop first list)) (at false G m)
 
 -- the first row, of n banks, and the later ones, which start at `next`, are done
 pub record Begins (list : List ℕ) (next n : ℕ) (m : Memory) (r : Listed) (m′ : Memory) : Type 0 where

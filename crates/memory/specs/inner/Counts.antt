@@ -8,24 +8,25 @@ use lib.ListN.{length, getD, take, drop}
 use Rattle.rule.specs.Lists.{upto, filter}
 use Rattle.rule.specs.Order.{earlierBy}
 
--- p is earlier than q, by their degree cells
-unfoldable pub byCells : List ℕ → ℕ → ℕ → Bool
-byCells ds p q = earlierBy (getD ds p 0) p (getD ds q 0) q
+-- p is earlier than q, by the cells of degrees and ranks
+unfoldable pub byCells : List ℕ → List ℕ → ℕ → ℕ → Bool
+byCells ds rs p q = earlierBy (getD ds p 0) (getD rs p 0) p (getD ds q 0) (getD rs q 0) q
 
 -- how many of these banks have the wave c
 unfoldable pub standing : (ℕ → ℕ) → ℕ → List ℕ → ℕ
 standing wave c banks = length (filter (λ v. eqb (wave v) c) banks)
 
 -- of these banks, those that are earlier than b and stand in wave c, by the cells
-abbrev pub countIn : List ℕ → List ℕ → ℕ → List ℕ → ℕ → ℕ
-countIn ds ws b banks c = standing (λ v. getD ws v 0) c (filter (λ v. byCells ds v b) banks)
+abbrev pub countIn : List ℕ → List ℕ → List ℕ → ℕ → List ℕ → ℕ → ℕ
+countIn ds rs ws b banks c = standing (λ v. getD ws v 0) c (filter (λ v. byCells ds rs v b) banks)
 
 -- the cells from which a bank can be counted: its row names banks, and each bank has a wave below 24
-pub record Countable (ns ds ws : List ℕ) (n b : ℕ) : Type 0 where
+pub record Countable (ns ds rs ws : List ℕ) (n b : ℕ) : Type 0 where
   pub most : n ≤ 1024
   pub bank : b < n
   pub long-neighbours : n * 23 ≤ length ns
   pub long-degrees : n ≤ length ds
+  pub long-ranks : n ≤ length rs
   pub long-waves : n ≤ length ws
   pub few : getD ds b 0 ≤ 23
   pub named : (i : ℕ) → i < getD ds b 0 → getD ns (b * 23 + i) 0 < n
@@ -37,8 +38,8 @@ pub record Tallied (row : List ℕ) (count : ℕ → ℕ) : Type 0 where
   pub counts : (c : ℕ) → c < 24 → getD row c 0 ≡ count c
 
 -- these 24 cells count the first k banks of b's row
-abbrev pub CountedTo : List ℕ → List ℕ → List ℕ → List ℕ → ℕ → ℕ → Type 0
-CountedTo ns ds ws row b k = Tallied row (countIn ds ws b (take k (drop (b * 23) ns)))
+abbrev pub CountedTo : List ℕ → List ℕ → List ℕ → List ℕ → List ℕ → ℕ → ℕ → Type 0
+CountedTo ns ds rs ws row b k = Tallied row (countIn ds rs ws b (take k (drop (b * 23) ns)))
 
 -- the largest of the first n cells plus 1, or 0 if n is 0
 unfoldable pub mostOf : List ℕ → ℕ → ℕ

@@ -63,19 +63,22 @@ abbrev pub CellsRight : List ℕ → List ℕ → List ℕ → ℕ → Type 0
 CellsRight ws cells cs n = (b : ℕ) → b < n → PartRight (part cs b) (λ c. getD (part cells b) c 0) (getD ws b 0)
 
 -- Counts of b, from the cells
-abbrev pub countsOf : List ℕ → List ℕ → List ℕ → ℕ → ℕ → ℕ
-countsOf ns ds ws b = countIn ds ws b (take (getD ds b 0) (drop (b * 23) ns))
+abbrev pub countsOf : List ℕ → List ℕ → List ℕ → List ℕ → ℕ → ℕ → ℕ
+countsOf ns ds rs ws b = countIn ds rs ws b (take (getD ds b 0) (drop (b * 23) ns))
 
-abbrev pub CountsRight : List ℕ → List ℕ → List ℕ → List ℕ → ℕ → Type 0
-CountsRight ns ds ws cs n = (b : ℕ) → b < n → PartRight (part cs b) (countsOf ns ds ws b) (getD ws b 0)
+abbrev pub CountsRight : List ℕ → List ℕ → List ℕ → List ℕ → List ℕ → ℕ → Type 0
+CountsRight ns ds rs ws cs n = (b : ℕ) → b < n → PartRight (part cs b) (countsOf ns ds rs ws b) (getD ws b 0)
 
 -- the rows name each other, and Counts and the waves are right by them
 abbrev pub ClashesRight : Slices → ℕ → Type 0
-ClashesRight s n = Symmetric (s .neighbours) n × CountsRight (s .neighbours) (s .degrees) (s .waves) (s .counts) n
+ClashesRight s n = Symmetric (s .neighbours) n × CountsRight (s .neighbours) (s .degrees) (s .ranks) (s .waves) (s .counts) n
 
--- the first n cells are below 24
+-- the first n cells are below a bound; below 24
+abbrev pub Under : ℕ → List ℕ → ℕ → Type 0
+Under bound cells n = (i : ℕ) → i < n → getD cells i 0 < bound
+
 abbrev pub Small : List ℕ → ℕ → Type 0
-Small cells n = (i : ℕ) → i < n → getD cells i 0 < 24
+Small = Under 24
 
 -- waves below 24, in a slice that is long enough
 pub record WavesSmall (ws : List ℕ) (n : ℕ) : Type 0 where
@@ -91,6 +94,7 @@ pub record Tested (s : Slices) (t : Tally) : Type 0 where
   pub rows : RowsRight (s .neighbours) (s .degrees) (t .banks)
   pub symmetric : Symmetric (s .neighbours) (t .banks)
   pub small : Small (s .waves) (t .banks)
-  pub counts : CountsRight (s .neighbours) (s .degrees) (s .waves) (s .counts) (t .banks)
+  pub ranks : Under 10000 (s .ranks) (t .banks)
+  pub counts : CountsRight (s .neighbours) (s .degrees) (s .ranks) (s .waves) (s .counts) (t .banks)
   pub clashes : t .clashes ≡ sum (s .degrees) (t .banks) / 2
   pub waves : t .waves ≡ mostOf (s .waves) (t .banks)

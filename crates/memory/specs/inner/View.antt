@@ -15,9 +15,16 @@ pub record Long (n : ℕ) (s : Slices) : Type 0 where
   pub degrees : n ≤ length (s .degrees)
   pub waves : n ≤ length (s .waves)
   pub counts : 24 * n ≤ length (s .counts)
+  pub ranks : n ≤ length (s .ranks)
 
--- the rows and degrees of G, as far as its neighbours go
-pub record Shown (G : Graph) (ns ds : List ℕ) : Type 0 where
+-- the ranks of G
+pub record Ranked (G : Graph) (rs : List ℕ) : Type 0 where
+  pub wide : G .banks ≤ length rs
+  pub cells : (b : ℕ) → b < G .banks → getD rs b 0 ≡ G .rank b
+
+-- the rows and degrees of G, as far as its neighbours go, and its ranks
+pub record Shown (G : Graph) (ns ds rs : List ℕ) : Type 0 where
+  pub ranked : Ranked G rs
   pub few : G .banks ≤ 1024
   pub wide-rows : G .banks * 23 ≤ length ns
   pub wide-degrees : G .banks ≤ length ds
@@ -49,3 +56,5 @@ pub record Held (G : Graph) (s : Slices) (n : ℕ) : Type 0 where
   pub wide-waves : n ≤ length (s .waves)
   pub waves : (x : ℕ) → x < G .banks → getD (s .waves) x 0 ≡ wave G x
   pub counted : Counted G (s .counts) (λ b v. wave G v)
+  pub ranked : Ranked G (s .ranks)
+  pub low : (x : ℕ) → x < G .banks → G .rank x ≤ 9999

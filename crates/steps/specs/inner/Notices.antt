@@ -26,17 +26,17 @@ abbrev pub MovesCount : Lent → ℕ → ℕ → ℕ → Bool → Type 0
 MovesCount cs v o w notified = cs .exit .now ≡ cond notified (oneMoved (cs .entry .now) v o w) (cs .entry .now)
 
 -- what notifying asks: if b changed, it went from wave o to another, w; each later neighbour has a count in o
-pub record Notifiable (G : Graph) (ns ds cs q : List ℕ) (b : ℕ) (changed : Bool) (o w : ℕ) : Type 0 where
-  pub shown : Shown G ns ds
+pub record Notifiable (G : Graph) (ns ds rs cs q : List ℕ) (b : ℕ) (changed : Bool) (o w : ℕ) : Type 0 where
+  pub shown : Shown G ns ds rs
   pub bank : b < G .banks
   pub differ : T changed → o ≢ w
   pub movable : (x : ℕ) → x < G .banks → Movable cs x o w (laterNeighbour G b x)
   pub queue : Queue G q
 
 -- the later neighbours of b are notified if it changed, whichever clashes these are
-abbrev pub NotifiesLater : Lent → Lent → Lent → Lent → ℕ → Bool → ℕ → ℕ → Type 0
-NotifiesLater ns ds cs q b changed o w =
-    (G : Graph) → Notifiable G (ns .entry .now) (ds .entry .now) (cs .entry .now) (q .entry .now) b changed o w
+abbrev pub NotifiesLater : Lent → Lent → Lent → Lent → Lent → ℕ → Bool → ℕ → ℕ → Type 0
+NotifiesLater ns ds rs cs q b changed o w =
+    (G : Graph) → Notifiable G (ns .entry .now) (ds .entry .now) (rs .entry .now) (cs .entry .now) (q .entry .now) b changed o w
     → Notified G (cs .entry .now) (cs .exit .now) (q .entry .now) (q .exit .now) o w (λ x. changed && laterNeighbour G b x)
 
 -- what the notifying of a bank's later neighbours starts from: the clashes, Counts and the queue
@@ -46,13 +46,13 @@ pub record Notice : Type 0 where
   pub queue : List ℕ
 
 -- of the first i neighbours of b the later ones are notified
-pub record Notifying (s : Notice) (ns ds cs q : List ℕ) (b o w i : ℕ) : Type 0 where
-  pub start : Notifiable (s .graph) ns ds (s .counts) (s .queue) b true o w
+pub record Notifying (s : Notice) (ns ds rs cs q : List ℕ) (b o w i : ℕ) : Type 0 where
+  pub start : Notifiable (s .graph) ns ds rs (s .counts) (s .queue) b true o w
   pub made : Notified (s .graph) (s .counts) cs (s .queue) q o w
       (λ x. memb x (take i (neighbours (s .graph) b)) && earlier (s .graph) b x)
 
 -- and one neighbour more
-abbrev pub NotifiesNext : Lent → Lent → Lent → Lent → ℕ → ℕ → ℕ → ℕ → Type 0
-NotifiesNext ns ds cs q b o w i =
-    (s : Notice) → Notifying s (ns .entry .now) (ds .entry .now) (cs .entry .now) (q .entry .now) b o w i
-    → Notifying s (ns .entry .now) (ds .entry .now) (cs .exit .now) (q .exit .now) b o w (i + 1)
+abbrev pub NotifiesNext : Lent → Lent → Lent → Lent → Lent → ℕ → ℕ → ℕ → ℕ → Type 0
+NotifiesNext ns ds rs cs q b o w i =
+    (s : Notice) → Notifying s (ns .entry .now) (ds .entry .now) (rs .entry .now) (cs .entry .now) (q .entry .now) b o w i
+    → Notifying s (ns .entry .now) (ds .entry .now) (rs .entry .now) (cs .exit .now) (q .exit .now) b o w (i + 1)

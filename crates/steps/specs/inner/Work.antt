@@ -38,7 +38,7 @@ done m p = take (p .taken) (m .trail)
 -- the done banks have their rule waves under the new clashes, the others their old ones; those in the queue wait
 pub record Working (e : Edit) (m : Memory) (q : List ℕ) (p : Progress) : Type 0 where
   pub edit : OneEdit (e .old) (new e) (e .a) (e .b)
-  pub shown : Shown (new e) (m .slices .neighbours) (m .slices .degrees)
+  pub shown : Shown (new e) (m .slices .neighbours) (m .slices .degrees) (m .slices .ranks)
   pub queue : Queue (new e) q
   pub list : WorkList (e .old) (new e) (e .a) (e .b) (λ x. memb x (done m p)) (waits (new e) q)
   pub wide-waves : new e .banks ≤ length (m .slices .waves)
@@ -61,7 +61,7 @@ pub record Working (e : Edit) (m : Memory) (q : List ℕ) (p : Progress) : Type 
 -- what a step asks: that state, and some bank waits
 pub record Steppable (e : Edit) (m : Memory) (q : List ℕ) (p : Progress) : Type 0 where
   pub working : Working e m q p
-  pub waiting : Waiting (new e) q
+  pub waiting : Waiting (new e) (m .slices .ranks) q
 
 -- one step in the edit e: what it does for the bank that is next, and the state between two steps holds again
 pub record Stepped (e : Edit) (m m′ : Memory) (q q′ : List ℕ) (p p′ : Progress) : Type 0 where

@@ -1,7 +1,9 @@
 //! Random lists of all sizes, whole or damaged.
 
 use super::{malformed_n_rows, malformed_rows, LIKELY_BYTES};
+use crate::plan::MAX_RANK;
 use crate::random::Random;
+use crate::ranks::drawn_settings;
 
 /// A random list, damaged in one of three cases.
 pub fn random_list(random: &mut Random) -> Vec<u8> {
@@ -56,15 +58,18 @@ struct Draft {
     degrees: Vec<usize>,
 }
 
-/// A list of n banks. Each draw gives at most one row; banks below `hot` are drawn more often. One
-/// list in four has a stray row.
+/// A list of n banks: K rows as a rule, then edits. Each draw gives at most one row; banks below
+/// `hot` are drawn more often. One list in four has a stray row, one in 40 a stray K row before the
+/// edits.
 fn drawn_list(random: &mut Random, n: usize, hot: usize, draws: usize) -> Vec<u8> {
-    let mut draft = Draft {
-        n,
-        rows: vec![format!("N {n}")],
-        clashes: Vec::new(),
-        degrees: vec![0; n],
-    };
+    let mut draft = Draft::new(n);
+    draft.rows.push(format!("N {n}"));
+    for (b, rank) in drawn_settings(random, n) {
+        draft.rows.push(format!("K {b} {rank}"));
+    }
+    if random.one_in(40) {
+        draft.stray_rank(random);
+    }
     let strikes = random.between(2, 30);
     let stray = random.one_in(4).then(|| random.between(draws / 2, draws));
     for draw in 0..draws {
@@ -81,6 +86,21 @@ fn drawn_list(random: &mut Random, n: usize, hot: usize, draws: usize) -> Vec<u8
     list
 }
 
+/// Edit rows of n banks from so many draws, each accepted after those before it.
+pub(super) fn accepted_rows(
+    random: &mut Random,
+    n: usize,
+    hot: usize,
+    draws: usize,
+) -> Vec<String> {
+    let mut draft = Draft::new(n);
+    let strikes = random.between(2, 30);
+    for _ in 0..draws {
+        draft.draw_row(random, hot.min(n), strikes);
+    }
+    draft.rows
+}
+
 /// The row with its numbers padded, in one case of eight.
 fn padded(random: &mut Random, row: &str) -> String {
     if !random.one_in(8) {
@@ -94,6 +114,16 @@ fn padded(random: &mut Random, row: &str) -> String {
 }
 
 impl Draft {
+    /// No row yet, n banks without a clash.
+    fn new(n: usize) -> Draft {
+        Draft {
+            n,
+            rows: Vec::new(),
+            clashes: Vec::new(),
+            degrees: vec![0; n],
+        }
+    }
+
     /// One more row that is accepted, or none.
     fn draw_row(&mut self, random: &mut Random, hot: usize, strikes: usize) {
         if self.n < 2 {
@@ -148,16 +178,24 @@ impl Draft {
         let (a, b) = (random.below(self.n + 2), random.below(self.n + 2));
         let (c, d) = *self.clashes.first().unwrap_or(&(0, 0));
         let full = self.degrees.iter().position(|&degree| degree == 23);
-        let row = match (full, random.below(10)) {
+        let row = match (full, random.below(12)) {
             (Some(full), 0..=5) => format!("+ {a} {full}"),
             (_, 0 | 6) => format!("+ {a} {a}"),
             (_, 1 | 7) => format!("- {a} {b}"),
             (_, 2) => format!("D {}", self.n),
             (_, 3 | 8) => format!("+ {d} {c}"),
             (_, 4) => format!("+ {a} {}", self.n),
+            (_, 10 | 11) => return self.stray_rank(random),
             _ => format!("+ {a} {}", random.below(10_000)),
         };
         self.rows.push(row);
+    }
+
+    /// A K row of a bank that is there or not.
+    fn stray_rank(&mut self, random: &mut Random) {
+        let b = random.below(self.n + 2);
+        let rank = random.below(MAX_RANK + 1);
+        self.rows.push(format!("K {b} {rank}"));
     }
 }
 

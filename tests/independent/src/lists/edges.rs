@@ -26,6 +26,8 @@ pub fn edges() -> Vec<Case> {
     let mut cases = marked_examples();
     cases.extend(row_1_edges());
     cases.extend(later_row_edges());
+    cases.extend(rank_edges());
+    cases.extend(rank_refusals());
     cases.extend(degree_edges());
     cases.extend(length_edges());
     cases
@@ -124,6 +126,105 @@ fn later_row_edges() -> Vec<Case> {
             "N 4\n+ 0 1\n+ 0 2\n+ 0 3\n+ 1 2\nD 0\n+ 0 3",
             "WAVES 2\nA 0 1\nB 2 3\n",
         ),
+    ]
+}
+
+/// Sheets of lists with K rows.
+fn rank_edges() -> Vec<Case> {
+    let path = "+ 0 1\n+ 1 2\n+ 2 3";
+    let later_one_first = "WAVES 2\nA 0 2\nB 1 3\n";
+    vec![
+        case(
+            "a tie that rank decides against number",
+            "N 2\nK 0 1\n+ 0 1",
+            "WAVES 2\nA 1\nB 0\n",
+        ),
+        case(
+            "equal ranks go by number",
+            "N 2\nK 1 7\nK 0 7\n+ 0 1",
+            "WAVES 2\nA 0\nB 1\n",
+        ),
+        case(
+            "degree goes before rank",
+            "N 3\nK 1 9999\n+ 0 1\n+ 1 2\n",
+            "WAVES 2\nA 1\nB 0 2\n",
+        ),
+        case(
+            "M5 with the second bank of the path later",
+            format!("N 4\nK 1 1\n{path}"),
+            later_one_first,
+        ),
+        case(
+            "M5 with all ranks turned round",
+            format!("N 4\nK 3 0\nK 2 1\nK 1 2\nK 0 3\n{path}"),
+            later_one_first,
+        ),
+        case(
+            "the last rank of a bank counts",
+            "N 2\nK 0 0\nK 1 3\nK 0 5\n+ 0 1",
+            "WAVES 2\nA 1\nB 0\n",
+        ),
+        case(
+            "and not the largest",
+            "N 2\nK 0 5\nK 1 3\nK 0 0\n+ 0 1",
+            "WAVES 2\nA 0\nB 1\n",
+        ),
+        case(
+            "9,998 is before 9,999",
+            "N 2\nK 0 9999\nK 1 9998\n+ 0 1",
+            "WAVES 2\nA 1\nB 0\n",
+        ),
+        case(
+            "ranks of 256 and 255",
+            "N 2\nK 0 256\nK 1 255\n+ 0 1",
+            "WAVES 2\nA 1\nB 0\n",
+        ),
+        case(
+            "padded ranks",
+            "N 0002\nK 0000 0010\nK 01 009\n+ 0 1",
+            "WAVES 2\nA 1\nB 0\n",
+        ),
+        case(
+            "ranks without an edit",
+            "N 3\nK 1 4\nK 0 9999\n",
+            "WAVES 1\nA 0 1 2\n",
+        ),
+        case(
+            "ranks stay through a strike",
+            "N 2\nK 0 1\n+ 0 1\n- 0 1\n+ 1 0",
+            "WAVES 2\nA 1\nB 0\n",
+        ),
+        case(
+            "ranks stay through a D row",
+            "N 2\nK 0 1\n+ 0 1\nD 0\n+ 1 0",
+            "WAVES 2\nA 1\nB 0\n",
+        ),
+    ]
+}
+
+/// K rows that are refused: 11, then 18, then 4.
+fn rank_refusals() -> Vec<Case> {
+    vec![
+        refused("a rank of 10,000", "N 3\nK 0 10000", 11, 2),
+        refused("a rank of five digits", "N 3\nK 0 00001", 11, 2),
+        refused("K without a rank", "N 3\nK 0\n", 11, 2),
+        refused("a rank of a bank that is not there", "N 3\nK 3 1", 4, 2),
+        refused("a rank where there is no bank", "N 0\nK 0 0", 4, 2),
+        refused("K in the place of N", "K 0 1\nN 3", 10, 1),
+        refused("K after an add", "N 3\n+ 0 1\nK 0 1", 18, 3),
+        refused("K after a strike", "N 3\n+ 0 1\n- 0 1\nK 0 1\n", 18, 4),
+        refused("K after a D row", "N 3\n+ 0 1\nD 0\nK 0 1", 18, 4),
+        refused(
+            "K after a D row that struck nothing",
+            "N 3\nK 1 2\nD 0\nK 0 1",
+            18,
+            4,
+        ),
+        refused("the same rank again", "N 3\nK 0 1\n+ 0 1\nK 0 1", 18, 4),
+        refused("18 goes before 4", "N 3\n+ 0 1\nK 3 1", 18, 3),
+        refused("11 goes before 18", "N 3\n+ 0 1\nK 0 10000", 11, 3),
+        refused("11 goes before 4", "N 3\nK 9 10000", 11, 2),
+        refused("the row before K", "N 3\n+ 0 0\nK 0 1", 5, 2),
     ]
 }
 

@@ -2,11 +2,11 @@
 
 use super::LIKELY_BYTES;
 
-/// Rows that have none of the three forms. The banks they might name are below 30. No row is empty.
+/// Rows that have none of the four forms. The banks they might name are below 30. No row is empty.
 pub fn malformed_rows() -> Vec<Vec<u8>> {
     let groups = [
         // Another letter or sign.
-        "N 4|N 0|N 30|V 2|K 1 2|A 1 2|d 1|n 4|E 1|C 1|* 1 2|= 1 2|, 1 2|. 1 2|/ 1 2|# 1 2|% 1 2",
+        "N 4|N 0|N 30|V 2|A 1 2|d 1|n 4|E 1|C 1|* 1 2|= 1 2|, 1 2|. 1 2|/ 1 2|# 1 2|% 1 2",
         "++ 1 2|-- 1 2|+- 1 2|DD 1|WAVES 2|TOTAL 4 4|REFUSED 11 ROW 2",
         // Parts missing or too many.
         "+|-|D|N|+ 1|- 1|+ 1 2 3|- 1 2 3|D 1 2|+ 1 2 + 3 4|+ 1 2 D 1|+ 1 2 # note|+ 1 2;",
@@ -24,6 +24,11 @@ pub fn malformed_rows() -> Vec<Vec<u8>> {
         // More than four digits.
         "+ 10000 1|+ 1 10000|+ 00005 1|+ 1 00005|D 00001|- 10000 1|D 10000|D 99999|+ 65537 1|D 65536|D 4294967296",
         "+ 99999999999999999999 1",
+        // All this of a K row.
+        "k 1 2|J 1 2|L 1 2|KK 1 2|K+ 1 2|+K 1 2|K|K 1|K 1 2 3|K 1 2 K 3 4|K 1 2;|K |K 1 |K 1 2 ",
+        " K 1 2|K  1 2|K 1  2|K1 2|K 12|K12|K\t1 2|K 1\t2|K 1,2|K 1 2\r|K 1 2\0|K\u{a0}1 2|\u{212a} 1 2",
+        "K a 2|K 1 b|K +1 2|K 1 +2|K 1 -2|K -1 2|K 1 2x|K 1 2.5|K 1 /|K 1 :|K / 1|K : 1|K 1 \u{b2}",
+        "K 1 10000|K 10000 1|K 1 00005|K 00001 5|K 1 65536|K 65536 1|K 1 4294967296",
     ];
     let bytes: [&[u8]; 8] = [
         b"\x80",
@@ -44,8 +49,8 @@ pub fn malformed_rows() -> Vec<Vec<u8>> {
 pub fn padded_rows() -> Vec<(Vec<u8>, Vec<u8>)> {
     let padded = "+ 05 1|+ 1 05|+ 00 1|+ 1 00|+ 01 02|+ 0001 2|+ 1 0002|- 06 7|- 6 07|- 0006 0007";
     let plain = "+ 5 1|+ 1 5|+ 0 1|+ 1 0|+ 1 2|+ 1 2|+ 1 2|- 6 7|- 6 7|- 6 7";
-    let padded_d = "D 01|D 00|D 000|D 0000|D 0006|D 012|+ 0099 0001";
-    let plain_d = "D 1|D 0|D 0|D 0|D 6|D 12|+ 99 1";
+    let padded_d = "D 01|D 00|D 000|D 0000|D 0006|D 012|+ 0099 0001|K 01 2|K 0099 0001";
+    let plain_d = "D 1|D 0|D 0|D 0|D 6|D 12|+ 99 1|K 1 2|K 99 1";
     let pairs = parted(padded).into_iter().zip(parted(plain));
     pairs
         .chain(parted(padded_d).into_iter().zip(parted(plain_d)))
@@ -58,7 +63,7 @@ pub fn malformed_n_rows() -> Vec<Vec<u8>> {
         "N|N | N 4|N  4|N 4 |N4|N\t4|\tN 4|N 4\t|N 4\r|N 4\0|N\0|\0|n 4|M 4|O 4|NN 4|N N 4|N 4 4",
         "N +4|N -4|N -0|N 00000|N 00004|N 10000|N 12345|N 65540",
         "N 4294967300|N 18446744073709551620|N x|N 4x|N x4|N 4.|N 4,|N 1,024|N 1_0|N 0x4|N /|N :",
-        "+ 0 1|- 0 1|D 0|V 2| |\r|4|N \u{664}|N\u{a0}4|\u{feff}N 4|\u{39d} 4",
+        "+ 0 1|- 0 1|D 0|K 0 1|V 2| |\r|4|N \u{664}|N\u{a0}4|\u{feff}N 4|\u{39d} 4",
     ];
     let bytes: [&[u8]; 4] = [b"\xce 4", b"N \xb4", b"\xff", b"N 4\x80"];
     let text = groups.into_iter().flat_map(parted);
@@ -74,6 +79,7 @@ fn parted(text: &str) -> Vec<Vec<u8>> {
 pub fn malformed_lists() -> Vec<Vec<u8>> {
     let mut lists = Vec::new();
     for row in malformed_rows() {
+        lists.push([b"N 30\nK 6 7\n", &row[..]].concat());
         lists.push([b"N 30\n+ 6 7\n", &row[..]].concat());
         lists.push([b"N 30\n+ 6 7\n", &row[..], b"\n"].concat());
         lists.push([b"N 30\n", &row[..], b"\n+ 6 7\n"].concat());
@@ -97,6 +103,9 @@ pub fn near_lists() -> Vec<Vec<u8>> {
         for near in near_rows(row) {
             lists.push([b"N 9\n+ 1 2\n", &near[..], b"\n+ 3 4"].concat());
         }
+    }
+    for near in near_rows(b"K 3 4") {
+        lists.push([b"N 9\nK 4 4\n", &near[..], b"\n+ 3 4"].concat());
     }
     lists
 }

@@ -3,30 +3,32 @@
 
 use crate::support::{any_graph, memory_of, opened};
 use independent::graph::Graph;
-use independent::journal::{entry_field, journal_of, Entry, RecordAnswer, ReplayAnswer};
-use independent::journals::{drawn_entries, random_journal, same_list};
+use independent::journal::{field_bytes, journal_of, Entry, Field, RecordAnswer, ReplayAnswer};
+use independent::journals::{
+    drawn_entries, drawn_fields, drawn_rank_fields, random_journal, same_list,
+};
 use independent::memory::Memory;
 use independent::random::Random;
 use independent::reach::Edit;
 use std::collections::BTreeSet;
 
 /// Four banks, 1 and 3 added, 2 and 0 added, 3 and 1 struck.
-const JOURNAL: [u8; 26] = [
+pub const JOURNAL: [u8; 26] = [
     0x4E, 2, 0, 4, 0, 0x2B, 4, 0, 1, 0, 3, 0, 0x2B, 4, 0, 2, 0, 0, 0, 0x2D, 4, 0, 3, 0, 1, 0,
 ];
 
-fn add(a: u16, b: u16) -> Entry {
+pub fn add(a: u16, b: u16) -> Entry {
     let edit = Edit::Add;
     Entry { edit, a, b }
 }
 
-fn strike(a: u16, b: u16) -> Entry {
+pub fn strike(a: u16, b: u16) -> Entry {
     let edit = Edit::Strike;
     Entry { edit, a, b }
 }
 
 /// Replays a journal with memory for 30 banks.
-fn replay(journal: &[u8]) -> (ReplayAnswer, Memory) {
+pub fn replay(journal: &[u8]) -> (ReplayAnswer, Memory) {
     let mut memory = Memory::filled(30, 999);
     let answer = memory.replay(journal);
     (answer, memory)
@@ -42,7 +44,7 @@ fn replays(journal: &[u8], wanted: ReplayAnswer, front: usize) {
 }
 
 /// A journal that replays with so many bytes left over.
-fn left_over(journal: &[u8], left: usize) {
+pub fn left_over(journal: &[u8], left: usize) {
     let (number, field) = (0, 0);
     let answer = ReplayAnswer {
         number,
@@ -53,7 +55,7 @@ fn left_over(journal: &[u8], left: usize) {
 }
 
 /// A journal that is refused at a later field, after so many bytes.
-fn refused_later(journal: &[u8], number: u16, field: usize, before: usize) {
+pub fn refused_later(journal: &[u8], number: u16, field: usize, before: usize) {
     let left = 0;
     replays(
         journal,
@@ -82,7 +84,7 @@ fn refused_at_once(journal: &[u8], number: u16, field: usize) {
 }
 
 /// An edit that is refused with the number and changes neither memory nor the journal.
-fn record_refused(memory: &Memory, entry: Entry, journal: &[u8], length: usize, number: u16) {
+pub fn record_refused(memory: &Memory, entry: Entry, journal: &[u8], length: usize, number: u16) {
     let mut after = memory.clone();
     let mut bytes = journal.to_vec();
     let answer = after.record(entry, &mut bytes, length);
@@ -187,14 +189,16 @@ fn wrong_first_fields() {
 #[test]
 fn wrong_tags_and_lengths_of_later_fields() {
     for value in [&[][..], &[1], &[1, 0, 2, 0], &[1, 0, 2, 0, 0x2B, 4]] {
-        for tag in (0..=255).filter(|tag| ![0x2B, 0x2D].contains(tag)) {
+        for tag in (0..=255).filter(|tag| ![0x2B, 0x2D, 0x4B].contains(tag)) {
             let wrong = [&JOURNAL[..], &[tag, 4, 0], value].concat();
             refused_later(&wrong, 14, 5, 26);
         }
         for length in (0..=65_535u16).filter(|&length| length != 4).step_by(3) {
             let [low, high] = length.to_le_bytes();
-            let wrong = [&JOURNAL[..12], &[0x2D, low, high], value].concat();
-            refused_later(&wrong, 14, 3, 12);
+            for tag in [0x2B, 0x2D, 0x4B] {
+                let wrong = [&JOURNAL[..12], &[tag, low, high], value].concat();
+                refused_later(&wrong, 14, 3, 12);
+            }
         }
     }
     refused_later(&[&JOURNAL[..12], &JOURNAL[..5]].concat(), 14, 3, 12);
@@ -208,6 +212,8 @@ fn fewer_than_three_bytes_or_a_short_value_are_left_over() {
         &[0x2B, 9],
         &[0x2B, 4, 0],
         &[0x2D, 4, 0, 9, 9, 9],
+        &[0x4B, 4, 0],
+        &[0x4B, 4, 0, 9, 9, 255],
     ] {
         left_over(&[&JOURNAL[..], left].concat(), left.len());
     }
@@ -216,7 +222,7 @@ fn fewer_than_three_bytes_or_a_short_value_are_left_over() {
 #[test]
 fn numbers_and_fields_of_later_fields() {
     let refused = |entry: Entry, number| {
-        let journal = [&JOURNAL[..12], &entry_field(entry), &JOURNAL[12..19]].concat();
+        let journal = [&JOURNAL[..12], &field_bytes(entry), &JOURNAL[12..19]].concat();
         refused_later(&journal, number, 3, 12);
     };
     refused(add(4, 0), 4);
@@ -280,7 +286,7 @@ fn recording_makes_no_edit_of_the_journal() {
     let answer = memory.record(add(2, 1), &mut journal, 33);
     assert_eq!((answer.number, answer.length), (0, 40));
     assert_eq!(memory.held_graph(), Some(Graph::of(3, [(1, 2)])));
-    let [old, new] = [&journal_of(5000, &strays)[..], &entry_field(add(2, 1))];
+    let [old, new] = [&journal_of(5000, &strays)[..], &field_bytes(add(2, 1))];
     assert_eq!(journal, [old, new].concat());
 }
 
@@ -310,22 +316,23 @@ fn questions_of_starting() {
 }
 
 /// The first clashes of blocks of 24 banks, as many as given.
-fn crowded(clashes: usize) -> Memory {
+pub fn crowded(clashes: usize) -> Graph {
     let blocks = (0..1024).flat_map(|b| (b - b % 24..b).map(move |q| (q, b)));
-    memory_of(&Graph::of(1024, blocks.take(clashes)), 0)
+    Graph::of(1024, blocks.take(clashes))
 }
 
 #[test]
 fn journals_end_at_60_000_bytes() {
     let mut slice = vec![0; 100_000];
-    let mut most = crowded(8570);
+    let mut most = memory_of(&crowded(8570), 0);
     assert_eq!(most.start_journal(&mut slice).length, 59_995);
     record_refused(&most, strike(0, 1), &slice, 59_995, 15);
     assert_eq!(most.replay(&slice[..60_000]).number, 14, "0 is no tag");
     assert_eq!(most.replay(&slice[..59_997]).left, 2);
     assert_eq!(most.replay(&slice[..60_001]).number, 9);
-    assert_eq!(crowded(8571).start_journal(&mut slice).number, 15);
-    let mut next = crowded(8569);
+    let more = memory_of(&crowded(8571), 0);
+    assert_eq!(more.start_journal(&mut slice).number, 15);
+    let mut next = memory_of(&crowded(8569), 0);
     let length = next.start_journal(&mut slice).length;
     assert_eq!(
         next.record(add(1000, 999), &mut slice, length).length,
@@ -354,9 +361,11 @@ fn recorded_edits_replay_to_the_plan() {
         let n = random.between(2, 30);
         let entries = drawn_entries(&mut random, n, 8, 40);
         let (before, later) = entries.split_at(entries.len() / 2);
+        let ranks = drawn_rank_fields(&mut random, n).into_iter();
+        let before: Vec<Field> = ranks.chain(before.iter().map(|&e| e.into())).collect();
         let mut memory = Memory::filled(30, 5);
-        assert_eq!(memory.replay(&journal_of(n as u16, before)).number, 0);
-        let mut slice = vec![0; 600];
+        assert_eq!(memory.replay(&journal_of(n as u16, &before)).number, 0);
+        let mut slice = vec![0; 900];
         let mut length = memory.start_journal(&mut slice).length;
         for &entry in later {
             length = memory.record(entry, &mut slice, length).length;
@@ -373,10 +382,10 @@ fn a_journal_and_its_list_leave_the_same() {
     let mut random = Random::new(45);
     for _ in 0..60 {
         let n = random.between(2, 30);
-        let entries = drawn_entries(&mut random, n, 10, 150);
-        let (answer, by_replay) = replay(&journal_of(n as u16, &entries));
+        let fields = drawn_fields(&mut random, n, 10, 150);
+        let (answer, by_replay) = replay(&journal_of(n as u16, &fields));
         let mut by_list = Memory::filled(30, 999);
-        let read = by_list.read_list(&same_list(n as u16, &entries));
+        let read = by_list.read_list(&same_list(n as u16, &fields));
         assert_eq!((answer.number, read.number), (0, 0));
         assert_eq!(by_replay, by_list);
     }
@@ -398,5 +407,5 @@ fn random_journals_are_varied() {
     }
     assert!((300..800).contains(&accepted), "{accepted} accepted");
     assert_eq!(left, (0..7).collect());
-    assert_eq!(numbers, BTreeSet::from([0, 1, 4, 5, 6, 7, 8, 13, 14]));
+    assert_eq!(numbers, BTreeSet::from([0, 1, 4, 5, 6, 7, 8, 13, 14, 18]));
 }

@@ -1,9 +1,11 @@
 //! Tests of the model: the papers' examples, and the rule and demand 3 on random graphs.
 
 mod journal;
+mod journal_ranks;
 mod marked;
 mod plan_cells;
 mod poster;
+mod ranks;
 mod reach;
 mod read_list;
 mod refusals;

@@ -25,6 +25,25 @@ fn cells_of_a_small_plan() {
         cells[..front.len()].copy_from_slice(front);
         assert_eq!(memory.counts[24 * b..24 * b + 24], cells);
     }
+    assert_eq!(memory.ranks, [0; 5]);
+    let tally = memory.tally;
+    assert_eq!((tally.banks, tally.clashes, tally.waves), (5, 4, 3));
+}
+
+/// Ranks turn the tie of banks 0 and 3 round: order 2 3 0 1 4; waves 2 1 0 1 0.
+#[test]
+fn cells_of_a_small_plan_with_ranks() {
+    let graph = Graph::of(5, [(0, 2), (3, 2), (1, 2), (0, 3)]);
+    let memory = memory_of(&graph.with_ranks(vec![9999, 0, 12, 9998, 1]), 0);
+    assert_eq!(memory.degrees, [2, 1, 3, 2, 0]);
+    assert_eq!(memory.waves, [2, 1, 0, 1, 0]);
+    assert_eq!(memory.ranks, [9999, 0, 12, 9998, 1]);
+    let counts: [&[u16]; 5] = [&[1, 1], &[1], &[], &[1], &[]];
+    for (b, front) in counts.iter().enumerate() {
+        let mut cells = [0; 24];
+        cells[..front.len()].copy_from_slice(front);
+        assert_eq!(memory.counts[24 * b..24 * b + 24], cells);
+    }
     let tally = memory.tally;
     assert_eq!((tally.banks, tally.clashes, tally.waves), (5, 4, 3));
 }
@@ -56,6 +75,7 @@ fn open_sets_every_cell() {
     assert_eq!(memory.degrees[..3], [0; 3]);
     assert_eq!(memory.waves[..3], [0; 3]);
     assert_eq!(memory.counts[..72], [0; 72]);
+    assert_eq!(memory.ranks[..3], [0; 3]);
     let tally = memory.tally;
     assert_eq!((tally.banks, tally.clashes, tally.waves), (3, 0, 1));
     for rest in [
@@ -63,6 +83,7 @@ fn open_sets_every_cell() {
         &memory.degrees[3..],
         &memory.waves[3..],
         &memory.counts[72..],
+        &memory.ranks[3..],
         &memory.trail,
         &memory.moved,
     ] {
@@ -89,8 +110,10 @@ fn cells_agree_with_rows_and_waves() {
             for wave in 0..24 {
                 let stands = |q: &usize| {
                     let more = memory.degrees[*q] > memory.degrees[b];
-                    let tie = memory.degrees[*q] == memory.degrees[b] && *q < b;
-                    clash(b, *q) && (more || tie) && memory.waves[*q] == wave
+                    let tie = memory.degrees[*q] == memory.degrees[b];
+                    let nearer = (memory.ranks[*q], *q) < (memory.ranks[b], b);
+                    let earlier = more || (tie && nearer);
+                    clash(b, *q) && earlier && memory.waves[*q] == wave
                 };
                 let count = (0..n).filter(stands).count();
                 assert_eq!(
@@ -106,7 +129,7 @@ fn cells_agree_with_rows_and_waves() {
 
 type Slice = fn(&mut Memory) -> &mut Vec<u16>;
 
-/// Two plans of the same bank count never differ in one cell only.
+/// Two plans of the same bank count never differ in one cell only, but for a rank.
 #[test]
 fn a_changed_cell_is_no_plan() {
     let mut random = Random::new(22);
@@ -132,7 +155,40 @@ fn a_changed_cell_is_no_plan() {
             slice(&mut changed)[used] ^= 1;
             assert!(changed.holds_plan(), "a cell beyond the plan");
         }
+        let mut changed = memory.clone();
+        changed.ranks[n] = 65_535;
+        assert!(changed.holds_plan(), "a rank beyond the plan");
     }
+}
+
+/// A rank above 9,999 is no plan. Another rank up to there is one if each tie with a neighbour still
+/// goes as it did.
+#[test]
+fn a_changed_rank_is_a_plan_if_no_tie_turns_over() {
+    let mut random = Random::new(23);
+    let (mut plans, mut others) = (0, 0);
+    for _ in 0..60 {
+        let graph = any_graph(&mut random, 12);
+        let memory = memory_of(&graph, 0);
+        for b in 0..graph.banks() {
+            for rank in [10_000, 10_001, 16_384, 32_768, 65_535] {
+                let mut changed = memory.clone();
+                changed.ranks[b] = rank;
+                assert!(!changed.holds_plan(), "{rank}");
+            }
+            for rank in [0, 1, 2, 3, 5000, 9998, 9999] {
+                let mut changed = memory.clone();
+                changed.ranks[b] = rank;
+                let new = graph.ranked(b, rank.into());
+                let turned = |q: &usize| graph.earlier(*q, b) != new.earlier(*q, b);
+                let turned = graph.neighbours(b).filter(turned).count();
+                assert_eq!(changed.holds_plan(), turned == 0);
+                plans += usize::from(turned == 0);
+                others += usize::from(turned > 0);
+            }
+        }
+    }
+    assert!(plans > 100 && others > 100, "{plans}, {others}");
 }
 
 /// Content other than the present one: near it, a bank, the filler or anything.

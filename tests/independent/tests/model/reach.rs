@@ -19,8 +19,8 @@ struct Known {
 fn known(graph: &Graph) -> Known {
     let clash = table(graph);
     Known {
-        place: places(&clash),
-        wave: waves_by_lookup(&clash),
+        place: places(&clash, graph.ranks()),
+        wave: waves_by_lookup(&clash, graph.ranks()),
         clash,
     }
 }
@@ -79,11 +79,17 @@ fn names_exactly(cells: &[u16], wanted: &BTreeSet<Bank>, place: &[usize]) {
     }
 }
 
-/// The plan cells of bank x: row, degree, wave, counts.
-fn cells_of(memory: &Memory, x: Bank) -> (&[u16], u16, u16, &[u16]) {
+/// The plan cells of bank x: row, degree, wave, counts, rank.
+fn cells_of(memory: &Memory, x: Bank) -> (&[u16], u16, u16, &[u16], u16) {
     let row = &memory.neighbours[23 * x..23 * x + 23];
     let counts = &memory.counts[24 * x..24 * x + 24];
-    (row, memory.degrees[x], memory.waves[x], counts)
+    (
+        row,
+        memory.degrees[x],
+        memory.waves[x],
+        counts,
+        memory.ranks[x],
+    )
 }
 
 /// The size of the set made of a, b, the moved banks and all neighbours of these after the edit.
@@ -112,6 +118,7 @@ fn check_edit(memory: &mut Memory, old_graph: &Graph, a: Bank, b: Bank, add: boo
     names_exactly(&memory.moved[..answer.moved], &moved, &new.place);
     assert_eq!(memory.trail[answer.trail..], before.trail[answer.trail..]);
     assert_eq!(memory.moved[answer.moved..], before.moved[answer.moved..]);
+    assert_eq!(memory.ranks, before.ranks, "an edit changes no rank");
     assert!(moved.is_subset(&trail));
     assert!(answer.trail <= bound(&new, a, b, &moved));
 
@@ -186,7 +193,9 @@ fn the_way_to_a_graph_leaves_no_mark() {
     let mut random = Random::new(15);
     for _ in 0..40 {
         let goal = any_graph(&mut random, 25);
-        let mut memory = memory_of(&any_graph_of(&mut random, goal.banks()), 0);
+        let start = any_graph_of(&mut random, goal.banks());
+        let start = start.with_ranks(goal.ranks().to_vec());
+        let mut memory = memory_of(&start, 0);
         for a in 0..goal.banks() {
             for b in 0..a {
                 let there = memory.clashes_of(a as u16).contains(&(b as u16));
@@ -208,6 +217,7 @@ fn the_way_to_a_graph_leaves_no_mark() {
         assert_eq!(memory.degrees, plan.degrees);
         assert_eq!(memory.waves, plan.waves);
         assert_eq!(memory.counts, plan.counts);
+        assert_eq!(memory.ranks, plan.ranks);
         assert_eq!(memory.tally, plan.tally);
     }
 }

@@ -3,7 +3,7 @@
 
 use crate::support::{memory_of, opened};
 use independent::graph::Graph;
-use independent::list::{edit_row, n_row, rows, Row};
+use independent::list::{later_row, n_row, rows, Row};
 use independent::lists;
 use independent::memory::Memory;
 use independent::random::Random;
@@ -74,12 +74,17 @@ fn what_a_row_says() {
         (b"- 0 1", Some(Row::Strike(0, 1))),
         (b"D 3", Some(Row::StrikeAll(3))),
         (b"+ 05 1", Some(Row::Add(5, 1))),
+        (b"K 3 9999", Some(Row::Rank(3, 9999))),
+        (b"K 0003 0000", Some(Row::Rank(3, 0))),
+        (b"K 3 10000", None),
+        (b"K 3", None),
+        (b"k 3 1", None),
         (b"+ 0  1", None),
         (b"+ 0 1 ", None),
         (b"N 4", None),
         (b"", None),
     ] {
-        assert_eq!(edit_row(row), edit, "{:?}", String::from_utf8_lossy(row));
+        assert_eq!(later_row(row), edit, "{:?}", String::from_utf8_lossy(row));
     }
 }
 
@@ -181,15 +186,16 @@ fn numbers_and_rows_of_row_1() {
 }
 
 #[test]
-fn all_six_slices_are_asked_for_by_any_list() {
-    for list in [b"N 5".as_slice(), b"N 5\nD 1", b"N 5\n+ 0 1"] {
-        for slice in 0..6 {
+fn all_seven_slices_are_asked_for_by_any_list() {
+    for list in [b"N 5".as_slice(), b"N 5\nD 1", b"N 5\n+ 0 1", b"N 5\nK 0 1"] {
+        for slice in 0..7 {
             let mut memory = Memory::filled(5, 1);
             let slices = [
                 &mut memory.neighbours,
                 &mut memory.degrees,
                 &mut memory.waves,
                 &mut memory.counts,
+                &mut memory.ranks,
                 &mut memory.trail,
                 &mut memory.moved,
             ];
@@ -252,6 +258,7 @@ fn equal_clashes_leave_equal_plans() {
         assert_eq!(memory.degrees[..5], wanted.degrees);
         assert_eq!(memory.waves[..5], wanted.waves);
         assert_eq!(memory.counts[..120], wanted.counts);
+        assert_eq!(memory.ranks[..5], wanted.ranks);
         assert_eq!(memory.tally, wanted.tally);
     }
 }
@@ -310,7 +317,7 @@ fn random_lists_are_varied() {
     }
     assert!((200..500).contains(&accepted), "{accepted} accepted");
     assert!(most_waves >= 10, "{most_waves} waves");
-    for number in [0, 1, 4, 5, 6, 7, 8, 10, 11] {
+    for number in [0, 1, 4, 5, 6, 7, 8, 10, 11, 18] {
         assert!(numbers.contains(&number), "no refusal {number}");
     }
 }

@@ -90,6 +90,7 @@ fn short(memory: &Memory, slice: usize) -> Memory {
         &mut memory.degrees,
         &mut memory.waves,
         &mut memory.counts,
+        &mut memory.ranks,
         &mut memory.trail,
         &mut memory.moved,
     ];
@@ -104,7 +105,7 @@ fn short(memory: &Memory, slice: usize) -> Memory {
 #[test]
 fn short_plan_slices() {
     let memory = opened(3, &[(0, 1)]);
-    for slice in 0..4 {
+    for slice in 0..5 {
         let memory = short(&memory, slice);
         open_refused(&memory, 3, 2);
         all_refused(&memory, 2);
@@ -115,7 +116,7 @@ fn short_plan_slices() {
 #[test]
 fn short_trail_or_moved() {
     let memory = opened(3, &[(0, 1)]);
-    for slice in 4..6 {
+    for slice in 5..7 {
         let mut memory = short(&memory, slice);
         add_refused(&memory, 1, 2, 2);
         add_refused(&memory, 1, 1, 2);
@@ -130,7 +131,7 @@ fn short_trail_or_moved() {
 #[test]
 fn lengths_are_asked_before_the_plan() {
     let memory = opened(3, &[(0, 1)]);
-    for slice in 0..6 {
+    for slice in 0..7 {
         let mut memory = short(&memory, slice);
         memory.tally.waves = 9;
         add_refused(&memory, 1, 2, 2);
@@ -145,6 +146,12 @@ fn memory_without_a_plan() {
     all_refused(&memory, 3);
     let mut memory = opened(3, &[(0, 1)]);
     memory.counts[71] = 1;
+    all_refused(&memory, 3);
+    let mut memory = opened(3, &[(0, 1)]);
+    memory.ranks[2] = 10_000;
+    all_refused(&memory, 3);
+    let mut memory = opened(3, &[(0, 1)]);
+    memory.ranks[0] = 1;
     all_refused(&memory, 3);
     all_refused(&Memory::filled(700, 700), 3);
 }
@@ -219,6 +226,7 @@ fn random_memory(random: &mut Random) -> Memory {
         &mut memory.degrees,
         &mut memory.waves,
         &mut memory.counts,
+        &mut memory.ranks,
         &mut memory.trail,
         &mut memory.moved,
     ] {
@@ -244,7 +252,8 @@ fn any_memory_gets_the_first_refusal_due() {
         let plan = memory.neighbours.len() >= 23 * n
             && memory.degrees.len() >= n
             && memory.waves.len() >= n
-            && memory.counts.len() >= 24 * n;
+            && memory.counts.len() >= 24 * n
+            && memory.ranks.len() >= n;
         let lists = memory.trail.len() >= n && memory.moved.len() >= n;
         if n > 1024 {
             all_refused(&memory, 1);

@@ -44,7 +44,10 @@ fn waves_are_those_found_by_lookup() {
     let mut random = Random::new(3);
     for _ in 0..300 {
         let graph = any_graph(&mut random, 60);
-        assert_eq!(graph.waves(), waves_by_lookup(&table(&graph)));
+        assert_eq!(
+            graph.waves(),
+            waves_by_lookup(&table(&graph), graph.ranks())
+        );
     }
 }
 
@@ -53,7 +56,7 @@ fn order_has_each_bank_at_its_place() {
     let mut random = Random::new(4);
     for _ in 0..300 {
         let graph = any_graph(&mut random, 60);
-        let places = places(&table(&graph));
+        let places = places(&table(&graph), graph.ranks());
         let order = graph.order();
         assert_eq!(order.len(), graph.banks());
         for (place, &b) in order.iter().enumerate() {

@@ -1,7 +1,8 @@
 //! The shelf: its cells, and what opening, keeping and coming back answer and leave.
 
-use crate::support::{memory_of, opened};
+use crate::support::{memory_of, opened, opened_with};
 use independent::graph::Graph;
+use independent::journals::{drawn_fields, same_list};
 use independent::memory::Memory;
 use independent::random::Random;
 use independent::shelf::{open_shelf, BackAnswer};
@@ -13,7 +14,7 @@ pub const NAMES: [&[u8]; 3] = [MORNING, NOON, CLOSE];
 
 /// An open shelf for n banks: the used cells 0, all others 7, and five cells beyond the places.
 pub fn shelf_for(n: u16) -> Vec<u16> {
-    let place = 49 * usize::from(n) + 4;
+    let place = 50 * usize::from(n) + 4;
     let mut shelf = vec![7; 3 * place + 5];
     for used in [0, place, 2 * place] {
         shelf[used] = 0;
@@ -39,6 +40,7 @@ pub fn comes_back(memory: &mut Memory, shelf: &[u16], name: &[u8], moved: &[u16]
     assert_eq!(memory.degrees[n..], old.degrees[n..]);
     assert_eq!(memory.waves[n..], old.waves[n..]);
     assert_eq!(memory.counts[24 * n..], old.counts[24 * n..]);
+    assert_eq!(memory.ranks[n..], old.ranks[n..]);
 }
 
 pub fn keep_refused(memory: &Memory, shelf: &[u16], name: &[u8], number: u16) {
@@ -66,11 +68,11 @@ pub fn refused(memory: &Memory, shelf: &[u16], name: &[u8], number: u16) {
 fn opening_clears_the_used_cells_alone() {
     for (n, used) in [
         (0, [0, 4, 8]),
-        (1, [0, 53, 106]),
-        (4, [0, 200, 400]),
-        (1024, [0, 50_180, 100_360]),
+        (1, [0, 54, 108]),
+        (4, [0, 204, 408]),
+        (1024, [0, 51_204, 102_408]),
     ] {
-        let cells = 3 * (49 * usize::from(n) + 4);
+        let cells = 3 * (50 * usize::from(n) + 4);
         for spare in [0, 9] {
             let mut shelf = vec![60_000; cells + spare];
             assert_eq!(open_shelf(&mut shelf, n), 0);
@@ -81,27 +83,28 @@ fn opening_clears_the_used_cells_alone() {
     }
 }
 
-/// Two banks that clash: bank 0 is earlier and stands in wave 0.
+/// Two banks that clash: bank 1 has the smaller rank, so it is earlier and stands in wave 0.
 #[test]
 fn the_cells_of_a_kept_plan() {
-    let memory = opened(2, &[(0, 1)]);
+    let memory = opened_with(&[9999, 300], &[(0, 1)]);
     let row = |neighbour| [&[neighbour][..], &[65_535; 22]].concat();
-    let counts = [&[0; 24][..], &[1], &[0; 23]].concat();
+    let counts = [&[1][..], &[0; 23], &[0; 24]].concat();
     let place = [
         &[1][..],
         &row(1),
         &row(0),
         &[1, 1],
-        &[0, 1],
+        &[1, 0],
         &counts,
         &[2, 1, 2],
+        &[9999, 300],
     ];
     let place = place.concat();
-    for (name, start) in [(MORNING, 0), (NOON, 102), (CLOSE, 204)] {
+    for (name, start) in [(MORNING, 0), (NOON, 104), (CLOSE, 208)] {
         let mut shelf = shelf_for(2);
         keep(&memory, &mut shelf, name);
         let mut wanted = shelf_for(2);
-        wanted[start..start + 102].copy_from_slice(&place);
+        wanted[start..start + 104].copy_from_slice(&place);
         assert_eq!(shelf, wanted);
     }
 }
@@ -153,7 +156,7 @@ fn keeping_again_replaces_and_leaves_the_others() {
         }
         let before = shelf.clone();
         keep(&ring, &mut shelf, name);
-        for (i, (new, old)) in shelf.chunks(200).zip(before.chunks(200)).enumerate() {
+        for (i, (new, old)) in shelf.chunks(204).zip(before.chunks(204)).enumerate() {
             assert_eq!(new == old, i != place, "part {i}");
         }
         let mut memory = none.clone();
@@ -178,6 +181,33 @@ fn a_shelf_without_banks() {
     refused(&memory, &shelf[..11], NOON, 2);
 }
 
+/// The ranks come back with the plan, and from then on edits go by them.
+#[test]
+fn ranks_come_back() {
+    let mut memory = opened_with(&[2, 1, 0], &[(0, 1)]);
+    let mut shelf = shelf_for(3);
+    keep(&memory, &mut shelf, NOON);
+    assert_eq!(memory.read_list(b"N 3\n+ 0 1").number, 0);
+    assert_eq!(
+        (&memory.waves[..], &memory.ranks[..]),
+        (&[0, 1, 0][..], &[0; 3][..])
+    );
+    keep(&memory, &mut shelf, CLOSE);
+    comes_back(&mut memory, &shelf, NOON, &[0, 1]);
+    assert_eq!(
+        (&memory.waves[..], &memory.ranks[..]),
+        (&[1, 0, 0][..], &[2, 1, 0][..])
+    );
+    assert_eq!(memory.strike(0, 1).number, 0);
+    assert_eq!(memory.add(1, 2).number, 0);
+    assert_eq!(memory.waves, [0, 1, 0]);
+    comes_back(&mut memory, &shelf, CLOSE, &[]);
+    assert_eq!(
+        (&memory.waves[..], &memory.ranks[..]),
+        (&[0, 1, 0][..], &[0; 3][..])
+    );
+}
+
 /// The state comes back that was kept last under its name, whatever was edited since.
 #[test]
 fn kept_states_come_back() {
@@ -190,7 +220,7 @@ fn kept_states_come_back() {
         for _ in 0..120 {
             let (a, b) = (random.below(n) as u16, random.below(n) as u16);
             let place = random.below(3);
-            match (random.below(8), &kept[place]) {
+            match (random.below(9), &kept[place]) {
                 (0, _) => {
                     keep(&memory, &mut shelf, NAMES[place]);
                     kept[place] = memory.held_graph();
@@ -206,6 +236,11 @@ fn kept_states_come_back() {
                 }
                 (2 | 3, _) => {
                     memory.strike(a, b);
+                }
+                (4, _) if random.one_in(4) => {
+                    let fields = drawn_fields(&mut random, n, n, 30);
+                    let read = memory.read_list(&same_list(n as u16, &fields));
+                    assert_eq!(read.number, 0);
                 }
                 _ => {
                     memory.add(a, b);

@@ -1,16 +1,17 @@
 //! Ways to damage memory that holds a plan. The subtle ones break one condition and leave all
-//! others as they should be.
+//! others as they should be. Where only ranks change, it may still hold a plan.
 
-use crate::plans::{graph, row, slices};
+use crate::plans::{graph, needed, row, slices, PLAN_SLICES, SLICES};
 use independent::graph::Bank;
 use independent::memory::Memory;
-use independent::plan::{Plan, MAX_DEGREE, NO_BANK, WAVES};
+use independent::plan::{Plan, MAX_DEGREE, MAX_RANK, NO_BANK, WAVES};
 use independent::random::Random;
+use independent::ranks::drawn_ranks;
 
 /// A way to damage the plan of at least two banks.
 pub type Damage = fn(&mut Random, &mut Memory);
 
-pub const DAMAGES: [Damage; 17] = [
+pub const DAMAGES: [Damage; 21] = [
     one_cell,
     some_cells,
     one_slice,
@@ -28,6 +29,10 @@ pub const DAMAGES: [Damage; 17] = [
     rows_of_another_plan,
     other_bank_count,
     short_slice,
+    far_rank,
+    one_tie_turned,
+    ranks_of_another_plan,
+    waves_of_ranks_0,
 ];
 
 /// One cell of the plan or of the tally gets other content.
@@ -36,9 +41,8 @@ pub fn one_cell(random: &mut Random, memory: &mut Memory) {
     if n == 0 || random.one_in(10) {
         return one_tally_cell(random, memory);
     }
-    let used = [MAX_DEGREE * n, n, n, WAVES * n];
-    let slice = random.below(4);
-    let cell = &mut slices(memory)[slice][random.below(used[slice])];
+    let slice = random.below(PLAN_SLICES);
+    let cell = &mut slices(memory)[slice][random.below(needed(n)[slice])];
     *cell = other_content(random, *cell, n);
 }
 
@@ -54,7 +58,7 @@ fn some_cells(random: &mut Random, memory: &mut Memory) {
 fn one_slice(random: &mut Random, memory: &mut Memory) {
     let limit = *random.pick(&[2, 24, usize::from(memory.tally.banks) + 1, 65_536]);
     let filler = random.one_in(2);
-    let slice = random.below(4);
+    let slice = random.below(PLAN_SLICES);
     for cell in slices(memory)[slice].iter_mut() {
         let any = random.below(limit) as u16;
         *cell = if filler && any % 2 == 1 { NO_BANK } else { any };
@@ -220,14 +224,55 @@ fn other_bank_count(random: &mut Random, memory: &mut Memory) {
 /// One slice is too short.
 fn short_slice(random: &mut Random, memory: &mut Memory) {
     let n = usize::from(memory.tally.banks);
-    let needed = [MAX_DEGREE * n, n, n, WAVES * n, n, n];
-    let slice = random.below(6);
+    let slice = random.below(SLICES);
+    let needed = needed(n)[slice];
     let length = match random.below(3) {
         0 => 0,
-        1 => random.below(needed[slice]),
-        _ => needed[slice] - 1,
+        1 => random.below(needed),
+        _ => needed - 1,
     };
     slices(memory)[slice].truncate(length);
+}
+
+/// One rank is above 9,999; waves, Counts and tally are made to fit.
+fn far_rank(random: &mut Random, memory: &mut Memory) {
+    let b = random.below(usize::from(memory.tally.banks));
+    let any = random.between(MAX_RANK + 1, 65_535);
+    memory.ranks[b] = *random.pick(&[10_000, 10_001, 16_384, 65_535, any as u16]);
+    fit_waves(memory);
+}
+
+/// Two neighbours of equal degree change places in their ranks, if some tries find them.
+fn one_tie_turned(random: &mut Random, memory: &mut Memory) {
+    let n = usize::from(memory.tally.banks);
+    for _ in 0..20 {
+        let b = random.below(n);
+        let tie = |q: &&u16| memory.degrees[usize::from(**q)] == memory.degrees[b];
+        if let Some(&q) = row(memory, b).iter().find(tie) {
+            let q = usize::from(q);
+            if memory.ranks[b] == memory.ranks[q] {
+                memory.ranks[b.min(q)] ^= 1;
+            }
+            memory.ranks.swap(b, q);
+            return;
+        }
+    }
+}
+
+/// Other ranks, up to 9,999; all else is as it was.
+fn ranks_of_another_plan(random: &mut Random, memory: &mut Memory) {
+    let ranks = drawn_ranks(random, usize::from(memory.tally.banks));
+    for (cell, rank) in memory.ranks.iter_mut().zip(ranks) {
+        *cell = rank as u16;
+    }
+}
+
+/// Waves, Counts and the tally's waves as they are if ties go by number alone.
+fn waves_of_ranks_0(_: &mut Random, memory: &mut Memory) {
+    let ranks = memory.ranks.clone();
+    memory.ranks.fill(0);
+    fit_waves(memory);
+    memory.ranks = ranks;
 }
 
 /// Content other than the present one: near it, a bank, the filler or anything.
@@ -273,7 +318,7 @@ fn fit_degrees(memory: &mut Memory) {
 /// Waves, Counts and the tally's waves as the stored rows and degrees give them.
 fn fit_waves(memory: &mut Memory) {
     let mut order: Vec<Bank> = (0..usize::from(memory.tally.banks)).collect();
-    order.sort_by_key(|&b| (NO_BANK - memory.degrees[b], b));
+    order.sort_by_key(|&b| place(memory, b));
     for b in order {
         let held: Vec<u16> = earlier_in_row(memory, b)
             .into_iter()
@@ -285,13 +330,18 @@ fn fit_waves(memory: &mut Memory) {
     fit_counts(memory);
 }
 
-/// The banks in b's stored row that are earlier by the stored degrees.
+/// The banks in b's stored row that are earlier by the stored degrees and ranks.
 fn earlier_in_row(memory: &Memory, b: Bank) -> Vec<Bank> {
     let n = usize::from(memory.tally.banks);
-    let place = |b: Bank| (NO_BANK - memory.degrees[b], b);
     let row = &memory.neighbours[MAX_DEGREE * b..][..MAX_DEGREE];
     row.iter()
         .map(|&q| usize::from(q))
-        .filter(|&q| q < n && place(q) < place(b))
+        .filter(|&q| q < n && place(memory, q) < place(memory, b))
         .collect()
+}
+
+/// Where b stands in the order by the stored degrees and ranks: larger degree, smaller rank, smaller
+/// number.
+fn place(memory: &Memory, b: Bank) -> (u16, u16, Bank) {
+    (NO_BANK - memory.degrees[b], memory.ranks[b], b)
 }

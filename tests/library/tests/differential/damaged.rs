@@ -3,15 +3,15 @@
 use crate::call::Call;
 use crate::damage::DAMAGES;
 use crate::pair::Pair;
-use crate::plans::{bank_count, graph, memory_of, row, sheet_length, shelf_of, slices};
+use crate::plans::{bank_count, graph, memory_of, row, sheet_length, shelf_of, slices, SLICES};
 use crate::{quick, rounds};
-use independent::journal::{journal_of, Entry};
+use independent::journal::{journal_of, Entry, Field};
 use independent::memory::Memory;
 use independent::random::Random;
 use independent::reach::Edit;
 
 /// How many calls got each number.
-type Numbers = [usize; 16];
+type Numbers = [usize; 19];
 
 #[test]
 fn calls_on_damaged_plans() {
@@ -24,7 +24,7 @@ fn calls_on_damaged_plans() {
     if !quick() {
         assert!(numbers[1..=3].iter().sum::<usize>() > 20_000, "{numbers:?}");
         assert!(
-            numbers[1..=3].iter().all(|&times| times > 1000),
+            numbers[1..=3].iter().all(|&times| times > 600),
             "{numbers:?}"
         );
     }
@@ -40,7 +40,7 @@ fn calls_on_damaged_plans_of_many_banks() {
         calls_on_damaged_copies(&mut random, n, 10, &mut numbers);
     }
     if !quick() {
-        assert!(numbers[1..=3].iter().all(|&times| times > 20));
+        assert!(numbers[1..=3].iter().all(|&times| times > 8), "{numbers:?}");
     }
 }
 
@@ -118,7 +118,7 @@ fn count(numbers: &mut Numbers, memory: Memory, call: &Call, random: &mut Random
 
 /// One slice is cut at any length.
 fn shorten(random: &mut Random, memory: &mut Memory) {
-    let slice = random.below(6);
+    let slice = random.below(SLICES);
     let slice = &mut slices(memory)[slice];
     slice.truncate(random.below(slice.len() + 1));
 }
@@ -128,7 +128,7 @@ fn shorten(random: &mut Random, memory: &mut Memory) {
 fn any_memory(random: &mut Random) -> Memory {
     let mut memory = Memory::filled(0, 0);
     let room = random.below(12);
-    let widths = [23, 1, 1, 24, 1, 1];
+    let widths = [23, 1, 1, 24, 1, 1, 1];
     let limit = *random.pick(&[1, 2, 24, 1024, 65_536]);
     for (slice, width) in slices(&mut memory).into_iter().zip(widths) {
         let cells = width * room + random.below(3);
@@ -189,7 +189,7 @@ fn any_entry(a: u16, b: u16) -> Entry {
 
 /// A journal of the memory's banks without an edit, five bytes, and space for one.
 fn any_journal(memory: &Memory) -> Vec<u8> {
-    let mut journal = journal_of(memory.tally.banks, &[]);
+    let mut journal = journal_of::<Field>(memory.tally.banks, &[]);
     journal.resize(12, b'#');
     journal
 }
@@ -200,7 +200,7 @@ fn any_list(random: &mut Random, n: u16) -> Vec<u8> {
     let mut list = format!("N {n}");
     for _ in 0..random.below(6) {
         let (a, b) = (random.below(n + 1), random.below(n + 1));
-        list += *random.pick(&["\n+ ", "\n+ ", "\n- ", "\n +"]);
+        list += *random.pick(&["\nK ", "\n+ ", "\n+ ", "\n- ", "\n +"]);
         list += &format!("{a} {b}");
     }
     list.into_bytes()

@@ -3,7 +3,8 @@
 use crate::call::Call;
 use crate::damage;
 use crate::pair::Pair;
-use crate::plans::{any_memory, bank_count, graph, poster_length, row, sheet_length, slices};
+use crate::plans::{any_memory, bank_count, graph, needed, poster_length, row, sheet_length};
+use crate::plans::{slices, SLICES};
 use crate::{quick, rounds};
 use independent::plan::MAX_DEGREE;
 use independent::random::Random;
@@ -155,12 +156,13 @@ fn clash(random: &mut Random, pair: &Pair) -> Option<(u16, u16)> {
     None
 }
 
-/// An edit that is refused with one of the numbers 1 to 8, if the plan has a case of it.
+/// An edit that is refused with one of the numbers 1 to 8, if the plan has a case of it. Few plans have
+/// one of the last.
 fn refused_edit(random: &mut Random, pair: &mut Pair, seen: &mut Seen) {
     let n = usize::from(pair.model.tally.banks);
     let any = |random: &mut Random| random.below(n.max(1)) as u16;
     let (a, b) = (any(random), any(random));
-    match random.between(1, 8) {
+    match random.between(1, 12) {
         kind @ 1..=3 => on_damaged_memory(random, pair, seen, kind),
         4 => {
             let far = *random.pick(&[n as u16, n as u16 + 1, 1024, 65_535]);
@@ -177,7 +179,11 @@ fn refused_edit(random: &mut Random, pair: &mut Pair, seen: &mut Seen) {
         _ => {
             let full = (0..n).find(|&b| usize::from(pair.model.degrees[b]) == MAX_DEGREE);
             if let Some(full) = full.map(|full| full as u16) {
-                let (a, b) = *random.pick(&[(full, b), (a, full)]);
+                let near = row(&pair.model, full.into());
+                let free = |q: &u16| *q != full && !near.contains(q);
+                let free: Vec<u16> = (0..n as u16).filter(free).chain([a]).collect();
+                let other = *random.pick(&free);
+                let (a, b) = *random.pick(&[(full, other), (other, full)]);
                 edit(pair, &Call::Add(a, b), seen);
             }
         }
@@ -191,9 +197,8 @@ fn on_damaged_memory(random: &mut Random, pair: &Pair, seen: &mut Seen, kind: us
     match kind {
         1 => memory.tally.banks = random.between(1025, 65_535) as u16,
         2 if n > 0 => {
-            let lengths = [23 * n, n, n, 24 * n, n, n];
-            let place = random.below(6);
-            let most = lengths[place] - 1;
+            let place = random.below(SLICES);
+            let most = needed(n)[place] - 1;
             let length = *random.pick(&[0, most / 2, most, most]);
             slices(&mut memory)[place].truncate(length);
         }

@@ -40,13 +40,14 @@ impl<T: Copy + PartialEq> Guarded<T> {
     }
 }
 
-/// The nine slices lent to the library.
+/// The ten slices lent to the library.
 #[derive(Clone)]
 pub struct Slices {
     pub neighbours: Guarded<u16>,
     pub degrees: Guarded<u16>,
     pub waves: Guarded<u16>,
     pub counts: Guarded<u16>,
+    pub ranks: Guarded<u16>,
     pub trail: Guarded<u16>,
     pub moved: Guarded<u16>,
     pub shelf: Guarded<u16>,
@@ -63,6 +64,7 @@ impl Slices {
             degrees: guarded(&memory.degrees),
             waves: guarded(&memory.waves),
             counts: guarded(&memory.counts),
+            ranks: guarded(&memory.ranks),
             trail: guarded(&memory.trail),
             moved: guarded(&memory.moved),
             shelf: guarded(shelf),
@@ -78,6 +80,7 @@ impl Slices {
             degrees: self.degrees.lend(),
             waves: self.waves.lend(),
             counts: self.counts.lend(),
+            ranks: self.ranks.lend(),
             trail: self.trail.lend(),
             moved: self.moved.lend(),
             tally: self.tally.lend(),
@@ -87,12 +90,13 @@ impl Slices {
     }
 
     /// Each slice with its name.
-    pub fn named(&self) -> [(&'static str, &Guarded<u16>); 9] {
+    pub fn named(&self) -> [(&'static str, &Guarded<u16>); 10] {
         [
             ("neighbours", &self.neighbours),
             ("degrees", &self.degrees),
             ("waves", &self.waves),
             ("counts", &self.counts),
+            ("ranks", &self.ranks),
             ("trail", &self.trail),
             ("moved", &self.moved),
             ("shelf", &self.shelf),

@@ -7,8 +7,8 @@ use crate::pair::Pair;
 use crate::plans::{any_memory, bank_count, blocks, graph, memory_of, row};
 use crate::{quick, rounds};
 use independent::graph::Graph;
-use independent::journal::{journal_of, started, Entry};
-use independent::journals::drawn_entries;
+use independent::journal::{journal_of, started, Entry, Field};
+use independent::journals::drawn_fields;
 use independent::memory::Memory;
 use independent::random::Random;
 use independent::reach::Edit;
@@ -63,7 +63,7 @@ fn new_journals_of_random_plans() {
     }
 }
 
-/// 8,570 clashes fill 59,995 bytes; one clash more does not fit 60,000.
+/// 8,570 ranks and clashes fill 59,995 bytes; one more of either does not fit 60,000.
 #[test]
 fn new_journals_at_the_limit() {
     let mut random = Random::new(102);
@@ -74,21 +74,32 @@ fn new_journals_at_the_limit() {
             .map(move |q| (q, b))
     };
     let clashes: Vec<(usize, usize)> = (0..1024).flat_map(clashes).collect();
-    for (count, space, number) in [
-        (8570, 59_994, 15),
-        (8570, 59_995, 0),
-        (8570, 60_000, 0),
-        (8570, 70_000, 0),
-        (8571, 60_000, 15),
-        (8571, 60_002, 15),
-        (8571, 70_000, 15),
-        (clashes.len(), 100_000, 15),
+    for (ranks, count, space, number) in [
+        (0, 8570, 59_994, 15),
+        (0, 8570, 59_995, 0),
+        (0, 8570, 60_000, 0),
+        (0, 8570, 70_000, 0),
+        (0, 8571, 60_000, 15),
+        (0, 8571, 60_002, 15),
+        (0, 8571, 70_000, 15),
+        (0, clashes.len(), 100_000, 15),
+        (1, 8570, 70_000, 15),
+        (1, 8569, 59_994, 15),
+        (1, 8569, 59_995, 0),
+        (1024, 7546, 59_994, 15),
+        (1024, 7546, 59_995, 0),
+        (1024, 7547, 70_000, 15),
+        (1024, 0, 7173, 0),
+        (1024, 0, 7172, 15),
     ] {
+        let rank = |b: usize| if b < ranks { 9999 - b } else { 0 };
         let graph = Graph::of(1024, clashes[..count].iter().copied());
+        let graph = graph.with_ranks((0..1024).map(rank).collect());
         let memory = memory_of(&mut random, &graph);
         let slice = with_spare(&mut random, &[], space);
         let answer = Pair::new(memory, 102).call(&Call::StartJournal(slice));
-        assert_eq!(answer.number, number, "{count} clashes in {space} bytes");
+        let what = format!("{ranks} ranks and {count} clashes in {space} bytes");
+        assert_eq!(answer.number, number, "{what}");
     }
 }
 
@@ -170,10 +181,10 @@ fn sequences_of_recorded_edits() {
     }
 }
 
-/// A journal of edits on n banks, and memory that holds their plan.
+/// A journal of ranks and edits on n banks, and memory that holds their plan.
 fn recorded(random: &mut Random, n: usize, draws: usize) -> (Vec<u8>, Memory) {
-    let entries = drawn_entries(random, n, n, draws);
-    let journal = journal_of(n as u16, &entries);
+    let fields = drawn_fields(random, n, n, draws);
+    let journal = journal_of(n as u16, &fields);
     let mut memory = any_memory(random, n);
     assert_eq!(memory.replay(&journal).number, 0);
     (journal, memory)
@@ -253,6 +264,61 @@ fn recording_at_the_limit() {
     assert_eq!(Pair::new(memory, 105).call(&call).number, 9);
 }
 
+/// Recording into journals with K fields in all places: the first field with a no decides, by 14 and
+/// then 18; no bank of theirs gets 4. 9, 13, 1, 2 and 3 come before, 4 to 8 and 15 after.
+#[test]
+fn k_fields_so_far() {
+    let mut random = Random::new(107);
+    let mut numbers = BTreeSet::new();
+    for _ in 0..rounds(3000) {
+        let graph = graph(&mut random, 5);
+        let memory = memory_of(&mut random, &graph);
+        let field = |random: &mut Random| match random.below(8) {
+            0..=3 => Field::Rank {
+                bank: *random.pick(&[0, 4, 5, 65_535]),
+                rank: *random.pick(&[0, 1, 9998, 9999]),
+            },
+            4 if random.one_in(3) => Field::Rank {
+                bank: random.below(6) as u16,
+                rank: *random.pick(&[10_000, 65_535]),
+            },
+            _ => Field::Edit(entry(*random.pick(&[Edit::Add, Edit::Strike]), 9, 9)),
+        };
+        let fields: Vec<Field> = (0..random.below(5)).map(|_| field(&mut random)).collect();
+        let mut journal = journal_of(random.below(2000) as u16, &fields);
+        if random.one_in(8) {
+            let left = random.between(1, 6);
+            let field = [0x4B, 4, 0, 1, 0, 1];
+            journal.extend(&field[..left]);
+        }
+        let mut begun = false;
+        let wanted = fields.iter().find_map(|field| match field {
+            Field::Edit(_) => {
+                begun = true;
+                None
+            }
+            Field::Rank { rank, .. } if *rank > 9999 => Some(14),
+            Field::Rank { .. } => begun.then_some(18),
+        });
+        let whole = (journal.len() - 5) % 7 == 0;
+        let wanted = wanted.or(if whole { None } else { Some(14) });
+        let add = any_entry(&mut random, &memory);
+        let slice = with_spare(&mut random, &journal, 7);
+        let mut pair = Pair::new(memory, random.draw());
+        let number = pair.call(&Call::Record(add, slice, journal.len())).number;
+        match wanted {
+            Some(wanted) => assert_eq!(number, wanted, "{fields:?}"),
+            None => assert!(![14, 18].contains(&number), "{fields:?}"),
+        }
+        numbers.insert(number);
+    }
+    if !quick() {
+        for number in [0, 4, 5, 14, 18] {
+            assert!(numbers.contains(&number), "no {number}");
+        }
+    }
+}
+
 /// Recording into journals with a wrong byte anywhere, and on memory that holds no plan or is too
 /// short: the first no wins.
 #[test]
@@ -275,7 +341,7 @@ fn damaged_journals_and_memory() {
         }
         if random.one_in(2) {
             let place = random.below(length.min(20));
-            slice[place] = *random.pick(&[0, 1, 2, 4, 0x2B, 0x2D, 0x4E, 255]);
+            slice[place] = *random.pick(&[0, 1, 2, 4, 0x2B, 0x2D, 0x4B, 0x4E, 255]);
         }
         let length = length - if random.one_in(4) { random.below(5) } else { 0 };
         let mut pair = Pair::new(memory, random.draw());

@@ -4,12 +4,13 @@
 use crate::call::Call;
 use crate::damage::DAMAGES;
 use crate::pair::{tally_cells, Pair};
-use crate::plans::{bank_count, graph, memory_of, shelf_of, slices};
+use crate::plans::{bank_count, graph, memory_of, shelf_of, slices, RANKS};
 use crate::{quick, rounds};
 use independent::graph::Graph;
 use independent::memory::Memory;
 use independent::plan::Plan;
 use independent::random::Random;
+use independent::ranks::drawn_ranks;
 use independent::shelf::{kept_cells, place_cells, shelf_cells, NAMES};
 
 fn keep(place: usize) -> Call {
@@ -35,7 +36,8 @@ fn no_plan(random: &mut Random, memory: &Memory, shelf: &[u16]) {
     }
 }
 
-/// Each cell of the shelf with other content: of used places, of unused ones, and beyond the places.
+/// Each cell of the shelf with other content: of used places, of unused ones, and beyond the places. In
+/// the plan that is kept no rank decides a tie of neighbours, so that any rank up to 9,999 is right.
 #[test]
 fn each_cell_of_a_shelf() {
     let mut random = Random::new(131);
@@ -43,6 +45,7 @@ fn each_cell_of_a_shelf() {
     let step = if quick() { 23 } else { 1 };
     for used in [[true, false, true], [false, true, false]] {
         let (present, other) = (Graph::of(n, [(0, 1)]), Graph::of(n, [(0, 2), (1, 2)]));
+        let other = other.with_ranks(vec![9999, 0, 7]);
         let memory = memory_of(&mut random, &present);
         let mut shelf = shelf_of(&mut random, n, used.map(|used| used.then_some(&other)));
         shelf.extend([1, 1, 1]);
@@ -51,7 +54,9 @@ fn each_cell_of_a_shelf() {
             for content in [0, 1, 2, 256, 257, shelf[i].wrapping_add(1), 65_535] {
                 let mut changed = shelf.clone();
                 changed[i] = content;
-                let whole = content == shelf[i] || place > 2 || (cell > 0 && !used[place]);
+                let rank = cell >= place_cells(n) - n && content <= 9999;
+                let unread = place > 2 || (cell > 0 && !used[place]);
+                let whole = content == shelf[i] || unread || rank;
                 if !whole && (cell > 0 || content > 0) {
                     no_plan(&mut random, &memory, &changed);
                     continue;
@@ -69,17 +74,61 @@ fn each_cell_of_a_shelf() {
 }
 
 /// Writes the memory's cells and tally into a place, as far as its slices go.
-fn put(place: &mut [u16], n: usize, memory: &mut Memory) {
+fn put(place: &mut [u16], n: usize, memory: &Memory) {
     let tally = tally_cells(memory);
+    let parts: [(&[u16], usize); 6] = [
+        (&memory.neighbours, 23 * n),
+        (&memory.degrees, n),
+        (&memory.waves, n),
+        (&memory.counts, 24 * n),
+        (&tally, 3),
+        (&memory.ranks, n),
+    ];
     let mut rest = &mut place[1..];
-    for (slice, width) in slices(memory).into_iter().zip([23 * n, n, n, 24 * n]) {
+    for (slice, width) in parts {
         let (part, after) = rest.split_at_mut(width);
         for (cell, content) in part.iter_mut().zip(slice) {
             *cell = *content;
         }
         rest = after;
     }
-    rest.copy_from_slice(&tally);
+    assert!(rest.is_empty());
+}
+
+/// Each rank of a kept plan with other content: above 9,999 it is no plan, nor where a tie of
+/// neighbours goes the other way.
+#[test]
+fn each_rank_of_a_kept_plan() {
+    let mut random = Random::new(136);
+    let (mut right, mut wrong) = (0, 0);
+    for _ in 0..rounds(60) {
+        let n = random.between(1, 12);
+        let (present, other) = (graph(&mut random, n), graph(&mut random, n));
+        let memory = memory_of(&mut random, &present);
+        let place = random.below(3);
+        let mut kept = [None; 3];
+        kept[place] = Some(&other);
+        let whole = shelf_of(&mut random, n, kept);
+        for b in 0..n {
+            for rank in [0, 1, 2, 5000, 9999, 10_000, 10_001, 65_535] {
+                let mut shelf = whole.clone();
+                shelf[(place + 1) * place_cells(n) - n + b] = rank;
+                let new = other.ranked(b, rank.into());
+                let turned = |q: usize| other.earlier(q, b) != new.earlier(q, b);
+                if rank > 9999 || other.neighbours(b).any(turned) {
+                    no_plan(&mut random, &memory, &shelf);
+                    wrong += usize::from(rank <= 9999);
+                    continue;
+                }
+                let mut pair = Pair::with_shelf(memory.clone(), shelf, random.draw());
+                assert_eq!(pair.call(&keep((place + 1) % 3)).number, 0);
+                assert_eq!(pair.call(&come_back(place)).number, 0);
+                assert_eq!(pair.model.held_graph(), Some(new));
+                right += 1;
+            }
+        }
+    }
+    assert!(quick() || (right > 200 && wrong > 200), "{right}, {wrong}");
 }
 
 /// Each of the ways to damage a plan, in a place that is used and in one that is not.
@@ -103,7 +152,7 @@ fn each_damage_of_a_kept_plan() {
             damage(&mut random, &mut damaged);
             let mut shelf = shelf.clone();
             let cells = &mut shelf[place * place_cells(n)..][..place_cells(n)];
-            put(cells, n, &mut damaged);
+            put(cells, n, &damaged);
             for back in 0..3 {
                 let kept = number(&mut random, &memory, &shelf, &keep(back));
                 assert_eq!(kept, number(&mut random, &memory, &shelf, &come_back(back)));
@@ -133,7 +182,8 @@ fn kept_plans_of_another_bank_count() {
         let clashes: Vec<(usize, usize)> = (0..fewer)
             .flat_map(|a| small.neighbours(a).map(move |b| (a, b)))
             .collect();
-        let present = Graph::of(n, clashes);
+        let more = drawn_ranks(&mut random, n - fewer);
+        let present = Graph::of(n, clashes).with_ranks([small.ranks(), &more].concat());
         let memory = memory_of(&mut random, &present);
         let place = random.below(3);
         let start = place * place_cells(n);
@@ -142,7 +192,7 @@ fn kept_plans_of_another_bank_count() {
         let whole = shelf_of(&mut random, n, kept);
         assert_eq!(number(&mut random, &memory, &whole, &come_back(place)), 0);
         let cells = kept_cells(&Plan::of(&small));
-        let tally = &cells[cells.len() - 3..];
+        let tally = &cells[49 * fewer + 1..][..3];
         let mut shelf = whole.clone();
         shelf[start + 49 * n + 1..][..3].copy_from_slice(tally);
         no_plan(&mut random, &memory, &shelf);
@@ -166,11 +216,11 @@ fn the_first_no_on_a_shelf() {
     let sizes: &[usize] = if quick() { &[2] } else { &[1, 2, 5, 30] };
     for &n in sizes {
         let (present, other) = (graph(&mut random, n), graph(&mut random, n));
-        for (faults, short) in (0..64).flat_map(|faults| (0..6).map(move |short| (faults, short))) {
+        for (faults, short) in (0..64).flat_map(|faults| (0..7).map(move |short| (faults, short))) {
             let fault = |i: usize| faults >> i & 1 == 1;
             let noon = if fault(5) { None } else { Some(&other) };
             let mut shelf = shelf_of(&mut random, n, [Some(&other), noon, None]);
-            shelf.truncate(shelf_cells(n) - usize::from(fault(1) && short == 5));
+            shelf.truncate(shelf_cells(n) - usize::from(fault(1) && short == 6));
             let mut memory = Memory::filled(n, 7);
             memory.store_plan(&present);
             memory.trail.clear();
@@ -178,10 +228,11 @@ fn the_first_no_on_a_shelf() {
                 memory.waves[n - 1] += 1;
             }
             if fault(3) {
-                shelf[place_cells(n) - 1] += 1;
+                let wrong = *random.pick(&[(49 * n + 3, 25), (place_cells(n) - 1, 10_000)]);
+                shelf[wrong.0] = wrong.1;
             }
-            if fault(1) && short < 5 {
-                let place = [0, 1, 2, 3, 5][short];
+            if fault(1) && short < 6 {
+                let place = [0, 1, 2, 3, RANKS, 6][short];
                 slices(&mut memory)[place].pop();
             }
             if fault(0) {
@@ -190,7 +241,7 @@ fn the_first_no_on_a_shelf() {
             let name = if fault(4) { b"NOON   \0" } else { NAMES[1] };
             let wanted = |moved_lent: bool| match () {
                 _ if fault(0) => 1,
-                _ if fault(1) && (moved_lent || short != 4) => 2,
+                _ if fault(1) && (moved_lent || short != 5) => 2,
                 _ if fault(2) || fault(3) => 3,
                 _ if fault(4) => 16,
                 _ if fault(5) && moved_lent => 17,

@@ -2,7 +2,7 @@
 
 use crate::call::Call;
 use crate::pair::Pair;
-use crate::plans::{any_memory, slices};
+use crate::plans::{any_memory, slices, SLICES};
 use crate::{quick, rounds};
 use independent::list::{n_row, rows};
 use independent::lists;
@@ -39,12 +39,65 @@ fn random_lists() {
     }
 }
 
+/// K rows before the first edit and after it.
+#[test]
+fn k_rows_in_every_place() {
+    let mut random = Random::new(85);
+    let every = if quick() { 10 } else { 1 };
+    for (list, number, row) in lists::late_ranks().into_iter().step_by(every) {
+        let mut pair = Pair::new(any_memory(&mut random, 4), random.draw());
+        let answer = pair.call(&Call::ReadList(list));
+        if number != 0 {
+            assert_eq!((answer.number, answer.results), (number, vec![row]));
+        } else {
+            assert!(answer.results != [row]);
+        }
+    }
+}
+
+/// Every rank of one to four digits, plain and padded: of two banks, the one of rank 5000 or the other
+/// is earlier.
+#[test]
+fn every_rank() {
+    let mut random = Random::new(86);
+    let step = if quick() { 1111 } else { 1 };
+    for rank in (0..10_000).step_by(step) {
+        for list in [
+            format!("N 2\nK 0 {rank}\nK 1 5000\n+ 0 1"),
+            format!("N 2\nK 1 5000\nK 0 {rank:04}\n+ 0 1"),
+        ] {
+            let mut pair = Pair::new(any_memory(&mut random, 2), random.draw());
+            assert_eq!(pair.call(&Call::ReadList(list.into_bytes())).number, 0);
+            assert_eq!(pair.model.waves[0], u16::from(rank > 5000));
+        }
+    }
+}
+
+/// A depot under two numberings, all ranks different: the waves correspond.
+#[test]
+fn renumbered_depots() {
+    let mut random = Random::new(87);
+    for round in 0..rounds(60) {
+        let most = if round % 20 == 19 { 300 } else { 40 };
+        let depot = lists::renumbered(&mut random, most);
+        let n = depot.numbers.len();
+        let [one, other] = [depot.list, depot.other].map(|list| {
+            let mut pair = Pair::new(any_memory(&mut random, n), random.draw());
+            assert_eq!(pair.call(&Call::ReadList(list)).number, 0);
+            pair.model.waves
+        });
+        for (b, &new) in depot.numbers.iter().enumerate() {
+            assert_eq!(one[b], other[new], "bank {b}, now {new}");
+        }
+    }
+}
+
 /// A list of 60,000 bytes that adds and strikes the same clashes again and again, the same list
 /// with its last row cut short, and the list with one byte more.
 #[test]
 fn long_lists() {
     let mut random = Random::new(84);
-    let mut list = b"N 9".to_vec();
+    let mut list = b"N 9\nK 4 1\nK 0 9\nK 7 1".to_vec();
     let mut there = [[false; 9]; 9];
     while list.len() + 6 <= 60_000 {
         let (a, b) = (random.below(9), random.below(9));
@@ -74,7 +127,7 @@ fn read(random: &mut Random, list: &[u8]) {
     let n = first.unwrap_or(4).min(1024);
     let mut memory = any_memory(random, n);
     if random.one_in(12) && n > 0 {
-        let slice = random.below(6);
+        let slice = random.below(SLICES);
         slices(&mut memory)[slice].truncate(n - 1);
     }
     let mut pair = Pair::new(memory, random.draw());

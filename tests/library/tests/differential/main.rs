@@ -3,15 +3,15 @@
 //! - `guarded`: slices between guard cells.
 //! - `call`: a call, made on the library or on the model.
 //! - `pair`: the library's memory and the model's, and a call made on both.
-//! - `plans`: random plans of all sizes and degrees.
+//! - `plans`: random plans of all sizes, degrees and ranks.
 //! - `edits`: sequences of edits, accepted and refused.
 //! - `damage`, `damaged`: memory that holds no plan or is too short, and the calls on it.
 //! - `lists`, `sheets`, `posters`: reading lists, writing sheets and posters.
 //! - `journals`, `replays`: starting journals and recording edits; replaying journals.
 //! - `shelves`, `kept`: sequences of keepings and returns; shelves that are damaged or too short.
-//! - `short`: tally and result slices that are too short.
-//! - `marked`: the paper's marked examples, a journal and a shelf, through the wrapper that owns its
-//!   memory.
+//! - `short`: tally, result and ranks slices that are too short.
+//! - `marked`: the paper's marked examples, ranks, a journal and a shelf, through the wrapper that owns
+//!   its memory.
 //!
 //! With WAVE_PLAN_QUICK set, each test makes fewer calls, for a run under a memory checker.
 

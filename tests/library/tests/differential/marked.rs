@@ -1,5 +1,5 @@
-//! The paper's marked examples, its example sheet, a journal and a shelf, through the wrapper that
-//! owns its memory.
+//! The paper's marked examples, its example sheet, ranks, a journal and a shelf, through the wrapper
+//! that owns its memory.
 
 use library_tests::{Bank, Edit, Name, Plan, Refused, Shelf, Wave};
 
@@ -73,6 +73,38 @@ fn the_example_list() {
     let mut plan = Plan::read_list(list).expect("accepted");
     assert_eq!(plan.sheet(), Ok("WAVES 2\nA 0 2\nB 1 3\n".to_string()));
     assert_eq!(plan.wave_of(Bank(3)), Ok(Wave(1)));
+}
+
+/// M2 and M3 where bank 1 has a larger rank: another order, another trail. A new journal has the ranks.
+#[test]
+fn ranks() {
+    let mut plan = Plan::read_list(b"N 3\nK 1 300\nK 2 9999\nK 2 0\n").expect("accepted");
+    assert_eq!(plan.ranks(), [0, 300, 0]);
+    reach(plan.add(Bank(1), Bank(2)), &[2, 1], &[1]);
+    assert_eq!(waves(&mut plan, 3), [0, 1, 0]);
+    reach(plan.add(Bank(0), Bank(1)), &[1, 0, 2], &[1, 0, 2]);
+    assert_eq!(waves(&mut plan, 3), [1, 0, 1]);
+    assert_eq!(plan.ranks(), [0, 300, 0]);
+    let journal = plan.start_journal().expect("started");
+    let fields = [
+        &[0x4E, 2, 0, 3, 0][..],
+        &[0x4B, 4, 0, 1, 0, 44, 1],
+        &[0x2B, 4, 0, 0, 0, 1, 0],
+        &[0x2B, 4, 0, 1, 0, 2, 0],
+    ];
+    assert_eq!(journal, fields.concat());
+    let (again, left) = Plan::replay(&journal).expect("replayed");
+    assert_eq!((again.ranks(), left), (plan.ranks(), 0));
+    let late = [&journal[..], &journal[5..12]].concat();
+    let refused = |number, place| Some(Refused { number, place });
+    assert_eq!(Plan::replay(&late).err(), refused(18, 5));
+    let late = b"N 3\nD 0\nK 1 300";
+    assert_eq!(Plan::read_list(late).err(), refused(18, 3));
+    let mut shelf = Shelf::open(3).expect("opened");
+    assert_eq!(plan.keep(&mut shelf, Name::Noon), Ok(()));
+    let mut other = opened(3, &[(0, 1), (1, 2)]);
+    assert_eq!(other.come_back(&shelf, Name::Noon), Ok(vec![]));
+    assert_eq!(other.ranks(), [0, 300, 0]);
 }
 
 #[test]

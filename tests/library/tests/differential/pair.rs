@@ -65,11 +65,12 @@ impl Pair {
         let old_tally = before.tally.content();
         let wanted_result = [&results, &old_result[results.len()..]].concat();
         let wanted_tally = [&tally_cells(&self.model)[..], &old_tally[3..]].concat();
-        let wanted: [&[u16]; 9] = [
+        let wanted: [&[u16]; 10] = [
             &self.model.neighbours,
             &self.model.degrees,
             &self.model.waves,
             &self.model.counts,
+            &self.model.ranks,
             &self.model.trail,
             &self.model.moved,
             &self.shelf,

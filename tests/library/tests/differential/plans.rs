@@ -1,9 +1,10 @@
-//! Random plans of all sizes, of few clashes to full degrees.
+//! Random plans of all sizes, of few clashes to full degrees, with ranks of all kinds.
 
 use independent::graph::{Bank, Graph};
 use independent::memory::Memory;
 use independent::plan::{Plan, MAX_DEGREE, WAVES};
 use independent::random::Random;
+use independent::ranks::drawn_ranks;
 use independent::shelf::{kept_cells, place_cells, shelf_cells};
 use std::collections::BTreeSet;
 
@@ -20,8 +21,14 @@ pub fn bank_count(random: &mut Random, most: usize) -> usize {
     n.min(most)
 }
 
-/// A graph on n banks of one of the kinds below.
+/// A graph on n banks of one of the kinds below, with random ranks.
 pub fn graph(random: &mut Random, n: usize) -> Graph {
+    let ranks = drawn_ranks(random, n);
+    clashes(random, n).with_ranks(ranks)
+}
+
+/// Such a graph, all of rank 0.
+fn clashes(random: &mut Random, n: usize) -> Graph {
     if n < 2 {
         return Graph::empty(n);
     }
@@ -76,8 +83,7 @@ pub fn blocks(n: usize, size: usize) -> Graph {
 /// Memory for n banks of any content, each slice longer than needed by some cells.
 pub fn any_memory(random: &mut Random, n: usize) -> Memory {
     let mut memory = Memory::filled(0, random.draw() as u16);
-    let lengths = [MAX_DEGREE * n, n, n, WAVES * n, n, n];
-    for (slice, needed) in slices(&mut memory).into_iter().zip(lengths) {
+    for (slice, needed) in slices(&mut memory).into_iter().zip(needed(n)) {
         let spare = if random.one_in(3) {
             0
         } else {
@@ -112,16 +118,28 @@ pub fn shelf_of(random: &mut Random, n: usize, kept: [Option<&Graph>; 3]) -> Vec
     shelf
 }
 
-/// The six slices.
-pub fn slices(memory: &mut Memory) -> [&mut Vec<u16>; 6] {
+/// How many slices there are, and how many of them, the first ones, are the plan's. The ranks are the
+/// last of these.
+pub const SLICES: usize = 7;
+pub const PLAN_SLICES: usize = 5;
+pub const RANKS: usize = 4;
+
+/// The slices.
+pub fn slices(memory: &mut Memory) -> [&mut Vec<u16>; SLICES] {
     [
         &mut memory.neighbours,
         &mut memory.degrees,
         &mut memory.waves,
         &mut memory.counts,
+        &mut memory.ranks,
         &mut memory.trail,
         &mut memory.moved,
     ]
+}
+
+/// The cells that n banks need in each slice.
+pub fn needed(n: usize) -> [usize; SLICES] {
+    [MAX_DEGREE * n, n, n, WAVES * n, n, n, n]
 }
 
 /// The neighbours of b in memory that holds a plan.

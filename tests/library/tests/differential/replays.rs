@@ -3,11 +3,12 @@
 
 use crate::call::{Answer, Call};
 use crate::pair::Pair;
-use crate::plans::{any_memory, slices};
+use crate::plans::{any_memory, slices, SLICES};
 use crate::{quick, rounds};
-use independent::journal::journal_of;
-use independent::journals::{drawn_entries, random_journal, same_list};
+use independent::journal::{field_bytes, journal_of, Entry, Field};
+use independent::journals::{drawn_entries, drawn_fields, random_journal, same_list};
 use independent::random::Random;
+use independent::reach::Edit;
 use std::collections::BTreeSet;
 
 /// Replays the journal into memory of any content, as a rule with room for its banks.
@@ -19,7 +20,7 @@ fn replay(random: &mut Random, journal: &[u8]) -> Answer {
     let n = if n > 1024 { 4 } else { n };
     let mut memory = any_memory(random, n);
     if random.one_in(12) && n > 0 {
-        let slice = random.below(6);
+        let slice = random.below(SLICES);
         slices(&mut memory)[slice].truncate(n - 1);
     }
     Pair::new(memory, random.draw()).call(&Call::Replay(journal.to_vec()))
@@ -34,7 +35,10 @@ fn random_journals() {
         numbers.insert(replay(&mut random, &journal).number);
     }
     if !quick() {
-        assert_eq!(numbers, BTreeSet::from([0, 1, 2, 4, 5, 6, 7, 8, 13, 14]));
+        assert_eq!(
+            numbers,
+            BTreeSet::from([0, 1, 2, 4, 5, 6, 7, 8, 13, 14, 18])
+        );
     }
 }
 
@@ -44,8 +48,8 @@ fn journals_cut_at_each_byte() {
     let mut random = Random::new(112);
     for _ in 0..rounds(8) {
         let n = random.between(2, 30);
-        let entries = drawn_entries(&mut random, n, 10, 40);
-        let journal = journal_of(n as u16, &entries);
+        let fields = drawn_fields(&mut random, n, 10, 40);
+        let journal = journal_of(n as u16, &fields);
         for length in 0..=journal.len() {
             let mut pair = Pair::new(any_memory(&mut random, n), random.draw());
             let answer = pair.call(&Call::Replay(journal[..length].to_vec()));
@@ -79,7 +83,7 @@ fn each_wrong_tag_and_length() {
             if tag != 0x4E {
                 refused(&[tag, 2, 0], value, 13);
             }
-            if tag != 0x2B && tag != 0x2D {
+            if ![0x2B, 0x2D, 0x4B].contains(&tag) {
                 refused(&[tag, 4, 0], value, 14);
             }
         }
@@ -89,8 +93,52 @@ fn each_wrong_tag_and_length() {
                 refused(&[0x4E, low, high], value, 13);
             }
             if length != 4 {
-                refused(&[0x2B, low, high], value, 14);
-                refused(&[0x2D, low, high], value, 14);
+                for tag in [0x2B, 0x2D, 0x4B] {
+                    refused(&[tag, low, high], value, 14);
+                }
+            }
+        }
+    }
+}
+
+/// A K field of each rank, of a bank that is there or not, before the first edit and after it, whole or
+/// cut: 14, then 18, then 4.
+#[test]
+fn k_fields_of_every_rank_and_place() {
+    let mut random = Random::new(117);
+    let edit = |edit| Entry { edit, a: 0, b: 1 };
+    let (add, strike) = (edit(Edit::Add), edit(Edit::Strike));
+    let rank = Field::Rank { bank: 2, rank: 7 };
+    let before: [&[Field]; 4] = [
+        &[],
+        &[rank, rank],
+        &[Field::Edit(add)],
+        &[rank, Field::Edit(add), Field::Edit(strike)],
+    ];
+    let memory = any_memory(&mut random, 3);
+    let mut replayed = |journal: &[u8]| {
+        let mut pair = Pair::new(memory.clone(), random.draw());
+        let answer = pair.call(&Call::Replay(journal.to_vec()));
+        (answer.number, answer.results)
+    };
+    let edges = [0, 1, 255, 256, 9998, 9999, 10_000, 10_001, 16_384, 65_535];
+    let step = if quick() { 4000 } else { 37 };
+    for rank in (0..=65_535).step_by(step).chain(edges) {
+        for (place, fields) in before.iter().enumerate() {
+            let front = journal_of(3, fields);
+            for bank in [2, 3] {
+                let field = field_bytes(Field::Rank { bank, rank });
+                let number = match (rank, place, bank) {
+                    (10_000.., _, _) => 14,
+                    (_, 2 | 3, _) => 18,
+                    (_, _, 3) => 4,
+                    _ => 0,
+                };
+                let place = if number == 0 { 0 } else { fields.len() + 2 };
+                let whole = [&front[..], &field].concat();
+                assert_eq!(replayed(&whole), (number, vec![place, 0]));
+                let cut = [&front[..], &field[..3 + usize::from(rank % 4)]].concat();
+                assert_eq!(replayed(&cut), (0, vec![0, cut.len() - front.len()]));
             }
         }
     }
@@ -103,7 +151,7 @@ fn bank_counts() {
     for n in [0, 1, 5, 6, 255, 256, 1023, 1024, 1025, 1280, 65_535] {
         for room in [5, 1024] {
             let mut pair = Pair::new(any_memory(&mut random, room), random.draw());
-            let answer = pair.call(&Call::Replay(journal_of(n, &[])));
+            let answer = pair.call(&Call::Replay(journal_of::<Field>(n, &[])));
             let fits = pair.model.all_fit(n.into());
             let wanted = match n {
                 1025.. => (1, vec![1, 0]),
@@ -115,19 +163,19 @@ fn bank_counts() {
     }
 }
 
-/// The same edits by a journal and by a list leave the same, cell by cell.
+/// The same ranks and edits by a journal and by a list leave the same, cell by cell.
 #[test]
 fn the_list_of_the_same_edits() {
     let mut random = Random::new(115);
     for _ in 0..rounds(80) {
         let n = random.between(2, 60);
         let draws = random.below(300);
-        let entries = drawn_entries(&mut random, n, 20, draws);
+        let fields = drawn_fields(&mut random, n, 20, draws);
         let memory = any_memory(&mut random, n);
         let mut by_journal = Pair::new(memory.clone(), random.draw());
         let mut by_list = Pair::new(memory, random.draw());
-        let journal = journal_of(n as u16, &entries);
-        let list = same_list(n as u16, &entries);
+        let journal = journal_of(n as u16, &fields);
+        let list = same_list(n as u16, &fields);
         assert_eq!(by_journal.call(&Call::Replay(journal)).number, 0);
         assert_eq!(by_list.call(&Call::ReadList(list)).number, 0);
         assert!(by_journal.model == by_list.model);
@@ -144,7 +192,8 @@ fn long_journals() {
     let mut journal = journal_of(9, &entries);
     if !quick() {
         journal.truncate(60_000);
-        let answer = replay(&mut random, &journal);
+        let mut pair = Pair::new(any_memory(&mut random, 9), random.draw());
+        let answer = pair.call(&Call::Replay(journal.clone()));
         assert_eq!((answer.number, answer.results), (0, vec![0, 5]));
     }
     for length in [60_001, 60_002, 65_536, 131_077] {

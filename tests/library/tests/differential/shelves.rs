@@ -9,7 +9,7 @@ use crate::plans::{any_memory, bank_count, graph, memory_of, shelf_of};
 use crate::{quick, rounds};
 use independent::graph::Graph;
 use independent::journal::{journal_of, Entry};
-use independent::journals::{drawn_entries, same_list};
+use independent::journals::{drawn_fields, same_list};
 use independent::plan::MAX_BANKS;
 use independent::random::Random;
 use independent::reach::Edit;
@@ -102,10 +102,10 @@ impl Day {
             0 => random.below(self.room + 1),
             _ => old,
         };
-        let entries = drawn_entries(random, n, 12, 40);
+        let fields = drawn_fields(random, n, 12, 40);
         let call = match random.below(2) {
-            0 => Call::ReadList(same_list(n as u16, &entries)),
-            _ => Call::Replay(journal_of(n as u16, &entries)),
+            0 => Call::ReadList(same_list(n as u16, &fields)),
+            _ => Call::Replay(journal_of(n as u16, &fields)),
         };
         assert_eq!(self.pair.call(&call).number, 0);
         seen.passes += 1;

@@ -1,12 +1,12 @@
 //! Tally slices of fewer than three cells and result slices of fewer than the call needs: 2 before
-//! any other number, and nothing changes.
+//! any other number, and nothing changes. And ranks that are a cell short.
 
 use crate::call::Call;
 use crate::guarded::{assert_same, Guarded, Slices};
-use crate::pair::tally_cells;
-use crate::plans::{memory_of, shelf_of};
+use crate::pair::{tally_cells, Pair};
+use crate::plans::{graph, memory_of, shelf_of, slices, RANKS};
 use independent::graph::Graph;
-use independent::journal::{journal_of, Entry};
+use independent::journal::{journal_of, Entry, Field};
 use independent::memory::Memory;
 use independent::random::Random;
 use independent::reach::Edit;
@@ -25,7 +25,7 @@ fn short_tally_or_result() {
     no_room.degrees.clear();
     let entry = |edit| Entry { edit, a: 0, b: 2 };
     let (add, strike) = (entry(Edit::Add), entry(Edit::Strike));
-    let mut journal = journal_of(4, &[]);
+    let mut journal = journal_of::<Field>(4, &[]);
     journal.resize(20, b'#');
     let calls = [
         (Call::Open(4), 0),
@@ -67,6 +67,47 @@ fn short_tally_or_result() {
                         refused(memory, &shelf, call, tally, result);
                     }
                 }
+            }
+        }
+    }
+}
+
+/// Each call that is lent the ranks, in memory that holds a plan up to the last rank: 2 if this one is
+/// not there, else what the call gives.
+#[test]
+fn ranks_a_cell_short() {
+    let mut random = Random::new(97);
+    for n in [1, 2, 5, 30, 1024] {
+        let graph = graph(&mut random, n);
+        let whole = memory_of(&mut random, &graph);
+        let shelf = shelf_of(&mut random, n, [None, Some(&graph), None]);
+        let journal = journal_of::<Field>(n as u16, &[]);
+        let slice = [&journal[..], &[b'#'; 7]].concat();
+        let entry = |edit| Entry { edit, a: 0, b: 0 };
+        for (call, number) in [
+            (Call::Open(n as u16), 0),
+            (Call::Add(0, 0), 5),
+            (Call::Strike(0, 0), 5),
+            (Call::WaveOf(0), 0),
+            (Call::ClashesOf(0), 0),
+            (Call::ReadList(format!("N {n}").into_bytes()), 0),
+            (Call::WriteSheet(5000), 0),
+            (Call::WritePoster(8200), 0),
+            (Call::StartJournal(vec![b'#'; 100_000]), 0),
+            (Call::Record(entry(Edit::Add), slice.clone(), 5), 5),
+            (Call::Record(entry(Edit::Strike), slice, 5), 5),
+            (Call::Replay(journal), 0),
+            (Call::Keep(b"CLOSE   ".to_vec()), 0),
+            (Call::ComeBack(b"NOON    ".to_vec()), 0),
+        ] {
+            for short in [true, false] {
+                let mut memory = whole.clone();
+                slices(&mut memory)[RANKS].truncate(n - usize::from(short));
+                let mut pair = Pair::with_shelf(memory, shelf.clone(), random.draw());
+                let got = pair.call(&call).number;
+                let full = matches!(call, Call::StartJournal(_)) && got == 15;
+                let wanted = if short { 2 } else { number };
+                assert!(got == wanted || (full && !short), "{call}: {got}");
             }
         }
     }

@@ -28,8 +28,8 @@ clashes-of-requires c κs = search needs
 row-start-requires : tie.Need-row-start-requires
 row-start-requires c κs = λ none. bank-small _ _ _ (sym (c .before .wave-of .ensures .0) ∙ none)
 
-cast-t21 : tie.Need-cast-t21
-cast-t21 c = omega (arith, few-clashes _ _ _ _ (c .before .before .clashes-of .ensures))
+cast-t22 : tie.Need-cast-t22
+cast-t22 c = omega (arith, few-clashes _ _ _ _ (c .before .before .clashes-of .ensures))
 
 slice-aggregate-put-front : tie.Need-slice-aggregate-put-front
 slice-aggregate-put-front c = search needs
@@ -61,7 +61,7 @@ clashes-of-in-spec =
     wave-of-requires
     clashes-of-requires
     row-start-requires
-    cast-t21
+    cast-t22
     slice-aggregate-put-front
     put-front-requires
     same-length

@@ -37,11 +37,14 @@ same-length-4 c = search needs
 same-length-5 : tie.Need-same-length-5
 same-length-5 c = search needs
 
+same-length-6 : tie.Need-same-length-6
+same-length-6 c = search needs
+
 returns-2 : tie.Need-returns-2
 returns-2 c =
     let put = c .before .before in
-    let core = put .before .before .before .before .before .before .before .before .before .before in
-    let read = core .before .before .before .before .before in
+    let core = put .before .before .before .before .before .before .before .before .before .before .before .before in
+    let read = core .before .before .before .before .before .before in
     let test = read .before .before in
     open-done _ _ _ (test .before .room .ensures .0) _ _ _ _ (test .if1 .left) (read .tally-in .ensures) (core .open-core .ensures) (put .put-tally .ensures)
 
@@ -59,4 +62,5 @@ open-in-spec =
     same-length-3
     same-length-4
     same-length-5
+    same-length-6
     returns-2)

@@ -1,5 +1,6 @@
 -- `come_back_in` meets its contract: the core's return, its tally and its count put into their cells.
 use borrow.Author.Needs.{needs}
+use native.Mathlib.Omega.{arith}
 use Rattle.c_cells.proofs.Rooms.{roomed-some}
 use Rattle.c_calls.specs.Shelves.{comeBackCall}
 use Rattle.c_calls.proofs.Done.{back-done}
@@ -23,7 +24,9 @@ slice-aggregate-put-answer : tie.Need-slice-aggregate-put-answer
 slice-aggregate-put-answer c = search needs
 
 put-answer-requires : tie.Need-put-answer-requires
-put-answer-requires c κs = search needs
+put-answer-requires c κs =
+    let core = c .before .before .before .before .before .before .before .before .before .before .before .before .before .before .before in
+    omega (arith, core .before .before .before .before .before .before .before .before .before)
 
 same-length : tie.Need-same-length
 same-length c = search needs
@@ -46,11 +49,14 @@ same-length-6 c = search needs
 same-length-7 : tie.Need-same-length-7
 same-length-7 c = search needs
 
+same-length-8 : tie.Need-same-length-8
+same-length-8 c = search needs
+
 returns-2 : tie.Need-returns-2
 returns-2 c =
     let put = c .before .before .before .before in
-    let core = put .before .before .before .before .before .before .before .before .before .before .before .before .before .before in
-    let read = core .before .before .before .before .before .before in
+    let core = put .before .before .before .before .before .before .before .before .before .before .before .before .before .before .before .before in
+    let read = core .before .before .before .before .before .before .before in
     let test = read .before .before in
     back-done _ _ _ _ _ _ (read .tally-in .ensures) (test .if1 .left) _ _ _ _ _ (test .before .room .ensures .0) (core .come-back-core .ensures)
     (put .put-answer .ensures .0) (put .put-answer .ensures .1)
@@ -72,4 +78,5 @@ come-back-in-spec =
     same-length-5
     same-length-6
     same-length-7
+    same-length-8
     returns-2)

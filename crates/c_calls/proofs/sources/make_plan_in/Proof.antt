@@ -32,12 +32,16 @@ part-put-answer-start : tie.Need-part-put-answer-start
 part-put-answer-start c = search needs
 
 part-put-answer-end : tie.Need-part-put-answer-end
-part-put-answer-end c = search needs
+part-put-answer-end c =
+    let core = c .before .before .before .before .before .before .before .before .before .before .before .before .before .before .before .before .before in
+    let test = core .before .before .before .before .before .before .before .before .before .before in
+    let long = long-result _ _ _ _ (test .before .room .ensures .0) (test .if1 .left) in
+    omega (arith, long)
 
 put-answer-requires : tie.Need-put-answer-requires
 put-answer-requires c κs =
     let test = c .before .before .before .before .before .before .before .before .before .before .before .before .before .before .before .before .before .before .before .before .before .before .before
-    .before .before in
+    .before .before .before .before .before in
     let room = test .before .room in
     let long = long-result _ _ _ _ (room .ensures .0) (test .if1 .left) in
     (omega (arith, test .if1, room), rw length-take (omega (arith, long)))
@@ -66,11 +70,14 @@ same-length-7 c = search needs
 same-length-8 : tie.Need-same-length-8
 same-length-8 c = search needs
 
+same-length-9 : tie.Need-same-length-9
+same-length-9 c = search needs
+
 returns-2 : tie.Need-returns-2
 returns-2 c =
     let put = c .before .before .before .before in
-    let core = put .before .before .before .before .before .before .before .before .before .before .before .before .before .before .before .before .before in
-    let read = core .before .before .before .before .before .before .before in
+    let core = put .before .before .before .before .before .before .before .before .before .before .before .before .before .before .before .before .before .before .before in
+    let read = core .before .before .before .before .before .before .before .before in
     let test = read .before .before in
     let room = test .before in
     source-done _ _ _ _ _ (room .before .results-of .ensures .0) (room .room .ensures .0) _ _ _ _ _ _ _
@@ -97,4 +104,5 @@ make-plan-in-spec =
     same-length-6
     same-length-7
     same-length-8
+    same-length-9
     returns-2)

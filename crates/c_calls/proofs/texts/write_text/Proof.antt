@@ -18,8 +18,8 @@ enum-told c = search needs
 write-sheet-requires : tie.Need-write-sheet-requires
 write-sheet-requires c κs = search needs
 
-cast-t14 : tie.Need-cast-t14
-cast-t14 c = omega (arith, answer-most sheet _ _ _ 4067 sheet-fits _ _ (c .before .before .before .write-sheet .ensures))
+cast-t15 : tie.Need-cast-t15
+cast-t15 c = omega (arith, answer-most sheet _ _ _ 4067 sheet-fits _ _ (c .before .before .before .write-sheet .ensures))
 
 enum-told-2 : tie.Need-enum-told-2
 enum-told-2 c = search needs
@@ -27,8 +27,8 @@ enum-told-2 c = search needs
 write-poster-requires : tie.Need-write-poster-requires
 write-poster-requires c κs = search needs
 
-cast-t17 : tie.Need-cast-t17
-cast-t17 c = omega (arith, answer-most poster _ _ _ 8200 poster-fits _ _ (c .before .before .before .write-poster .ensures))
+cast-t18 : tie.Need-cast-t18
+cast-t18 c = omega (arith, answer-most poster _ _ _ 8200 poster-fits _ _ (c .before .before .before .write-poster .ensures))
 
 enum-told-3 : tie.Need-enum-told-3
 enum-told-3 c = search needs
@@ -66,10 +66,10 @@ write-text-spec =
     (tie.spec
     enum-told
     write-sheet-requires
-    cast-t14
+    cast-t15
     enum-told-2
     write-poster-requires
-    cast-t17
+    cast-t18
     enum-told-3
     start-journal-requires
     same-length

@@ -13,8 +13,8 @@ wide-requires c κs = search needs
 
 returns : tie.Need-returns
 returns c =
-    let at1 = c .before .before .before .before .before .before .before .before .before in
-    let s = slicesGiven (at1 .args .neighbours) (at1 .args .degrees) (at1 .args .waves) (at1 .args .counts) in
+    let at1 = c .before .before .before .before .before .before .before .before .before .before in
+    let s = slicesGiven (at1 .args .neighbours) (at1 .args .degrees) (at1 .args .waves) (at1 .args .counts) (at1 .args .ranks) in
     let t = at1 .args .tally in
     let moved = at1 .args .moved .now in
     let name = at1 .args .name .now in
@@ -23,8 +23,8 @@ returns c =
 
 returns-2 : tie.Need-returns-2
 returns-2 c =
-    let at1 = c .before .before .before .before .before .before .before .before .before .before in
-    let s = slicesGiven (at1 .args .neighbours) (at1 .args .degrees) (at1 .args .waves) (at1 .args .counts) in
+    let at1 = c .before .before .before .before .before .before .before .before .before .before .before in
+    let s = slicesGiven (at1 .args .neighbours) (at1 .args .degrees) (at1 .args .waves) (at1 .args .counts) (at1 .args .ranks) in
     let t = at1 .args .tally in
     let moved = at1 .args .moved .now in
     let name = at1 .args .name .now in
@@ -36,8 +36,8 @@ check-keep-requires c κs = search needs
 
 returns-3 : tie.Need-returns-3
 returns-3 c =
-    let at1 = c .before .before .before .before .before .before .before .before .before .before .before .before in
-    let s = slicesGiven (at1 .args .neighbours) (at1 .args .degrees) (at1 .args .waves) (at1 .args .counts) in
+    let at1 = c .before .before .before .before .before .before .before .before .before .before .before .before .before in
+    let s = slicesGiven (at1 .args .neighbours) (at1 .args .degrees) (at1 .args .waves) (at1 .args .counts) (at1 .args .ranks) in
     let t = at1 .args .tally in
     let moved = at1 .args .moved .now in
     let name = at1 .args .name .now in
@@ -90,8 +90,8 @@ returns-4 c =
     let p2 = p1 .before in
     let p3 = p2 .before in
     let p4 = p3 .before in
-    let at1 = p4 .before .before .before .before .before .before .before .before .before .before .before in
-    let s = slicesGiven (at1 .args .neighbours) (at1 .args .degrees) (at1 .args .waves) (at1 .args .counts) in
+    let at1 = p4 .before .before .before .before .before .before .before .before .before .before .before .before in
+    let s = slicesGiven (at1 .args .neighbours) (at1 .args .degrees) (at1 .args .waves) (at1 .args .counts) (at1 .args .ranks) in
     let t = at1 .args .tally in
     let moved = at1 .args .moved .now in
     let name = at1 .args .name .now in
@@ -107,8 +107,8 @@ returns-5 c =
     let p2 = p1 .before in
     let p3 = p2 .before in
     let p4 = p3 .before in
-    let at1 = p4 .before .before .before .before .before .before .before .before .before .before .before in
-    let s = slicesGiven (at1 .args .neighbours) (at1 .args .degrees) (at1 .args .waves) (at1 .args .counts) in
+    let at1 = p4 .before .before .before .before .before .before .before .before .before .before .before .before in
+    let s = slicesGiven (at1 .args .neighbours) (at1 .args .degrees) (at1 .args .waves) (at1 .args .counts) (at1 .args .ranks) in
     let t = at1 .args .tally in
     let moved = at1 .args .moved .now in
     let name = at1 .args .name .now in

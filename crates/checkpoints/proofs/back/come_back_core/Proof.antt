@@ -29,6 +29,9 @@ same-length-4 c = search needs
 same-length-5 : tie.Need-same-length-5
 same-length-5 c = search needs
 
+same-length-6 : tie.Need-same-length-6
+same-length-6 c = search needs
+
 returns : tie.Need-returns
 returns c = back-refused _ _ _ _ _ _ (c .before .check-back .ensures .0) (c .if1 .taken)
 
@@ -63,7 +66,7 @@ add-end c =
 
 mul-return-to : tie.Need-mul-return-to
 mul-return-to c =
-    let p1 = c .before .before .before .before .before in
+    let p1 = c .before .before .before .before .before .before in
     let p2 = p1 .before in
     let p3 = p2 .before in
     let p4 = p3 .before in
@@ -82,7 +85,7 @@ part-return-to-start c = search needs
 
 part-return-to-end : tie.Need-part-return-to-end
 part-return-to-end c =
-    let p1 = c .before .before .before .before .before in
+    let p1 = c .before .before .before .before .before .before in
     let p2 = p1 .before in
     let p3 = p2 .before in
     let p4 = p3 .before in
@@ -95,12 +98,12 @@ part-return-to-end c =
 
 return-to-requires : tie.Need-return-to-requires
 return-to-requires c κs =
-    let p1 = c .before .before .before .before .before .before in
+    let p1 = c .before .before .before .before .before .before .before in
     let p2 = p1 .before in
     let p3 = p2 .before in
     let p4 = p3 .before in
     let p5 = p4 .before in
-    let p6 = p5 .before .before .before .before .before .before .before .before .before .before .before .before .before in
+    let p6 = p5 .before .before .before .before .before .before .before .before .before .before .before .before .before .before .before in
     let ready = p5 .check-back .ensures .1 (p4 .if1 .left) .0 in
     let i = p1 .wide .result in
     let size = p3 .place-size .result in
@@ -110,9 +113,6 @@ return-to-requires c κs =
     length-lent (i * size) (i * size + size) size (p6 .args .shelf .now) refl
     (omega (arith, room, ready .room, p3 .place-size .ensures)) in
     ((ready .few, part ∙ p3 .place-size .ensures, all .1), ready .long)
-
-same-length-6 : tie.Need-same-length-6
-same-length-6 c = search needs
 
 same-length-7 : tie.Need-same-length-7
 same-length-7 c = search needs
@@ -126,16 +126,22 @@ same-length-9 c = search needs
 same-length-10 : tie.Need-same-length-10
 same-length-10 c = search needs
 
+same-length-11 : tie.Need-same-length-11
+same-length-11 c = search needs
+
+same-length-12 : tie.Need-same-length-12
+same-length-12 c = search needs
+
 returns-2 : tie.Need-returns-2
 returns-2 c =
-    let p1 = c .before .before .before .before .before .before .before .before .before .before in
-    let p2 = p1 .before .before .before .before .before .before .before in
+    let p1 = c .before .before .before .before .before .before .before .before .before .before .before .before in
+    let p2 = p1 .before .before .before .before .before .before .before .before in
     let p3 = p2 .before in
     let p4 = p3 .before in
     let p5 = p4 .before in
     let p6 = p5 .before in
-    let at1 = p6 .before .before .before .before .before .before .before .before .before .before .before .before .before in
-    let s = slicesGiven (at1 .args .neighbours) (at1 .args .degrees) (at1 .args .waves) (at1 .args .counts) in
+    let at1 = p6 .before .before .before .before .before .before .before .before .before .before .before .before .before .before .before in
+    let s = slicesGiven (at1 .args .neighbours) (at1 .args .degrees) (at1 .args .waves) (at1 .args .counts) (at1 .args .ranks) in
     let t = at1 .args .tally in
     let moved = at1 .args .moved .now in
     let name = at1 .args .name .now in
@@ -157,6 +163,7 @@ come-back-core-spec =
     same-length-3
     same-length-4
     same-length-5
+    same-length-6
     returns
     place-size-requires
     place-of-requires
@@ -168,9 +175,10 @@ come-back-core-spec =
     part-return-to-start
     part-return-to-end
     return-to-requires
-    same-length-6
     same-length-7
     same-length-8
     same-length-9
     same-length-10
+    same-length-11
+    same-length-12
     returns-2)

@@ -39,7 +39,7 @@ part-list-moved-end c = search needs
 list-moved-requires : tie.Need-list-moved-requires
 list-moved-requires c κs =
     let p1 = c .before .before .before in
-    let at1 = p1 .before .before .before .before .before .before .before in
+    let at1 = p1 .before .before .before .before .before .before .before .before in
     let n = p1 .wide .result in
     let is-n = p1 .wide .ensures in
     let l = long (at1 .args .banks) _ (at1 .pre .1) in
@@ -48,8 +48,8 @@ list-moved-requires c κs =
 
 bring-back-requires : tie.Need-bring-back-requires
 bring-back-requires c κs =
-    let p1 = c .before .before .before .before .before .before .before .before .before .before in
-    let at1 = p1 .before .before .before .before .before .before .before in
+    let p1 = c .before .before .before .before .before .before .before .before .before .before .before in
+    let at1 = p1 .before .before .before .before .before .before .before .before in
     let is-n = p1 .wide .ensures in
     (omega (arith, at1 .pre .0 .1, is-n), (omega (arith, at1 .pre .0 .0, is-n), rw is-n (at1 .pre .1)))
 
@@ -71,17 +71,20 @@ same-length-4 c = search needs
 same-length-5 : tie.Need-same-length-5
 same-length-5 c = search needs
 
+same-length-6 : tie.Need-same-length-6
+same-length-6 c = search needs
+
 returns : tie.Need-returns
 returns c =
-    let p1 = c .before .before .before .before .before .before .before .before .before in
-    let p2 = p1 .before .before .before .before .before .before .before in
+    let p1 = c .before .before .before .before .before .before .before .before .before .before .before in
+    let p2 = p1 .before .before .before .before .before .before .before .before in
     let p3 = p2 .before .before .before .before in
-    let at1 = p3 .before .before .before .before .before .before .before in
+    let at1 = p3 .before .before .before .before .before .before .before .before in
     let n = p3 .wide .result in
     let is-n = p3 .wide .ensures in
     let banks = at1 .args .banks in
     let cells = at1 .args .place .now in
-    let s = slicesGiven (at1 .args .neighbours) (at1 .args .degrees) (at1 .args .waves) (at1 .args .counts) in
+    let s = slicesGiven (at1 .args .neighbours) (at1 .args .degrees) (at1 .args .waves) (at1 .args .counts) (at1 .args .ranks) in
     let waves = lent-waves banks cells s n (1 + n * 24) (1 + n * 24 + n) is-n (omega arith) (omega arith) in
     came banks cells s (at1 .args .moved .now) _ _ _ _ (rw waves at (p2 .list-moved .ensures)) (rw is-n at (p1 .bring-back .ensures))
     (rw is-n at (c .tally-in .ensures))
@@ -107,4 +110,5 @@ return-to-spec =
     same-length-3
     same-length-4
     same-length-5
+    same-length-6
     returns)

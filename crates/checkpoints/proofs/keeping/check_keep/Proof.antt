@@ -13,8 +13,8 @@ check-shelf-requires c κs = search needs
 
 returns : tie.Need-returns
 returns c =
-    let at1 = c .before .before .before .before .before .before .before .before .args in
-    let s = slicesGiven (at1 .neighbours) (at1 .degrees) (at1 .waves) (at1 .counts) in
+    let at1 = c .before .before .before .before .before .before .before .before .before .args in
+    let s = slicesGiven (at1 .neighbours) (at1 .degrees) (at1 .waves) (at1 .counts) (at1 .ranks) in
     let t = at1 .tally in
     let name = at1 .name .now in
     let shelf = at1 .shelf .now in
@@ -25,8 +25,8 @@ check-plan-requires c κs = search needs
 
 returns-2 : tie.Need-returns-2
 returns-2 c =
-    let at1 = c .before .before .before .before .before .before .before .before .before .before .args in
-    let s = slicesGiven (at1 .neighbours) (at1 .degrees) (at1 .waves) (at1 .counts) in
+    let at1 = c .before .before .before .before .before .before .before .before .before .before .before .args in
+    let s = slicesGiven (at1 .neighbours) (at1 .degrees) (at1 .waves) (at1 .counts) (at1 .ranks) in
     let t = at1 .tally in
     let name = at1 .name .now in
     let shelf = at1 .shelf .now in
@@ -35,8 +35,8 @@ returns-2 c =
 
 shelf-right-requires : tie.Need-shelf-right-requires
 shelf-right-requires c κs =
-    let at1 = c .before .before .before .before .before .before .before .before .before .before .args in
-    let s = slicesGiven (at1 .neighbours) (at1 .degrees) (at1 .waves) (at1 .counts) in
+    let at1 = c .before .before .before .before .before .before .before .before .before .before .before .args in
+    let s = slicesGiven (at1 .neighbours) (at1 .degrees) (at1 .waves) (at1 .counts) (at1 .ranks) in
     let t = at1 .tally in
     let name = at1 .name .now in
     let shelf = at1 .shelf .now in
@@ -44,8 +44,8 @@ shelf-right-requires c κs =
 
 returns-3 : tie.Need-returns-3
 returns-3 c =
-    let at1 = c .before .before .before .before .before .before .before .before .before .before .before .before .args in
-    let s = slicesGiven (at1 .neighbours) (at1 .degrees) (at1 .waves) (at1 .counts) in
+    let at1 = c .before .before .before .before .before .before .before .before .before .before .before .before .before .args in
+    let s = slicesGiven (at1 .neighbours) (at1 .degrees) (at1 .waves) (at1 .counts) (at1 .ranks) in
     let t = at1 .tally in
     let name = at1 .name .now in
     let shelf = at1 .shelf .now in
@@ -58,8 +58,8 @@ place-of-requires c κs = search needs
 
 returns-4 : tie.Need-returns-4
 returns-4 c =
-    let at1 = c .before .before .before .before .before .before .before .before .before .before .before .before .before .before .args in
-    let s = slicesGiven (at1 .neighbours) (at1 .degrees) (at1 .waves) (at1 .counts) in
+    let at1 = c .before .before .before .before .before .before .before .before .before .before .before .before .before .before .before .args in
+    let s = slicesGiven (at1 .neighbours) (at1 .degrees) (at1 .waves) (at1 .counts) (at1 .ranks) in
     let t = at1 .tally in
     let name = at1 .name .now in
     let shelf = at1 .shelf .now in
@@ -71,8 +71,8 @@ returns-4 c =
 
 returns-5 : tie.Need-returns-5
 returns-5 c =
-    let at1 = c .before .before .before .before .before .before .before .before .before .before .before .before .before .before .args in
-    let s = slicesGiven (at1 .neighbours) (at1 .degrees) (at1 .waves) (at1 .counts) in
+    let at1 = c .before .before .before .before .before .before .before .before .before .before .before .before .before .before .before .args in
+    let s = slicesGiven (at1 .neighbours) (at1 .degrees) (at1 .waves) (at1 .counts) (at1 .ranks) in
     let t = at1 .tally in
     let name = at1 .name .now in
     let shelf = at1 .shelf .now in

@@ -22,7 +22,7 @@ mul-put-cells c = search needs
 
 put-cells-requires-2 : tie.Need-put-cells-requires-2
 put-cells-requires-2 c κs =
-    let at1 = c .before .before .before .before .before .before .before .before .before .before .before .before in
+    let at1 = c .before .before .before .before .before .before .before .before .before .before .before .before .before in
     let l = long (at1 .args .tally .banks) _ (at1 .pre .1) in (
       omega (arith, l .neighbours, c .before .before .before .before .before .before .wide .ensures),
       omega (arith, at1 .pre .0),
@@ -30,7 +30,7 @@ put-cells-requires-2 c κs =
 
 put-cells-requires-3 : tie.Need-put-cells-requires-3
 put-cells-requires-3 c κs =
-    let at1 = c .before .before .before .before .before .before .before .before .before .before .before .before .before .before .before .before in
+    let at1 = c .before .before .before .before .before .before .before .before .before .before .before .before .before .before .before .before .before in
     let l = long (at1 .args .tally .banks) _ (at1 .pre .1) in (
       omega (arith, l .degrees, c .before .before .before .before .before .before .before .before .before .before .wide .ensures),
       omega (arith, at1 .pre .0),
@@ -38,7 +38,7 @@ put-cells-requires-3 c κs =
 
 put-cells-requires-4 : tie.Need-put-cells-requires-4
 put-cells-requires-4 c κs =
-    let at1 = c .before .before .before .before .before .before .before .before .before .before .before .before .before .before .before .before .before .before .before .before in
+    let at1 = c .before .before .before .before .before .before .before .before .before .before .before .before .before .before .before .before .before .before .before .before .before in
     let l = long (at1 .args .tally .banks) _ (at1 .pre .1) in (
       omega (arith, l .waves, c .before .before .before .before .before .before .before .before .before .before .before .before .before .before .wide .ensures),
       omega (arith, at1 .pre .0),
@@ -49,26 +49,26 @@ mul-put-cells-2 c = search needs
 
 put-cells-requires-5 : tie.Need-put-cells-requires-5
 put-cells-requires-5 c κs =
-    let counts = c .before .before .before in
-    let waves = counts .before .before .before .before in
+    let waves = c .before .before .before in
     let degrees = waves .before .before .before .before in
     let rows = degrees .before .before .before .before in
-    let told = rows .before .before .before in
-    let at1 = told .before .before .before .before .before .before in
+    let used = rows .before .before .before .before in
+    let told = used .before .before .before in
+    let at1 = told .before .before .before .before .before .before .before in
     let l = long (at1 .args .tally .banks) _ (at1 .pre .1) in (
       omega (arith, l .counts, told .wide .ensures),
       omega (
         arith,
         at1 .pre .0,
         told .wide .ensures,
-        rows .put-cells .ensures .next,
-        degrees .put-cells2 .ensures .next,
-        waves .put-cells3 .ensures .next,
-        counts .put-cells4 .ensures .next,
-        rows .put-cells .kept .0,
-        degrees .put-cells2 .kept .0,
-        waves .put-cells3 .kept .0,
-        counts .put-cells4 .kept .0,
+        used .put-cells .ensures .next,
+        rows .put-cells2 .ensures .next,
+        degrees .put-cells3 .ensures .next,
+        waves .put-cells4 .ensures .next,
+        used .put-cells .kept .0,
+        rows .put-cells2 .kept .0,
+        degrees .put-cells3 .kept .0,
+        waves .put-cells4 .kept .0,
       ),
     )
 
@@ -78,25 +78,58 @@ slice-aggregate-put-cells-2 c = search needs
 put-cells-requires-6 : tie.Need-put-cells-requires-6
 put-cells-requires-6 c κs = search needs
 
+put-cells-requires-7 : tie.Need-put-cells-requires-7
+put-cells-requires-7 c κs =
+    let tallied = c .before .before .before in
+    let counts = tallied .before .before .before .before .before in
+    let waves = counts .before .before .before .before in
+    let degrees = waves .before .before .before .before in
+    let rows = degrees .before .before .before .before in
+    let used = rows .before .before .before .before in
+    let told = used .before .before .before in
+    let at1 = told .before .before .before .before .before .before .before in
+    let l = long (at1 .args .tally .banks) _ (at1 .pre .1) in (
+      omega (arith, l .ranks, told .wide .ensures),
+      omega (
+        arith,
+        at1 .pre .0,
+        told .wide .ensures,
+        used .put-cells .ensures .next,
+        rows .put-cells2 .ensures .next,
+        degrees .put-cells3 .ensures .next,
+        waves .put-cells4 .ensures .next,
+        counts .put-cells5 .ensures .next,
+        tallied .put-cells6 .ensures .next,
+        used .put-cells .kept .0,
+        rows .put-cells2 .kept .0,
+        degrees .put-cells3 .kept .0,
+        waves .put-cells4 .kept .0,
+        counts .put-cells5 .kept .0,
+        tallied .put-cells6 .kept .0,
+      ),
+    )
+
 same-length : tie.Need-same-length
 same-length c = search needs
 
 returns : tie.Need-returns
 returns c =
-    let p1 = c .before .before .before .before .before .before .before in
-    let p2 = p1 .before .before .before .before in
-    let p3 = p2 .before .before .before .before in
-    let p4 = p3 .before .before .before .before in
-    let p5 = p4 .before .before .before .before in
-    let p6 = p5 .before .before .before in
-    let at1 = p6 .before .before .before .before .before .before in
-    let n = p6 .wide .result in
-    let is-n = p6 .wide .ensures in
-    let s = slicesGiven (at1 .args .neighbours) (at1 .args .degrees) (at1 .args .waves) (at1 .args .counts) in
+    let tallied = c .before .before .before .before .before .before in
+    let counts = tallied .before .before .before .before .before in
+    let waves = counts .before .before .before .before in
+    let degrees = waves .before .before .before .before in
+    let rows = degrees .before .before .before .before in
+    let used = rows .before .before .before .before in
+    let told = used .before .before .before in
+    let at1 = told .before .before .before .before .before .before .before in
+    let n = told .wide .result in
+    let is-n = told .wide .ensures in
+    let s = slicesGiven (at1 .args .neighbours) (at1 .args .degrees) (at1 .args .waves) (at1 .args .counts) (at1 .args .ranks) in
     let l = long (at1 .args .tally .banks) s (at1 .pre .1) in
-    plan-put s (at1 .args .tally) l (at1 .args .at) (at1 .args .shelf .now) (at1 .pre .0) (n * 23) n (n * 24) _ _ _ _ _ _ _ _ _ _ _ _
-    (omega (arith, is-n)) is-n (omega (arith, is-n)) (p5 .put-cells .ensures) (p4 .put-cells2 .ensures)
-    (p3 .put-cells3 .ensures) (p2 .put-cells4 .ensures) (p1 .put-cells5 .ensures) (c .before .before .put-cells6 .ensures)
+    plan-put s (at1 .args .tally) l (at1 .args .at) (at1 .args .shelf .now) (at1 .pre .0) (n * 23) n (n * 24) _ _ _ _ _ _ _ _ _ _ _ _ _ _
+    (omega (arith, is-n)) is-n (omega (arith, is-n)) (used .put-cells .ensures) (rows .put-cells2 .ensures)
+    (degrees .put-cells3 .ensures) (waves .put-cells4 .ensures) (counts .put-cells5 .ensures) (tallied .put-cells6 .ensures)
+    (c .before .before .put-cells7 .ensures)
 
 pub put-plan-spec : {M : Type 1} → statement M
 put-plan-spec =
@@ -113,5 +146,6 @@ put-plan-spec =
     put-cells-requires-5
     slice-aggregate-put-cells-2
     put-cells-requires-6
+    put-cells-requires-7
     same-length
     returns)

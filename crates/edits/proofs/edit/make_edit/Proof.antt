@@ -10,21 +10,21 @@ use Rattle.edits.proofs.edit.make_edit.Statement.{statement}
 use Rattle.edits.proofs.edit.make_edit.Tie as tie
 
 count-after-requires : tie.Need-count-after-requires
-count-after-requires c κs = number-fits (c .before .before .before .before .before .before .pre .1)
+count-after-requires c κs = number-fits (c .before .before .before .before .before .before .before .pre .1)
 
 change-clash-requires : tie.Need-change-clash-requires
 change-clash-requires c κs =
-    let p = c .before .before .before .before .before .before .before .before .before .pre in
+    let p = c .before .before .before .before .before .before .before .before .before .before .pre in
     (p .0, rowed-before (p .1), p .1 .acceptable)
 
 propagate-requires : tie.Need-propagate-requires
 propagate-requires c κs =
     let at = c .before .before .before .before .before .before .before .before .before .before in
-    let start = at .before .before .before .before .before .before .before .before .before .before in
+    let start = at .before .before .before .before .before .before .before .before .before .before .before in
     let a = start .args in
     let ed = start .pre .1 in
     let rows = at .change-clash .ensures (start .pre .0) (rowed-before ed) (ed .acceptable) in (
-      originOf _ _ (given (a .neighbours) (a .degrees) (a .waves) (a .counts) (a .trail) (a .moved) (a .tally)),
+      originOf _ _ (given (a .neighbours) (a .degrees) (a .waves) (a .counts) (a .ranks) (a .trail) (a .moved) (a .tally)),
       changed-from ed rows (at .before .before .before .count-after .ensures ∙ clashes-after ed),
     )
 
@@ -50,10 +50,10 @@ returns : tie.Need-returns
 returns c =
     let done = c .before .before .before .before .before .before .before .before in
     let at = done .before .before .before .before .before .before .before .before .before .before .before in
-    let a = at .before .before .before .before .before .before .before .before .before .before .args in
+    let a = at .before .before .before .before .before .before .before .before .before .before .before .args in
     λ G ed.
     done .propagate .ensures
-    (originOf _ G (given (a .neighbours) (a .degrees) (a .waves) (a .counts) (a .trail) (a .moved) (a .tally)))
+    (originOf _ G (given (a .neighbours) (a .degrees) (a .waves) (a .counts) (a .ranks) (a .trail) (a .moved) (a .tally)))
     (changed-from ed (at .change-clash .ensures G (rowed-before ed) (ed .acceptable)) (at .before .before .before .count-after .ensures ∙ clashes-after ed))
 
 pub make-edit-spec : {M : Type 1} → statement M

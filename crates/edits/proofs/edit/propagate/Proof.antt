@@ -6,37 +6,37 @@ use Rattle.edits.proofs.edit.propagate.Statement.{statement}
 use Rattle.edits.proofs.edit.propagate.Tie as tie
 
 queue-seeds-requires : tie.Need-queue-seeds-requires
-queue-seeds-requires c κs = let pre = c .before .before .before .before .before .before .before .before .before .pre in (pre .0, seedable (pre .1))
+queue-seeds-requires c κs = let pre = c .before .before .before .before .before .before .before .before .before .before .pre in (pre .0, seedable (pre .1))
 
 settle-requires : tie.Need-settle-requires
 settle-requires c κs =
     let seeds = c .before .before .before .before .before .before .before in
-    let pre = seeds .before .before .before .before .before .before .before .before .before .before .pre in
+    let pre = seeds .before .before .before .before .before .before .before .before .before .before .before .pre in
     (_, working (pre .1) (seeds .queue-seeds .ensures (pre .0) (seedable (pre .1))))
 
 wave-count-requires : tie.Need-wave-count-requires
 wave-count-requires c κs =
     let done = c .before .before .before .before .before .before .before .before .before in
     let seeds = done .before .before .before .before .before .before .before .before in
-    let pre = seeds .before .before .before .before .before .before .before .before .before .before .pre in
+    let pre = seeds .before .before .before .before .before .before .before .before .before .before .before .pre in
     let ch = pre .1 in
     let st = done .settle .ensures _ (working ch (seeds .queue-seeds .ensures (pre .0) (seedable ch))) in
     (count-in ch st, waves-small ch st)
 
-cast-t34 : tie.Need-cast-t34
-cast-t34 c =
+cast-t35 : tie.Need-cast-t35
+cast-t35 c =
     let done = c .before .before .before .before .before .before .before .before .before .before .before in
     let seeds = done .before .before .before .before .before .before .before .before in
-    let pre = seeds .before .before .before .before .before .before .before .before .before .before .pre in
+    let pre = seeds .before .before .before .before .before .before .before .before .before .before .before .pre in
     let ch = pre .1 in
     let st = done .settle .ensures _ (working ch (seeds .queue-seeds .ensures (pre .0) (seedable ch))) in
     omega (arith, few-taken ch st, st .fewer)
 
-cast-t35 : tie.Need-cast-t35
-cast-t35 c =
+cast-t36 : tie.Need-cast-t36
+cast-t36 c =
     let done = c .before .before .before .before .before .before .before .before .before .before .before .before in
     let seeds = done .before .before .before .before .before .before .before .before in
-    let pre = seeds .before .before .before .before .before .before .before .before .before .before .pre in
+    let pre = seeds .before .before .before .before .before .before .before .before .before .before .before .pre in
     let ch = pre .1 in
     let st = done .settle .ensures _ (working ch (seeds .queue-seeds .ensures (pre .0) (seedable ch))) in
     omega (arith, few-taken ch st)
@@ -67,8 +67,8 @@ propagate-spec =
     queue-seeds-requires
     settle-requires
     wave-count-requires
-    cast-t34
     cast-t35
+    cast-t36
     same-length
     same-length-2
     same-length-3

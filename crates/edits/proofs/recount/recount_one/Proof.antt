@@ -35,9 +35,9 @@ same-length c = search needs
 returns : tie.Need-returns
 returns c =
     let count = c .before .before in
-    let start = count .before .before .before .before .before .before .before in
+    let start = count .before .before .before .before .before .before .before .before in
     let a = start .args in
-    part-back (a .counts .now) (count .count-earlier .last .1 .1 .1 .0) (a .b .0) _ (start .pre .1) (count .count-earlier .ensures)
+    part-back (a .counts .now) (count .count-earlier .last .1 .1 .1 .1 .0) (a .b .0) _ (start .pre .1) (count .count-earlier .ensures)
 
 pub recount-one-spec : {M : Type 1} → statement M
 recount-one-spec =

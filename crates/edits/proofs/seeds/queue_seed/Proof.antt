@@ -5,10 +5,10 @@ use Rattle.edits.proofs.seeds.queue_seed.Statement.{statement}
 use Rattle.edits.proofs.seeds.queue_seed.Tie as tie
 
 recount-one-requires : tie.Need-recount-one-requires
-recount-one-requires c κs = let p = c .before .before .before .before .before .pre in (v-countable (p .0 .2) (p .1), part-in (p .0 .2) (p .1))
+recount-one-requires c κs = let p = c .before .before .before .before .before .before .pre in (v-countable (p .0 .2) (p .1), part-in (p .0 .2) (p .1))
 
 enqueue-requires : tie.Need-enqueue-requires
-enqueue-requires c κs = let p = c .before .before .before .before .before .before .before .before .before .pre in (p .0 .0, enqueuable (p .0 .2) (p .1))
+enqueue-requires c κs = let p = c .before .before .before .before .before .before .before .before .before .before .pre in (p .0 .0, enqueuable (p .0 .2) (p .1))
 
 same-length : tie.Need-same-length
 same-length c = search needs
@@ -16,7 +16,7 @@ same-length c = search needs
 returns : tie.Need-returns
 returns c =
     let count = c .before .before .before .before in
-    let lt = count .before .before .before .before .before .before .pre .1 in
+    let lt = count .before .before .before .before .before .before .before .pre .1 in
     let one = count .recount-one in
     λ G was rc. seed-queued rc lt (one .kept .1 .1 .1 .0) (one .ensures) (c .enqueue .ensures G (enqueuable rc lt))
 

@@ -10,15 +10,15 @@ use Rattle.edits.proofs.seeds.queue_turned.Statement.{statement}
 use Rattle.edits.proofs.seeds.queue_turned.Tie as tie
 
 abbrev Inv-loop : tie.InvT-loop
-Inv-loop neighbours degrees waves counts₀ queue₀ banks b old at degree i₀ counts queue i =
+Inv-loop neighbours degrees waves counts₀ ranks queue₀ banks b old at degree i₀ counts queue i =
     (i ≤ degree)
     × (length counts ≡ length counts₀)
     × ((s : Search)
-    → Turning s (slicesOf neighbours degrees waves counts₀) queue₀ banks (b .0) old 0
-    → Turning s (slicesOf neighbours degrees waves counts) queue banks (b .0) old i)
+    → Turning s (slicesOf neighbours degrees waves counts₀ ranks) queue₀ banks (b .0) old 0
+    → Turning s (slicesOf neighbours degrees waves counts ranks) queue banks (b .0) old i)
 
 abbrev μ-loop : tie.MeasureT-loop
-μ-loop neighbours degrees waves counts₀ queue₀ banks b old at degree i₀ counts queue i = degree - i
+μ-loop neighbours degrees waves counts₀ ranks queue₀ banks b old at degree i₀ counts queue i = degree - i
 
 cast-at : tie.Need-cast-at Inv-loop μ-loop
 cast-at c = omega arith
@@ -27,10 +27,10 @@ mul-degree : tie.Need-mul-degree Inv-loop μ-loop
 mul-degree c = omega arith
 
 shared-slice-read-degree : tie.Need-shared-slice-read-degree Inv-loop μ-loop
-shared-slice-read-degree c = y-inside (c .before .before .before .before .before .before .pre .1)
+shared-slice-read-degree c = y-inside (c .before .before .before .before .before .before .before .pre .1)
 
 cast-degree : tie.Need-cast-degree Inv-loop μ-loop
-cast-degree c = omega (arith, y-small (c .before .before .before .before .before .before .pre .1))
+cast-degree c = omega (arith, y-small (c .before .before .before .before .before .before .before .pre .1))
 
 loop-holds : tie.Need-loop-holds Inv-loop μ-loop
 loop-holds c = (omega arith, refl, λ s tn. tn)
@@ -38,11 +38,11 @@ loop-holds c = (omega arith, refl, λ s tn. tn)
 queue-turned-one-requires : tie.Need-queue-turned-one-requires Inv-loop μ-loop
 queue-turned-one-requires c κs =
     let loop = c .before .before .before in
-    let pre = loop .before .before .before .before .before .before .before .pre in
+    let pre = loop .before .before .before .before .before .before .before .before .pre in
     ((pre .0, loop .loop .inv .2 (pre .0) (pre .1)), c .before .before .loop-test .taken)
 
 add-i : tie.Need-add-i Inv-loop μ-loop
-add-i c = let test = c .before .before .before .before .before in omega (arith, y-small (test .before .before .before .before .before .before .before .before .pre .1), test .loop-test .taken)
+add-i c = let test = c .before .before .before .before .before in omega (arith, y-small (test .before .before .before .before .before .before .before .before .before .pre .1), test .loop-test .taken)
 
 loop-less : tie.Need-loop-less Inv-loop μ-loop
 loop-less c = omega arith
@@ -59,7 +59,7 @@ same-length c = c .before .loop .inv .1
 returns : tie.Need-returns Inv-loop μ-loop
 returns c =
     let loop = c .before .loop in
-    let a = c .before .before .before .before .before .before .before .before .args in
+    let a = c .before .before .before .before .before .before .before .before .before .args in
     let e : loop .i ≡ getD (a .degrees .now) (a .b .0) 0 = omega (arith, loop .inv .0, c .loop-test .left) in
     λ s tn. rw e at (loop .inv .2 s tn)
 

@@ -13,17 +13,17 @@ use Rattle.journal.proofs.start.count_adds.Statement.{statement}
 use Rattle.journal.proofs.start.count_adds.Tie as tie
 
 abbrev Inv-loop : tie.InvT-loop
-Inv-loop neighbours degrees waves counts tally count₀ a₀ count a =
-    ((G : Graph) → PlanOf G (slicesOf neighbours degrees waves counts) tally → count ≡ length (addsBelow G a)) × (count ≤ 23 * a) × (a ≤ tally .banks)
+Inv-loop neighbours degrees waves counts ranks tally count₀ a₀ count a =
+    ((G : Graph) → PlanOf G (slicesOf neighbours degrees waves counts ranks) tally → count ≡ length (addsBelow G a)) × (count ≤ 23 * a) × (a ≤ tally .banks)
 
 abbrev μ-loop : tie.MeasureT-loop
-μ-loop neighbours degrees waves counts tally count₀ a₀ count a = tally .banks - a
+μ-loop neighbours degrees waves counts ranks tally count₀ a₀ count a = tally .banks - a
 
 loop-holds : tie.Need-loop-holds Inv-loop μ-loop
 loop-holds c = (λ G p. ap length (sym (below-none G)), omega arith, omega arith)
 
 clashes-held-requires : tie.Need-clashes-held-requires Inv-loop μ-loop
-clashes-held-requires c κs = (c .before .before .before .before .before .before .before .pre, c .if1 .taken)
+clashes-held-requires c κs = (c .before .before .before .before .before .before .before .before .pre, c .if1 .taken)
 
 count-larger-requires : tie.Need-count-larger-requires Inv-loop μ-loop
 count-larger-requires c κs = search needs
@@ -32,7 +32,7 @@ add-count : tie.Need-add-count Inv-loop μ-loop
 add-count c =
     let row = c .before in
     let at = row .before .before .before in
-    let p = at .before .before .before .before .before .pre in
+    let p = at .before .before .before .before .before .before .pre in
     let few = row-few (p .0) _ _ (p .1) (at .loop .a) (row .before .if1 .taken) in
     omega (
       arith,
@@ -53,7 +53,7 @@ loop-again : tie.Need-loop-again Inv-loop μ-loop
 loop-again c =
     let row = c .before in
     let at = row .before .before .before in
-    let p = at .before .before .before .before .before .pre in
+    let p = at .before .before .before .before .before .before .pre in
     let w = at .loop in
     let n = c .count-larger .ensures in
     let few = row-few (p .0) _ _ (p .1) (w .a) (row .before .if1 .taken) in (

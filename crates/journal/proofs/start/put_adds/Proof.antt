@@ -15,26 +15,26 @@ use Rattle.journal.proofs.start.put_adds.Statement.{statement}
 use Rattle.journal.proofs.start.put_adds.Tie as tie
 
 abbrev Inv-loop : tie.InvT-loop
-Inv-loop journal₀ at neighbours degrees waves counts tally next₀ a₀ journal next a =
-    ((G : Graph) → PlanOf G (slicesOf neighbours degrees waves counts) tally → at + length (entriesBytes (addsBelow G (G .banks))) ≤ length journal₀
+Inv-loop journal₀ at neighbours degrees waves counts ranks tally next₀ a₀ journal next a =
+    ((G : Graph) → PlanOf G (slicesOf neighbours degrees waves counts ranks) tally → at + length (entriesBytes (addsBelow G (G .banks))) ≤ length journal₀
     → Puts (entriesBytes (addsBelow G a)) at journal₀ next journal)
     × (a ≤ tally .banks)
     × (length journal ≡ length journal₀)
 
 abbrev μ-loop : tie.MeasureT-loop
-μ-loop journal₀ at neighbours degrees waves counts tally next₀ a₀ journal next a = tally .banks - a
+μ-loop journal₀ at neighbours degrees waves counts ranks tally next₀ a₀ journal next a = tally .banks - a
 
 loop-holds : tie.Need-loop-holds Inv-loop μ-loop
 loop-holds c = (λ G p r. rw (below-empty G) (puts-none _ _), omega arith, refl)
 
 clashes-held-requires : tie.Need-clashes-held-requires Inv-loop μ-loop
-clashes-held-requires c κs = let p = c .before .before .before .before .before .before .before .before .pre in ((p .0, p .1), c .if1 .taken)
+clashes-held-requires c κs = let p = c .before .before .before .before .before .before .before .before .before .pre in ((p .0, p .1), c .if1 .taken)
 
 put-adds-of-requires : tie.Need-put-adds-of-requires Inv-loop μ-loop
 put-adds-of-requires c κs =
     let row = c .before in
     let at = row .before .before .before in
-    let p = at .before .before .before .before .before .before .pre in
+    let p = at .before .before .before .before .before .before .before .pre in
     let w = at .loop in
     omega (
       arith,

@@ -1,15 +1,15 @@
 -- `kind_of` meets its contract.
 use borrow.Author.Tests.{eq-eqb, ne-eqb}
-use Rattle.journal_fields.specs.Fields.{tagOf, kindOf}
+use Rattle.journal_fields.specs.Fields.{kindTag, kindOf}
 use Rattle.journal_fields.proofs.field.kind_of.Statement.{statement}
 use Rattle.journal_fields.proofs.field.kind_of.Tie as tie
 
 returns : tie.Need-returns
-unfolding tagOf kindOf
+unfolding kindTag kindOf
 returns c = rw (eq-eqb _ 43 (c .if1 .taken))
 
 returns-2 : tie.Need-returns-2
-unfolding tagOf kindOf
+unfolding kindTag kindOf
 returns-2 c = rw (ne-eqb _ 43 (c .if1 .left))
 
 pub kind-of-spec : {M : Type 1} → statement M

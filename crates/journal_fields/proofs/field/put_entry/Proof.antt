@@ -1,49 +1,53 @@
--- `put_entry` meets its contract.
+-- `put_entry` meets its contract, entry by entry.
 use borrow.Author.Needs.{needs}
-use Rattle.journal_fields.specs.Fields.{twoBytes, fieldBytes, entryBytes}
+use Rattle.journal_fields.specs.Fields.{tagOf, firstIn, secondIn, entryBytes}
 use Rattle.journal_fields.proofs.field.put_entry.Statement.{statement}
 use Rattle.journal_fields.proofs.field.put_entry.Tie as tie
 
-tag-of-requires : tie.Need-tag-of-requires
-tag-of-requires c κs = search needs
+enum-known-entry : tie.Need-enum-known-entry
+enum-known-entry c = search needs
 
-cast-t10 : tie.Need-cast-t10
-cast-t10 c = search needs
+kind-tag-requires : tie.Need-kind-tag-requires
+kind-tag-requires c κs = search needs
 
-cast-t12 : tie.Need-cast-t12
-cast-t12 c = search needs
+put-numbers-requires : tie.Need-put-numbers-requires
+put-numbers-requires c κs = search needs
 
-cast-t14 : tie.Need-cast-t14
-cast-t14 c = search needs
+enum-known-entry-2 : tie.Need-enum-known-entry-2
+enum-known-entry-2 c = search needs
 
-cast-t16 : tie.Need-cast-t16
-cast-t16 c = search needs
-
-slice-aggregate-put-text : tie.Need-slice-aggregate-put-text
-slice-aggregate-put-text c = search needs
-
-put-text-requires : tie.Need-put-text-requires
-put-text-requires c κs = search needs
+put-numbers-requires-2 : tie.Need-put-numbers-requires-2
+put-numbers-requires-2 c κs = search needs
 
 same-length : tie.Need-same-length
 same-length c = search needs
 
 returns : tie.Need-returns
-unfolding entryBytes fieldBytes twoBytes
+unfolding entryBytes tagOf firstIn secondIn
 returns c =
     let put = c .before .before in
-    rw (← (put .before .before .before .before .before .before .before .before .before .tag-of .ensures)) (put .put-text .ensures)
+    let tag = put .before in
+    rw (tag .before .before .before .entry .given .1, ← (tag .kind-tag .ensures)) (put .put-numbers .ensures)
+
+same-length-2 : tie.Need-same-length-2
+same-length-2 c = search needs
+
+returns-2 : tie.Need-returns-2
+unfolding entryBytes tagOf firstIn secondIn
+returns-2 c =
+    let put = c .before .before in
+    rw (put .before .before .before .entry2 .given .1) (put .put-numbers2 .ensures)
 
 pub put-entry-spec : {M : Type 1} → statement M
 put-entry-spec =
     tie.close
     (tie.spec
-    tag-of-requires
-    cast-t10
-    cast-t12
-    cast-t14
-    cast-t16
-    slice-aggregate-put-text
-    put-text-requires
+    enum-known-entry
+    kind-tag-requires
+    put-numbers-requires
+    enum-known-entry-2
+    put-numbers-requires-2
     same-length
-    returns)
+    returns
+    same-length-2
+    returns-2)

@@ -1,9 +1,8 @@
 -- `read_field` meets its contract, test by test.
 use borrow.Author.Tests.{not-true, not-false}
 use borrow.Author.Needs.{needs}
-use mathlib.Core.Path.{sym, ap, _∙_}
-use Rattle.journal_fields.specs.declared.field.Field.the-variants.{Edit}
-use Rattle.journal_fields.proofs.Forms.{field-head, field-wrong, field-short, field-entry}
+use mathlib.Core.Path.{sym, _∙_}
+use Rattle.journal_fields.proofs.Forms.{field-head, field-wrong, field-short, field-entry, rank-wrong, rank-right}
 use Rattle.journal_fields.proofs.field.read_field.Statement.{statement}
 use Rattle.journal_fields.proofs.field.read_field.Tie as tie
 
@@ -26,13 +25,34 @@ returns-3 c =
 entry-in-requires : tie.Need-entry-in-requires
 entry-in-requires c κs = search needs
 
+rank-fits-requires : tie.Need-rank-fits-requires
+rank-fits-requires c κs = search needs
+
 returns-4 : tie.Need-returns-4
 returns-4 c =
-    let long = c .before in
+    let rank = c .before in
+    let long = rank .before .before in
     let entry = long .before .before in
-    ap Edit (c .entry-in .ensures)
-    ∙ field-entry _ (entry .before .if1 .left) (sym (entry .is-entry .ensures) ∙ not-false _ (long .before .if2 .left)) (long .if3 .left)
+    rank-wrong _ (sym (rank .rank-fits .ensures) ∙ not-true _ (c .if4 .taken))
+    ∙ field-entry _ (entry .before .if1 .left) (sym (entry .is-entry .ensures) ∙ not-false _ (long .before .if2 .left)) (long .if3 .left) _ (rank .before .entry-in .ensures)
+
+returns-5 : tie.Need-returns-5
+returns-5 c =
+    let rank = c .before in
+    let long = rank .before .before in
+    let entry = long .before .before in
+    rank-right _ (sym (rank .rank-fits .ensures) ∙ not-false _ (c .if4 .left))
+    ∙ field-entry _ (entry .before .if1 .left) (sym (entry .is-entry .ensures) ∙ not-false _ (long .before .if2 .left)) (long .if3 .left) _ (rank .before .entry-in .ensures)
 
 pub read-field-spec : {M : Type 1} → statement M
 read-field-spec =
-    tie.close (tie.spec returns is-entry-requires returns-2 returns-3 entry-in-requires returns-4)
+    tie.close
+    (tie.spec
+    returns
+    is-entry-requires
+    returns-2
+    returns-3
+    entry-in-requires
+    rank-fits-requires
+    returns-4
+    returns-5)

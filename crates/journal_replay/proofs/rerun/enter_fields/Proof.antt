@@ -1,10 +1,12 @@
 -- The loop has entered the fields before `last.next`: `Ahead` says where the replay stands.
-use Rattle.journal_replay.proofs.Passing.{Ahead, ahead-start, ahead-turn, ahead-end, rest-few}
+use Rattle.journal_replay.proofs.Passing.{Ahead, ahead-start, ahead-holds, ahead-turn, ahead-end, rest-few}
+use mathlib.Core.Bool.{false}
 use mathlib.Core.Logic.{⊎-elim}
 use borrow.Author.Tests.{leb-true, leb-false}
 use Rattle.memory.specs.Memory.{memoryOf, Ready}
 use Rattle.memory.specs.Plan.{slicesOf}
 use Rattle.rule.specs.Graph.{Graph}
+use Rattle.planner.specs.inner.Held.{Fresh}
 use Rattle.planner.proofs.Lengths.{SameLengths, same, then}
 use borrow.Author.Needs.{needs}
 use native.Mathlib.Omega.{arith}
@@ -25,21 +27,21 @@ module _ (journal : List ℕ) (at : ℕ) (long : entrySize ≤ length journal - 
   falls next e = omega arith
 
 abbrev Inv-loop : tie.InvT-loop
-Inv-loop journal first neighbours₀ degrees₀ waves₀ counts₀ trail₀ moved₀ last₀ neighbours degrees waves counts trail moved last =
-    let m₀ = memoryOf (slicesOf neighbours₀ degrees₀ waves₀ counts₀) trail₀ moved₀ (last₀ .tally) in
-    let m = memoryOf (slicesOf neighbours degrees waves counts) trail moved (last .tally) in
-    ((G : Graph) → Ready G m₀ → Ahead journal first G m₀ last m)
+Inv-loop journal first neighbours₀ degrees₀ waves₀ counts₀ ranks₀ trail₀ moved₀ last₀ neighbours degrees waves counts ranks trail moved last =
+    let m₀ = memoryOf (slicesOf neighbours₀ degrees₀ waves₀ counts₀ ranks₀) trail₀ moved₀ (last₀ .tally) in
+    let m = memoryOf (slicesOf neighbours degrees waves counts ranks) trail moved (last .tally) in
+    ((G : Graph) → Ready G m₀ → Fresh false G → Ahead journal first G m₀ last m)
     × SameLengths m₀ m
     × (last .next ≤ length journal)
     × (last .field < last .next)
 
 abbrev μ-loop : tie.MeasureT-loop
-μ-loop journal first neighbours₀ degrees₀ waves₀ counts₀ trail₀ moved₀ last₀ neighbours degrees waves counts trail moved last = length journal - last .next
+μ-loop journal first neighbours₀ degrees₀ waves₀ counts₀ ranks₀ trail₀ moved₀ last₀ neighbours degrees waves counts ranks trail moved last = length journal - last .next
 
 loop-holds : tie.Need-loop-holds Inv-loop μ-loop
 loop-holds c =
-    let p = c .before .before .before .before .before .before .before .pre in
-    (λ G h. ahead-start _ _ G _ h _ refl refl refl, same _, p .inside, p .later)
+    let p = c .before .before .before .before .before .before .before .before .pre in
+    (λ G h f. ahead-start _ _ G _ h f _ refl refl refl refl, same _, p .inside, p .later)
 
 sub-if2 : tie.Need-sub-if2 Inv-loop μ-loop
 sub-if2 c = c .before .before .before .loop .inv .2
@@ -47,36 +49,40 @@ sub-if2 c = c .before .before .before .loop .inv .2
 add-enter-field : tie.Need-add-enter-field Inv-loop μ-loop
 add-enter-field c =
     let at = c .before .before .before .before .before in
-    let p = at .before .before .before .before .before .before .before .before .pre in
+    let p = at .before .before .before .before .before .before .before .before .before .pre in
     omega (arith, at .loop .inv .3, at .loop .inv .2, p .few)
 
 enter-field-requires : tie.Need-enter-field-requires Inv-loop μ-loop
 enter-field-requires c κs =
-    let test = c .before .before .before .before .before .before .before in
+    let test = c .before .before .before .before .before .before .before .before in
     let at = test .before .before .before .before in
-    let start = at .before .before .before .before .before .before .before .before in
-    let w = at .loop .inv .0 (start .pre .held .0) (start .pre .held .1) in
-    record { held = (w .graph, w .ready); inside = fits (start .args .journal .now) (at .loop .last .next) (leb-true _ _ (test .if2 .taken)) }
+    let start = at .before .before .before .before .before .before .before .before .before in
+    let h = start .pre .held in
+    record {
+      held = ahead-holds _ _ (h .0) _ _ _ (at .loop .inv .0 (h .0) (h .1) (h .2)) (test .before .before .if1 .taken);
+      inside = fits (start .args .journal .now) (at .loop .last .next) (leb-true _ _ (test .if2 .taken));
+    }
 
 loop-less : tie.Need-loop-less Inv-loop μ-loop
 loop-less c =
-    let done = c .before .before .before .before .before .before .before .before .before .before .before .before in
-    let test = done .before .before .before .before .before .before .before .before in
+    let done = c .before .before .before .before .before .before .before .before .before .before .before .before .before .before in
+    let test = done .before .before .before .before .before .before .before .before .before in
     let at = test .before .before .before .before in
-    falls (at .before .before .before .before .before .before .before .before .args .journal .now) (at .loop .last .next) (leb-true _ _ (test .if2 .taken)) _ (done .enter-field .ensures .next)
+    falls (at .before .before .before .before .before .before .before .before .before .args .journal .now) (at .loop .last .next) (leb-true _ _ (test .if2 .taken)) _ (done .enter-field .ensures .next)
 
 loop-again : tie.Need-loop-again Inv-loop μ-loop
 loop-again c =
-    let done = c .before .before .before .before .before .before .before .before .before .before .before .before in
-    let test = done .before .before .before .before .before .before .before .before in
+    let done = c .before .before .before .before .before .before .before .before .before .before .before .before .before .before in
+    let test = done .before .before .before .before .before .before .before .before .before in
     let at = test .before .before .before .before in
     let i = at .loop .inv in
     let f = done .enter-field in
     let k = f .kept .1 .1 .1 in
     let l = leb-true _ _ (test .if2 .taken) in
-    let inside = fits (at .before .before .before .before .before .before .before .before .args .journal .now) (at .loop .last .next) l in (
-      λ G h. ahead-turn _ _ G _ _ _ (i .0 G h) (test .before .before .if1 .taken) l _ _ (f .ensures),
-      then _ _ _ (i .1) (record { neighbours = k .0; degrees = k .1 .0; waves = k .1 .1 .0; counts = k .1 .1 .1 .0; trail = k .1 .1 .1 .1 .0; moved = k .1 .1 .1 .1 .1 .0 }),
+    let inside = fits (at .before .before .before .before .before .before .before .before .before .args .journal .now) (at .loop .last .next) l in (
+      λ G h r. ahead-turn _ _ G _ _ _ (i .0 G h r) (test .before .before .if1 .taken) l _ _ (f .ensures),
+      then _ _ _ (i .1)
+          (record { neighbours = k .0; degrees = k .1 .0; waves = k .1 .1 .0; counts = k .1 .1 .1 .0; ranks = k .1 .1 .1 .1 .0; trail = k .1 .1 .1 .1 .1 .0; moved = k .1 .1 .1 .1 .1 .1 .0 }),
       omega (arith, f .ensures .next, inside),
       omega (arith, f .ensures .next, f .ensures .field, i .3),
     )
@@ -93,7 +99,7 @@ part-ended-end c = search needs
 ended-requires : tie.Need-ended-requires Inv-loop μ-loop
 ended-requires c κs =
     let at = c .before .before .before .before in
-    let start = at .before .before .before .before .before .before .before .before in
+    let start = at .before .before .before .before .before .before .before .before .before in
     let i = at .loop .inv in
     (rest-few (start .args .journal .now) _ (start .pre .few) (i .2), omega (arith, i .3, i .2, start .pre .few))
 
@@ -115,11 +121,14 @@ same-length-5 c = search needs
 same-length-6 : tie.Need-same-length-6 Inv-loop μ-loop
 same-length-6 c = search needs
 
+same-length-7 : tie.Need-same-length-7 Inv-loop μ-loop
+same-length-7 c = search needs
+
 returns : tie.Need-returns Inv-loop μ-loop
 returns c =
     let stop = c .before .before .before in
     record {
-      of = λ G h. ahead-end _ _ G _ _ _ (stop .before .before .loop .inv .0 G h)
+      of = λ G h f. ahead-end _ _ G _ _ _ (stop .before .before .loop .inv .0 G h f)
           (λ z. ⊎-elim (λ w. leb-false _ _ (w .2 .left)) (λ w. absurd (w .left z)) (stop .if1 .came)) _ (c .ended .ensures);
     }
 
@@ -145,4 +154,5 @@ enter-fields-spec =
     same-length-4
     same-length-5
     same-length-6
+    same-length-7
     returns)

@@ -1,7 +1,7 @@
 -- `replay_core` meets its contract: refused by its first bytes or by opening, or replayed from the plan that was opened.
 use mathlib.Core.Path.{sym, _∙_}
 use Rattle.journal_fields.proofs.Numbers.{size-few, size-first-field}
-use Rattle.journal_replay.proofs.FirstField.{replay-refused, open-refused, open-replayed, banks-read}
+use Rattle.journal_replay.proofs.FirstField.{replay-refused, open-refused, open-replayed, banks-read, begin-fresh}
 use borrow.Author.Needs.{needs}
 use native.Mathlib.Omega.{arith}
 use Rattle.journal_replay.proofs.rerun.replay_core.Statement.{statement}
@@ -21,7 +21,7 @@ returns c =
 number-at-requires : tie.Need-number-at-requires
 number-at-requires c κs =
     let head = c .before in
-    let first = size-first-field _ (head .before .before .before .before .before .before .before .before .args .journal .now) (sym (head .head-number .ensures) ∙ c .if1 .left) in
+    let first = size-first-field _ (head .before .before .before .before .before .before .before .before .before .args .journal .now) (sym (head .head-number .ensures) ∙ c .if1 .left) in
     omega arith
 
 open-all-requires : tie.Need-open-all-requires
@@ -48,39 +48,49 @@ same-length-5 c = search needs
 same-length-6 : tie.Need-same-length-6
 same-length-6 c = search needs
 
+same-length-7 : tie.Need-same-length-7
+same-length-7 c = search needs
+
 returns-2 : tie.Need-returns-2
 returns-2 c =
-    let plan = c .before .before .before .before .before .before .before .before .before .before .before .before in
-    let test = plan .before .before .before .before .before .before .before .before in
+    let plan = c .before .before .before .before .before .before .before .before .before .before .before .before .before .before in
+    let test = plan .before .before .before .before .before .before .before .before .before in
     rw (c .refuse2 .ensures .0, c .refuse2 .ensures .1)
-    (open-refused _ _ (sym (test .before .head-number .ensures) ∙ test .if1 .left) _ (banks-read _ _ (plan .before .before .before .before .before .before .before .number-at .ensures)) _ _
+    (open-refused _ _ (sym (test .before .head-number .ensures) ∙ test .if1 .left) _ (banks-read _ _ (plan .before .before .before .before .before .before .before .before .number-at .ensures)) _ _
     (plan .open-all .ensures) (c .before .if2 .taken))
 
 enter-fields-requires : tie.Need-enter-fields-requires
 enter-fields-requires c κs =
-    let fine = c .before .before .before .before .before .before in
-    let plan = fine .before .before .before .before .before .before .before .before .before .before .before in
-    let test = plan .before .before .before .before .before .before .before .before in
-    let bytes = test .before .before .before .before .before .before .before .before .before .args .journal .now in
+    let fine = c .before .before .before .before .before .before .before in
+    let plan = fine .before .before .before .before .before .before .before .before .before .before .before .before .before in
+    let test = plan .before .before .before .before .before .before .before .before .before in
+    let bytes = test .before .before .before .before .before .before .before .before .before .before .args .journal .now in
     let z = sym (test .before .head-number .ensures) ∙ test .if1 .left in
+    let s = plan .open-all .ensures .opened (fine .if2 .left) in
     record {
-      held = (_, plan .open-all .ensures .opened (fine .if2 .left) .ready);
+      held = (_, s .ready, begin-fresh _ _ (s .fresh));
       few = size-few _ bytes z;
       later = omega arith;
       inside = omega (arith, size-first-field _ bytes z);
     }
 
-same-length-7 : tie.Need-same-length-7
-same-length-7 c = search needs
-
 same-length-8 : tie.Need-same-length-8
-same-length-8 c = search needs
+same-length-8 c =
+    let enter = c .before .before .before .before .before .before .before .before .before .before .before .before .before .before in
+    let fine = enter .before .before .before .before .before .before .before .before in
+    enter .enter-fields .kept .1 .1 .0 ∙ fine .before .before .before .before .before .before .before .before .before .before .before .before .before .open-all .kept .0
 
 same-length-9 : tie.Need-same-length-9
-same-length-9 c = search needs
+same-length-9 c =
+    let enter = c .before .before .before .before .before .before .before .before .before .before .before .before .before .before in
+    let fine = enter .before .before .before .before .before .before .before .before in
+    enter .enter-fields .kept .1 .1 .1 .0 ∙ fine .before .before .before .before .before .before .before .before .before .before .before .before .before .open-all .kept .1 .0
 
 same-length-10 : tie.Need-same-length-10
-same-length-10 c = search needs
+same-length-10 c =
+    let enter = c .before .before .before .before .before .before .before .before .before .before .before .before .before .before in
+    let fine = enter .before .before .before .before .before .before .before .before in
+    enter .enter-fields .kept .1 .1 .1 .1 .0 ∙ fine .before .before .before .before .before .before .before .before .before .before .before .before .before .open-all .kept .1 .1 .0
 
 same-length-11 : tie.Need-same-length-11
 same-length-11 c = search needs
@@ -88,13 +98,19 @@ same-length-11 c = search needs
 same-length-12 : tie.Need-same-length-12
 same-length-12 c = search needs
 
+same-length-13 : tie.Need-same-length-13
+same-length-13 c = search needs
+
+same-length-14 : tie.Need-same-length-14
+same-length-14 c = search needs
+
 returns-3 : tie.Need-returns-3
 returns-3 c =
-    let enter = c .before .before .before .before .before .before .before .before .before .before .before .before in
-    let fine = enter .before .before .before .before .before .before .before in
-    let plan = fine .before .before .before .before .before .before .before .before .before .before .before in
-    let test = plan .before .before .before .before .before .before .before .before in
-    open-replayed _ _ (sym (test .before .head-number .ensures) ∙ test .if1 .left) _ (banks-read _ _ (plan .before .before .before .before .before .before .before .number-at .ensures)) _ _
+    let enter = c .before .before .before .before .before .before .before .before .before .before .before .before .before .before in
+    let fine = enter .before .before .before .before .before .before .before .before in
+    let plan = fine .before .before .before .before .before .before .before .before .before .before .before .before .before in
+    let test = plan .before .before .before .before .before .before .before .before .before in
+    open-replayed _ _ (sym (test .before .head-number .ensures) ∙ test .if1 .left) _ (banks-read _ _ (plan .before .before .before .before .before .before .before .before .number-at .ensures)) _ _
     (plan .open-all .ensures) (fine .if2 .left) _ (enter .enter-fields .ensures .of)
 
 pub replay-core-spec : {M : Type 1} → statement M
@@ -113,12 +129,14 @@ replay-core-spec =
     same-length-4
     same-length-5
     same-length-6
+    same-length-7
     returns-2
     enter-fields-requires
-    same-length-7
     same-length-8
     same-length-9
     same-length-10
     same-length-11
     same-length-12
+    same-length-13
+    same-length-14
     returns-3)

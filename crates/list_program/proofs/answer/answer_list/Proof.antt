@@ -22,6 +22,9 @@ slice-aggregate-read-list-core-5 c = search needs
 slice-aggregate-read-list-core-6 : tie.Need-slice-aggregate-read-list-core-6
 slice-aggregate-read-list-core-6 c = search needs
 
+slice-aggregate-read-list-core-7 : tie.Need-slice-aggregate-read-list-core-7
+slice-aggregate-read-list-core-7 c = search needs
+
 read-list-core-requires : tie.Need-read-list-core-requires
 read-list-core-requires c κs = search needs
 
@@ -34,7 +37,7 @@ same-length c = search needs
 returns : tie.Need-returns
 returns c =
     let at1 = c .before .before .before .before in
-    let at2 = at1 .before .before .before .before .before .before .before .before .before in
+    let at2 = at1 .before .before .before .before .before .before .before .before .before .before in
     let p = c .before .before .put-refusal .ensures in (
       answer-refused _ _ _ _ (at2 .read-list-core .ensures)
           (at1 .if1 .taken) _ _ (p .0),
@@ -53,6 +56,9 @@ slice-aggregate-write-text-3 c = search needs
 slice-aggregate-write-text-4 : tie.Need-slice-aggregate-write-text-4
 slice-aggregate-write-text-4 c = search needs
 
+slice-aggregate-write-text-5 : tie.Need-slice-aggregate-write-text-5
+slice-aggregate-write-text-5 c = search needs
+
 write-text-requires : tie.Need-write-text-requires
 write-text-requires c κs = search needs
 
@@ -61,8 +67,8 @@ same-length-2 c = search needs
 
 returns-2 : tie.Need-returns-2
 returns-2 c =
-    let at1 = c .before .before .before .before .before .before .before .before .before in
-    let at2 = at1 .before .before .before .before .before .before .before .before .before in
+    let at1 = c .before .before .before .before .before .before .before .before .before .before in
+    let at2 = at1 .before .before .before .before .before .before .before .before .before .before in
     let read = at2 .read-list-core .ensures in
     let w = c .before .before .write-text .ensures in
     (answer-text _ _ _ _ read (at1 .if1 .left) _ w, text-within _ _ _ _ read _ w)
@@ -77,6 +83,7 @@ answer-list-spec =
     slice-aggregate-read-list-core-4
     slice-aggregate-read-list-core-5
     slice-aggregate-read-list-core-6
+    slice-aggregate-read-list-core-7
     read-list-core-requires
     put-refusal-requires
     same-length
@@ -85,6 +92,7 @@ answer-list-spec =
     slice-aggregate-write-text-2
     slice-aggregate-write-text-3
     slice-aggregate-write-text-4
+    slice-aggregate-write-text-5
     write-text-requires
     same-length-2
     returns-2)

@@ -1,20 +1,24 @@
--- `apply` meets its contract, edit by edit.
+-- `apply` meets its contract, row by row: an entry, or all clashes of a bank.
 use borrow.Author.Needs.{needs}
-use Rattle.list_reader.proofs.Passing.{change-one}
+use mathlib.Core.Path.{refl}
+use Rattle.list_reader.proofs.Passing.{change-one, one-fits}
 use Rattle.list_reader.proofs.change.apply.Statement.{statement}
 use Rattle.list_reader.proofs.change.apply.Tie as tie
 
 enum-known-change : tie.Need-enum-known-change
 enum-known-change c = search needs
 
-edit-held-requires : tie.Need-edit-held-requires
-edit-held-requires c κs = search needs
+enter-held-requires : tie.Need-enter-held-requires
+enter-held-requires c κs =
+    let row = c .before .before .before .before .before .before .before .before in
+    let p = row .before .before .before .before .before .before .before .before .before .pre in
+    record { held = p .held; fits = one-fits (row .change .given .1) (p .fits) }
 
 enum-known-change-2 : tie.Need-enum-known-change-2
 enum-known-change-2 c = search needs
 
 strike-all-requires : tie.Need-strike-all-requires
-strike-all-requires c κs = search needs
+strike-all-requires c κs = let h = c .before .before .before .before .before .before .before .before .before .before .before .before .before .before .before .before .before .pre .held in (h .0, h .1)
 
 same-length : tie.Need-same-length
 same-length c = search needs
@@ -34,13 +38,13 @@ same-length-5 c = search needs
 same-length-6 : tie.Need-same-length-6
 same-length-6 c = search needs
 
-returns : tie.Need-returns
-returns c =
-    let made = c .before .before .before .before .before .before .before .before .before .before .before .before in
-    record { of = λ G h. rw (made .before .before .before .before .before .before .before .before .change .given .1) (change-one G _ h _ _ _ _ _ (made .edit-held .ensures G h)) }
-
 same-length-7 : tie.Need-same-length-7
 same-length-7 c = search needs
+
+returns : tie.Need-returns
+returns c =
+    let made = c .before .before .before .before .before .before .before .before .before .before .before .before .before .before in
+    record { of = λ G h f. rw (made .before .before .before .before .before .before .before .before .before .change .given .1) (change-one _ G _ h f _ _ _ (made .enter-held .ensures .of G h f)) }
 
 same-length-8 : tie.Need-same-length-8
 same-length-8 c = search needs
@@ -57,17 +61,23 @@ same-length-11 c = search needs
 same-length-12 : tie.Need-same-length-12
 same-length-12 c = search needs
 
+same-length-13 : tie.Need-same-length-13
+same-length-13 c = search needs
+
+same-length-14 : tie.Need-same-length-14
+same-length-14 c = search needs
+
 returns-2 : tie.Need-returns-2
 returns-2 c =
     let made = c .before .before .before .before .before .before .before .before .before .before .before .before in
-    record { of = λ G h. rw (made .before .before .before .before .before .before .before .before .change2 .given .1) (made .strike-all .ensures .of G h) }
+    record { of = λ G h f. rw (made .before .before .before .before .before .before .before .before .before .change2 .given .1) (made .strike-all .ensures _ .of G h f) }
 
 pub apply-spec : {M : Type 1} → statement M
 apply-spec =
     tie.close
     (tie.spec
     enum-known-change
-    edit-held-requires
+    enter-held-requires
     enum-known-change-2
     strike-all-requires
     same-length
@@ -76,11 +86,13 @@ apply-spec =
     same-length-4
     same-length-5
     same-length-6
-    returns
     same-length-7
+    returns
     same-length-8
     same-length-9
     same-length-10
     same-length-11
     same-length-12
+    same-length-13
+    same-length-14
     returns-2)

@@ -16,26 +16,26 @@ use Rattle.list_reader.proofs.change.strike_all.Statement.{statement}
 use Rattle.list_reader.proofs.change.strike_all.Tie as tie
 
 abbrev Inv-loop : tie.InvT-loop
-Inv-loop neighbours₀ degrees₀ waves₀ counts₀ trail₀ moved₀ b left₀ last₀ neighbours degrees waves counts trail moved left last =
-    let m₀ = memoryOf (slicesOf neighbours₀ degrees₀ waves₀ counts₀) trail₀ moved₀ (last₀ .tally) in
-    let m = memoryOf (slicesOf neighbours degrees waves counts) trail moved (last .tally) in
+Inv-loop neighbours₀ degrees₀ waves₀ counts₀ ranks trail₀ moved₀ b left₀ last₀ neighbours degrees waves counts trail moved left last =
+    let m₀ = memoryOf (slicesOf neighbours₀ degrees₀ waves₀ counts₀ ranks) trail₀ moved₀ (last₀ .tally) in
+    let m = memoryOf (slicesOf neighbours degrees waves counts ranks) trail moved (last .tally) in
     ((G : Graph) → Ready G m₀ → Left G (b .0) m₀ left last m) × SameLengths m₀ m
 
 abbrev μ-loop : tie.MeasureT-loop
-μ-loop neighbours₀ degrees₀ waves₀ counts₀ trail₀ moved₀ b left₀ last₀ neighbours degrees waves counts trail moved left last = left
+μ-loop neighbours₀ degrees₀ waves₀ counts₀ ranks trail₀ moved₀ b left₀ last₀ neighbours degrees waves counts trail moved left last = left
 
 returns : tie.Need-returns Inv-loop μ-loop
 returns c =
-    let at1 = c .before .before .before .before .before .before .before .before .before in
+    let at1 = c .before .before .before .before .before .before .before .before .before .before in
     let far : at1 .args .tally .banks ≤ at1 .args .b .0 = omega (arith, c .if1 .taken) in
-    record { of = λ G h. change-none G _ h _ far }
+    λ begun. record { of = λ G h f. change-none begun G _ h f _ far }
 
 clashes-held-requires : tie.Need-clashes-held-requires Inv-loop μ-loop
 clashes-held-requires c κs =
     let at1 = c .before .before .before .before in
-    let at2 = at1 .before .before .before .before .before .before .before .before .before in
+    let at2 = at1 .before .before .before .before .before .before .before .before .before .before in
     let p = at2 .pre in
-    ((p .held .0, p .held .1 .plan), at1 .if1 .left)
+    ((p .0, p .1 .plan), at1 .if1 .left)
 
 loop-holds : tie.Need-loop-holds Inv-loop μ-loop
 loop-holds c = (λ G h. left-start G _ _ _ _ refl h (c .before .before .before .before .before .if1 .left) (ap length (c .clashes-held .ensures G (h .plan))), same _)
@@ -43,26 +43,26 @@ loop-holds c = (λ G h. left-start G _ _ _ _ refl h (c .before .before .before .
 clashes-held-requires-2 : tie.Need-clashes-held-requires-2 Inv-loop μ-loop
 clashes-held-requires-2 c κs =
     let at1 = c .before .before .before .before .before .before in
-    let at2 = at1 .before .before .before .before .before .before .before .before .before .before .before .before .before .before .before in
+    let at2 = at1 .before .before .before .before .before .before .before .before .before .before .before .before .before .before .before .before in
     let p = at2 .pre in
-    let w = at1 .loop .inv .0 (p .held .0) (p .held .1) in
+    let w = at1 .loop .inv .0 (p .0) (p .1) in
     ((w .graph, w .ready .plan), w .below)
 
-shared-slice-read-t36 : tie.Need-shared-slice-read-t36 Inv-loop μ-loop
-shared-slice-read-t36 c =
+shared-slice-read-t37 : tie.Need-shared-slice-read-t37 Inv-loop μ-loop
+shared-slice-read-t37 c =
     let at1 = c .before .before .before .before .before .before .before in
     let at2 = at1 .before in
-    let at3 = at2 .before .before .before .before .before .before .before .before .before .before .before .before .before .before .before in
+    let at3 = at2 .before .before .before .before .before .before .before .before .before .before .before .before .before .before .before .before in
     let p = at3 .pre in
-    let w = at2 .loop .inv .0 (p .held .0) (p .held .1) in
+    let w = at2 .loop .inv .0 (p .0) (p .1) in
     left-some _ _ _ _ _ _ w (at1 .loop-test .taken) _ (c .before .clashes-held2 .ensures (w .graph) (w .ready .plan))
 
 edit-held-requires : tie.Need-edit-held-requires Inv-loop μ-loop
 edit-held-requires c κs =
     let at1 = c .before .before .before .before .before .before .before .before .before .before .before .before .before .before in
-    let at2 = at1 .before .before .before .before .before .before .before .before .before .before .before .before .before .before .before in
+    let at2 = at1 .before .before .before .before .before .before .before .before .before .before .before .before .before .before .before .before in
     let p = at2 .pre in
-    let w = at1 .loop .inv .0 (p .held .0) (p .held .1) in
+    let w = at1 .loop .inv .0 (p .0) (p .1) in
     (w .graph, w .ready)
 
 sub-left : tie.Need-sub-left Inv-loop μ-loop
@@ -85,7 +85,7 @@ loop-again c =
     let f = at1 .edit-held in
     let k = f .kept .1 in (
       λ G h. let w = i .0 G h in left-turn G _ _ _ _ _ w (at3 .loop-test .taken) _ (at2 .clashes-held2 .ensures (w .graph) (w .ready .plan)) _ _ (f .ensures (w .graph) (w .ready)),
-      then _ _ _ (i .1) (record { neighbours = k .0; degrees = k .1 .0; waves = k .1 .1 .0; counts = k .1 .1 .1 .0; trail = k .1 .1 .1 .1 .0; moved = k .1 .1 .1 .1 .1 .0 }),
+      then _ _ _ (i .1) (record { neighbours = k .0; degrees = k .1 .0; waves = k .1 .1 .0; counts = k .1 .1 .1 .0; ranks = refl; trail = k .1 .1 .1 .1 .1 .0; moved = k .1 .1 .1 .1 .1 .1 .0 }),
     )
 
 same-length : tie.Need-same-length Inv-loop μ-loop
@@ -108,8 +108,8 @@ same-length-6 c = search needs
 
 returns-2 : tie.Need-returns-2 Inv-loop μ-loop
 returns-2 c =
-    record {
-      of = λ G h. let w = c .before .loop .inv .0 G h in change-all G _ h _ _ _ (c .before .before .before .before .before .before .before .if1 .left) (w .number)
+    λ begun. record {
+      of = λ G h f. let w = c .before .loop .inv .0 G h in change-all begun G _ h f _ _ _ (c .before .before .before .before .before .before .before .if1 .left) (w .number)
           (left-end G _ _ _ _ _ w (c .loop-test .left));
     }
 
@@ -123,7 +123,7 @@ strike-all-spec =
     clashes-held-requires
     loop-holds
     clashes-held-requires-2
-    shared-slice-read-t36
+    shared-slice-read-t37
     edit-held-requires
     sub-left
     loop-less

@@ -1,6 +1,7 @@
 -- `begin` meets its contract: refused by opening, or the edits are read into the plan that was opened.
+use mathlib.Core.List.{[]}
 use mathlib.Core.Path.{_∙_}
-use Rattle.list_reader.proofs.Beginning.{begin-refused, begin-passed}
+use Rattle.list_reader.proofs.Beginning.{begin-refused, opened-state, begin-passed}
 use borrow.Author.Needs.{needs}
 use Rattle.list_reader.proofs.pass.begin.Statement.{statement}
 use Rattle.list_reader.proofs.pass.begin.Tie as tie
@@ -26,41 +27,60 @@ same-length-5 c = search needs
 same-length-6 : tie.Need-same-length-6
 same-length-6 c = search needs
 
-returns : tie.Need-returns
-returns c = record { is = begin-refused _ _ _ _ _ (c .before .before .before .before .before .before .before .before .before .before .before .open-all .ensures) (c .if1 .taken) }
-
-read-edits-requires : tie.Need-read-edits-requires
-read-edits-requires c κs =
-    let at1 = c .before .before .before .before .before .before in
-    let at2 = at1 .before .before .before .before .before .before .before .before .before .before .before in
-    let at3 = at2 .before .before .before .before .before .before .before .before .before .before .before .before .before .before in
-    let p = at3 .pre in
-    let s = at2 .open-all .ensures .opened (at1 .if1 .left) in
-    record { held = (_, s .ready); few = p .few; later = p .later; inside = p .inside }
-
 same-length-7 : tie.Need-same-length-7
 same-length-7 c = search needs
 
+returns : tie.Need-returns
+returns c = record { is = begin-refused _ _ _ _ _ (c .before .before .before .before .before .before .before .before .before .before .before .before .before .open-all .ensures) (c .if1 .taken) }
+
+read-edits-requires : tie.Need-read-edits-requires
+read-edits-requires c κs =
+    let test = c .before .before .before .before .before .before .before in
+    let opened = test .before .before .before .before .before .before .before .before .before .before .before .before .before in
+    let p = opened .before .before .before .before .before .before .before .before .before .before .before .before .before .before .before .before .pre in
+    record { held = opened-state _ [] _ _ _ (opened .open-all .ensures) (test .if1 .left); few = p .few; later = p .later; inside = p .inside }
+
 same-length-8 : tie.Need-same-length-8
-same-length-8 c = search needs
+same-length-8 c =
+    let read = c .before .before .before .before .before .before .before .before .before .before .before .before .before .before in
+    let opened = read .before .before .before .before .before .before .before .before .before .before .before .before .before .before .before .before .before .before .before .before .before in
+    read .read-edits .kept .1 .1 .0 ∙ opened .open-all .kept .0
 
 same-length-9 : tie.Need-same-length-9
-same-length-9 c = search needs
+same-length-9 c =
+    let read = c .before .before .before .before .before .before .before .before .before .before .before .before .before .before in
+    let opened = read .before .before .before .before .before .before .before .before .before .before .before .before .before .before .before .before .before .before .before .before .before in
+    read .read-edits .kept .1 .1 .1 .0 ∙ opened .open-all .kept .1 .0
 
 same-length-10 : tie.Need-same-length-10
-same-length-10 c = search needs
+same-length-10 c =
+    let read = c .before .before .before .before .before .before .before .before .before .before .before .before .before .before in
+    let opened = read .before .before .before .before .before .before .before .before .before .before .before .before .before .before .before .before .before .before .before .before .before in
+    read .read-edits .kept .1 .1 .1 .1 .0 ∙ opened .open-all .kept .1 .1 .0
 
 same-length-11 : tie.Need-same-length-11
-same-length-11 c = search needs
+same-length-11 c =
+    let read = c .before .before .before .before .before .before .before .before .before .before .before .before .before .before in
+    let opened = read .before .before .before .before .before .before .before .before .before .before .before .before .before .before .before .before .before .before .before .before .before in
+    read .read-edits .kept .1 .1 .1 .1 .1 .0 ∙ opened .open-all .kept .1 .1 .1 .0
 
 same-length-12 : tie.Need-same-length-12
-same-length-12 c = search needs
+same-length-12 c =
+    let read = c .before .before .before .before .before .before .before .before .before .before .before .before .before .before in
+    let opened = read .before .before .before .before .before .before .before .before .before .before .before .before .before .before .before .before .before .before .before .before .before in
+    read .read-edits .kept .1 .1 .1 .1 .1 .1 .0 ∙ opened .open-all .kept .1 .1 .1 .1 .0
+
+same-length-13 : tie.Need-same-length-13
+same-length-13 c = search needs
+
+same-length-14 : tie.Need-same-length-14
+same-length-14 c = search needs
 
 returns-2 : tie.Need-returns-2
 returns-2 c =
-    let at1 = c .before .before .before .before .before .before .before .before .before .before .before .before in
-    let at2 = at1 .before .before .before .before .before .before .before in
-    let at3 = at2 .before .before .before .before .before .before .before .before .before .before .before in
+    let at1 = c .before .before .before .before .before .before .before .before .before .before .before .before .before .before in
+    let at2 = at1 .before .before .before .before .before .before .before .before in
+    let at3 = at2 .before .before .before .before .before .before .before .before .before .before .before .before .before in
     record { is = begin-passed _ _ _ _ _ (at3 .open-all .ensures) (at2 .if1 .left) _ (at1 .read-edits .ensures .of) }
 
 pub begin-spec : {M : Type 1} → statement M
@@ -74,12 +94,14 @@ begin-spec =
     same-length-4
     same-length-5
     same-length-6
+    same-length-7
     returns
     read-edits-requires
-    same-length-7
     same-length-8
     same-length-9
     same-length-10
     same-length-11
     same-length-12
+    same-length-13
+    same-length-14
     returns-2)

@@ -1,5 +1,6 @@
 -- `edit_row` meets its contract: the row that it finds is read, and its edit is made.
 use mathlib.Core.Path.{refl, sym, _∙_}
+use Rattle.list_reader.proofs.Fits.{edit-fits}
 use Rattle.list_reader.proofs.Passing.{edits-none, edits-one}
 use borrow.Author.Needs.{needs}
 use native.Mathlib.Omega.{arith}
@@ -7,7 +8,7 @@ use Rattle.list_reader.proofs.pass.edit_row.Statement.{statement}
 use Rattle.list_reader.proofs.pass.edit_row.Tie as tie
 
 find-requires : tie.Need-find-requires
-find-requires c κs = omega (arith, c .before .before .before .before .before .before .before .pre .inside)
+find-requires c κs = omega (arith, c .before .before .before .before .before .before .before .before .pre .inside)
 
 add-next : tie.Need-add-next
 add-next c = omega (arith, c .find .ensures .high)
@@ -28,11 +29,17 @@ enum-known-change : tie.Need-enum-known-change
 enum-known-change c = search needs
 
 returns : tie.Need-returns
-returns c = edits-none _ _ _ (c .before .before .before .find .ensures) _ _ _ refl refl _ (c .before .read-row .ensures) (c .match .keys2) refl
+returns c = edits-none _ _ _ (c .before .before .before .find .ensures) _ _ _ _ refl refl _ (c .before .read-row .ensures) (c .match .keys2) refl
 
 apply-requires : tie.Need-apply-requires
 apply-requires c κs =
-    record { held = c .before .before .before .before .before .before .before .before .before .before .before .before .before .before .before .before .before .before .before .pre .held }
+    let row = c .before .before .before .before .before .before .before .before in
+    let read = row .before .before in
+    let start = read .before .before .before .before .before .before .before .before .before .before .before in
+    record { held = start .pre .held; fits = edit-fits _ _ (sym (row .change .given .1) ∙ read .read-row .ensures) }
+
+begun-after-requires : tie.Need-begun-after-requires
+begun-after-requires c κs = search needs
 
 same-length : tie.Need-same-length
 same-length c = search needs
@@ -52,13 +59,17 @@ same-length-5 c = search needs
 same-length-6 : tie.Need-same-length-6
 same-length-6 c = search needs
 
+same-length-7 : tie.Need-same-length-7
+same-length-7 c = search needs
+
 returns-2 : tie.Need-returns-2
 returns-2 c =
-    let at1 = c .before .before .before .before .before .before .before .before .before .before .before .before .before .before in
-    let at2 = at1 .before .before .before .before .before .before .before .before in
+    let at1 = c .before .before .before .before .before .before .before .before .before .before .before .before .before .before .before .before .before in
+    let at2 = at1 .before .before .before .before .before .before .before .before .before in
     let at3 = at2 .before .before in
     let at4 = at3 .before .before in
-    edits-one _ _ _ (at4 .find .ensures) _ _ _ refl refl _ (sym (at2 .change .given .1) ∙ at3 .read-row .ensures) _ _ (at1 .apply .ensures) refl
+    edits-one _ _ _ (at4 .find .ensures) _ _ _ _ refl refl _ (sym (at2 .change .given .1) ∙ at3 .read-row .ensures) _ _ (at1 .apply .ensures) refl
+    (c .begun-after .ensures)
 
 pub edit-row-spec : {M : Type 1} → statement M
 edit-row-spec =
@@ -73,10 +84,12 @@ edit-row-spec =
     enum-known-change
     returns
     apply-requires
+    begun-after-requires
     same-length
     same-length-2
     same-length-3
     same-length-4
     same-length-5
     same-length-6
+    same-length-7
     returns-2)

@@ -38,7 +38,7 @@ add-next c = omega (arith, c .before .before .before .before .before .find .ensu
 
 begin-requires : tie.Need-begin-requires
 begin-requires c κs =
-    let at1 = c .before .before .before .before .before .before .before .before .before .before .before in
+    let at1 = c .before .before .before .before .before .before .before .before .before .before .before .before in
     let at2 = at1 .before in
     record { few = at2 .if1 .left; later = omega arith; inside = omega (arith, at1 .find .ensures .high) }
 
@@ -60,10 +60,13 @@ same-length-5 c = search needs
 same-length-6 : tie.Need-same-length-6
 same-length-6 c = search needs
 
+same-length-7 : tie.Need-same-length-7
+same-length-7 c = search needs
+
 returns-3 : tie.Need-returns-3
 returns-3 c =
-    let at1 = c .before .before .before .before .before .before .before .before .before .before .before .before in
-    let at2 = at1 .before .before .before .before .before .before .before .before in
+    let at1 = c .before .before .before .before .before .before .before .before .before .before .before .before .before .before in
+    let at2 = at1 .before .before .before .before .before .before .before .before .before in
     let at3 = at2 .before .before in
     let at4 = at3 .before .before in
     let at5 = at4 .before in
@@ -89,4 +92,5 @@ read-list-core-spec =
     same-length-4
     same-length-5
     same-length-6
+    same-length-7
     returns-3)

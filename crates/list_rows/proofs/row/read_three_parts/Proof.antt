@@ -1,6 +1,6 @@
 -- `read_three_parts` meets its contract, test by test.
 use mathlib.Core.Path.{sym, _∙_}
-use Rattle.list_rows.proofs.Forms.{three-none, three-half, three-wide, three-add, three-strike, three-other}
+use Rattle.list_rows.proofs.Forms.{three-none, three-half, three-wide, three-add, three-strike, three-rank, three-other}
 use borrow.Author.Needs.{needs}
 use native.Mathlib.Omega.{arith}
 use Rattle.list_rows.proofs.row.read_three_parts.Statement.{statement}
@@ -63,13 +63,23 @@ returns-5 c =
 
 returns-6 : tie.Need-returns-6
 returns-6 c =
-    let at1 = c .before .before .before in
+    let at1 = c .before .before .before .before in
+    let at2 = at1 .before .before in
+    let at3 = at2 .before .before .before .before in
+    let p = at3 in
+    let q = at2 in
+    three-rank _ _ _ _ (sym (p .before .before .read-number .ensures) ∙ p .a .given .1) _ (sym (q .before .before .read-number2 .ensures) ∙ q .b .given .1)
+    (at1 .if1 .left) (c .if4 .taken)
+
+returns-7 : tie.Need-returns-7
+returns-7 c =
+    let at1 = c .before .before .before .before in
     let at2 = at1 .before .before in
     let at3 = at2 .before .before .before .before in
     let p = at3 in
     let q = at2 in
     three-other _ _ _ _ (sym (p .before .before .read-number .ensures) ∙ p .a .given .1) _ (sym (q .before .before .read-number2 .ensures) ∙ q .b .given .1)
-    (at1 .if1 .left) (c .before .if2 .left) (c .if3 .left)
+    (at1 .if1 .left) (c .before .before .if2 .left) (c .before .if3 .left) (c .if4 .left)
 
 pub read-three-parts-spec : {M : Type 1} → statement M
 read-three-parts-spec =
@@ -87,4 +97,5 @@ read-three-parts-spec =
     shared-slice-read-first
     returns-4
     returns-5
-    returns-6)
+    returns-6
+    returns-7)

@@ -10,10 +10,10 @@ use Rattle.memory.proofs.count.count_earlier.Statement.{statement}
 use Rattle.memory.proofs.count.count_earlier.Tie as tie
 
 abbrev Inv-loop : tie.InvT-loop
-Inv-loop neighbours degrees waves row₀ banks b at degree i₀ row i = (i ≤ degree) × Tallied row (countIn degrees waves (b .0) (take i (drop (b .0 * 23) neighbours)))
+Inv-loop neighbours degrees ranks waves row₀ banks b at degree i₀ row i = (i ≤ degree) × Tallied row (countIn degrees ranks waves (b .0) (take i (drop (b .0 * 23) neighbours)))
 
 abbrev μ-loop : tie.MeasureT-loop
-μ-loop neighbours degrees waves row₀ banks b at degree i₀ row i = degree - i
+μ-loop neighbours degrees ranks waves row₀ banks b at degree i₀ row i = degree - i
 
 clear-requires : tie.Need-clear-requires Inv-loop μ-loop
 clear-requires c κs = search needs
@@ -33,13 +33,13 @@ wide-requires c κs = search needs
 loop-holds : tie.Need-loop-holds Inv-loop μ-loop
 loop-holds c =
     let at1 = c .before .before .before .before .before in
-    let at2 = at1 .before .before .before .before .before .before in
-    (search needs, count-none (at2 .args .degrees .now) (at2 .args .waves .now) (at2 .args .b .0) (at1 .clear .ensures))
+    let at2 = at1 .before .before .before .before .before .before .before in
+    (search needs, count-none (at2 .args .degrees .now) (at2 .args .ranks .now) (at2 .args .waves .now) (at2 .args .b .0) (at1 .clear .ensures))
 
 count-one-requires : tie.Need-count-one-requires Inv-loop μ-loop
 count-one-requires c κs =
     let at1 = c .before .before .before in
-    let at2 = at1 .before .before .before .before .before .before .before .before .before .before .before in
+    let at2 = at1 .before .before .before .before .before .before .before .before .before .before .before .before in
     (at2 .pre .0, (omega (arith, at1 .wide .ensures, c .before .loop-test .taken), c .before .before .loop .inv .1))
 
 add-i : tie.Need-add-i Inv-loop μ-loop
@@ -56,7 +56,7 @@ same-length c = search needs
 
 returns : tie.Need-returns Inv-loop μ-loop
 returns c =
-    let at1 = c .before .before .before .before .before .before .before .before .before .before .before .before .before in
+    let at1 = c .before .before .before .before .before .before .before .before .before .before .before .before .before .before in
     let e : c .before .loop .i ≡ getD (at1 .args .degrees .now) (at1 .args .b .0) 0 = omega (arith, c .before .before .wide .ensures) in
     rw e at (c .before .loop .inv .1)
 

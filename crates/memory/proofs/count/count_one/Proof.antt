@@ -30,12 +30,12 @@ wide-requires c κs = search needs
 
 mul-wide : tie.Need-mul-wide
 mul-wide c =
-    let p = c .before .before .before .before .before .before .before .pre in
+    let p = c .before .before .before .before .before .before .before .before .pre in
     omega (arith, c .wide .ensures, v-bank (p .0) (p .1 .0))
 
 shared-slice-read-wide : tie.Need-shared-slice-read-wide
 shared-slice-read-wide c =
-    let p = c .before .before .before .before .before .before .before .before .pre in
+    let p = c .before .before .before .before .before .before .before .before .before .pre in
     omega (arith, c .before .wide .ensures, v-bank (p .0) (p .1 .0))
 
 wide-requires-2 : tie.Need-wide-requires-2
@@ -43,14 +43,14 @@ wide-requires-2 c κs = search needs
 
 is-earlier-requires : tie.Need-is-earlier-requires
 is-earlier-requires c κs =
-    let p = c .before .before .before .before .before .before .before .before .before .pre in
+    let p = c .before .before .before .before .before .before .before .before .before .before .pre in
     let h = v-bank (p .0) (p .1 .0) in
-    (omega arith, omega arith)
+    ((omega arith, omega arith), (omega arith, omega arith))
 
 mul-row : tie.Need-mul-row
 mul-row c =
     let at1 = c .before .before .before .before in
-    let at2 = at1 .before .before .before .before .before .before .before in
+    let at2 = at1 .before .before .before .before .before .before .before .before in
     let p = at2 .pre in
     let w = rw (at1 .wide .ensures) at (c .before .before .wide2 .ensures) in
     omega (arith, w, v-small (p .0) (p .1 .0))
@@ -59,7 +59,7 @@ slice-read-row : tie.Need-slice-read-row
 slice-read-row c =
     let at1 = c .before .before .before in
     let at2 = at1 .before .before in
-    let at3 = at2 .before .before .before .before .before .before .before in
+    let at3 = at2 .before .before .before .before .before .before .before .before in
     let p = at3 .pre in
     let w = rw (at2 .wide .ensures) at (at1 .wide2 .ensures) in
     omega (arith, w, v-small (p .0) (p .1 .0), p .1 .1 .long)
@@ -68,7 +68,7 @@ add-row : tie.Need-add-row
 add-row c =
     let at1 = c .before .before .before .before in
     let at2 = at1 .before .before in
-    let at3 = at2 .before .before .before .before .before .before .before in
+    let at3 = at2 .before .before .before .before .before .before .before .before in
     let p = at3 .pre in
     let w = rw (at2 .wide .ensures) at (at1 .wide2 .ensures) in
     let more : c .before .before .if1 .more ≤ 1 = ⊎-elim (λ q. omega (arith, q .1)) (λ q. omega (arith, q .1)) (c .before .before .if1 .came) in
@@ -78,7 +78,7 @@ mul-row-2 : tie.Need-mul-row-2
 mul-row-2 c =
     let at1 = c .before .before .before .before in
     let at2 = at1 .before .before in
-    let at3 = at2 .before .before .before .before .before .before .before in
+    let at3 = at2 .before .before .before .before .before .before .before .before in
     let p = at3 .pre in
     let w = rw (at2 .wide .ensures) at (at1 .wide2 .ensures) in
     omega (arith, w, v-small (p .0) (p .1 .0))
@@ -87,7 +87,7 @@ slice-write-row : tie.Need-slice-write-row
 slice-write-row c =
     let at1 = c .before .before .before .before in
     let at2 = at1 .before .before in
-    let at3 = at2 .before .before .before .before .before .before .before in
+    let at3 = at2 .before .before .before .before .before .before .before .before in
     let p = at3 .pre in
     let w = rw (at2 .wide .ensures) at (at1 .wide2 .ensures) in
     omega (arith, w, v-small (p .0) (p .1 .0), p .1 .1 .long)
@@ -100,7 +100,7 @@ returns c =
     let at1 = c .before .before .before in
     let at2 = at1 .before in
     let at3 = at2 .before .before in
-    let at4 = at3 .before .before .before .before .before .before .before in
+    let at4 = at3 .before .before .before .before .before .before .before .before in
     let p = at4 .pre in
     let w = rw (at3 .wide .ensures) at (at2 .wide2 .ensures) in
     let row = at4 .args .row .now in

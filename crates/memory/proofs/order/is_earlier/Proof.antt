@@ -1,4 +1,4 @@
--- `byCells` is `earlierBy` of the two cells.
+-- `byCells` is `earlierBy` of the cells of the two banks.
 use borrow.Author.Needs.{needs}
 use Rattle.memory.specs.inner.Counts.{byCells}
 use Rattle.memory.proofs.order.is_earlier.Statement.{statement}
@@ -22,6 +22,18 @@ mul-earlier-2 c = search needs
 shared-slice-read-earlier-2 : tie.Need-shared-slice-read-earlier-2
 shared-slice-read-earlier-2 c = search needs
 
+mul-earlier-3 : tie.Need-mul-earlier-3
+mul-earlier-3 c = search needs
+
+shared-slice-read-earlier-3 : tie.Need-shared-slice-read-earlier-3
+shared-slice-read-earlier-3 c = search needs
+
+mul-earlier-4 : tie.Need-mul-earlier-4
+mul-earlier-4 c = search needs
+
+shared-slice-read-earlier-4 : tie.Need-shared-slice-read-earlier-4
+shared-slice-read-earlier-4 c = search needs
+
 earlier-requires : tie.Need-earlier-requires
 earlier-requires c κs = search needs
 
@@ -39,5 +51,9 @@ is-earlier-spec =
     shared-slice-read-earlier
     mul-earlier-2
     shared-slice-read-earlier-2
+    mul-earlier-3
+    shared-slice-read-earlier-3
+    mul-earlier-4
+    shared-slice-read-earlier-4
     earlier-requires
     returns)

@@ -1,4 +1,4 @@
--- A slice that is too short, or four that are long enough.
+-- A slice that is too short, or five that are long enough.
 use borrow.Author.Needs.{needs}
 use native.Mathlib.Omega.{arith}
 use mathlib.Core.Path.{sym}
@@ -28,9 +28,13 @@ returns-4 : tie.Need-returns-4
 returns-4 c = too-short _ _ (λ l. omega arith)
 
 returns-5 : tie.Need-returns-5
-returns-5 c = sym (long-enough _ _ (record { neighbours = omega arith; degrees = omega arith; waves = omega arith; counts = omega arith }))
+returns-5 c = too-short _ _ (λ l. omega arith)
+
+returns-6 : tie.Need-returns-6
+returns-6 c =
+    sym (long-enough _ _ (record { neighbours = omega arith; degrees = omega arith; waves = omega arith; counts = omega arith; ranks = omega arith }))
 
 pub long-enough-spec : {M : Type 1} → statement M
 long-enough-spec =
     tie.close
-    (tie.spec wide-requires mul-if1 returns returns-2 returns-3 mul-if4 returns-4 returns-5)
+    (tie.spec wide-requires mul-if1 returns returns-2 returns-3 mul-if4 returns-4 returns-5 returns-6)

@@ -8,15 +8,16 @@ use Rattle.memory.proofs.test.clashes_right.Statement.{statement}
 use Rattle.memory.proofs.test.clashes_right.Tie as tie
 
 abbrev Inv-loop : tie.InvT-loop
-Inv-loop neighbours degrees waves counts banks cursors₀ cells₀ b₀ cursors cells b = (b ≤ banks) × Seen neighbours degrees waves banks b cursors cells
+Inv-loop neighbours degrees waves counts ranks banks cursors₀ cells₀ b₀ cursors cells b =
+    (b ≤ banks) × Seen neighbours degrees ranks waves banks b cursors cells
 
 abbrev μ-loop : tie.MeasureT-loop
-μ-loop neighbours degrees waves counts banks cursors₀ cells₀ b₀ cursors cells b = banks - b
+μ-loop neighbours degrees waves counts ranks banks cursors₀ cells₀ b₀ cursors cells b = banks - b
 
 loop-holds : tie.Need-loop-holds Inv-loop μ-loop
 loop-holds c =
-    let at1 = c .before .before .before .before in
-    (search needs, seen-start (at1 .pre .0) (at1 .pre .1 .0))
+    let at1 = c .before .before .before .before .before in
+    (search needs, seen-start (at1 .pre .0) (at1 .pre .1 .1 .1) (at1 .pre .1 .0))
 
 row-matched-requires : tie.Need-row-matched-requires Inv-loop μ-loop
 row-matched-requires c κs = (c .before .before .before .loop .inv .1, omega arith)
@@ -38,13 +39,13 @@ slice-aggregate-counts-right c = omega (arith, c .before .before .loop .inv .1 .
 
 counts-right-requires : tie.Need-counts-right-requires Inv-loop μ-loop
 counts-right-requires c κs =
-    let p = c .before .before .before .before .before .before .before .pre in
-    (p .1 .0, (omega (arith, p .0 .most, c .before .before .loop .inv .1 .ground .long-cells), p .1 .1))
+    let p = c .before .before .before .before .before .before .before .before .pre in
+    (p .1 .0, (omega (arith, p .0 .most, c .before .before .loop .inv .1 .ground .long-cells), p .1 .1 .0))
 
 returns-2 : tie.Need-returns-2 Inv-loop μ-loop
 returns-2 c =
     let at1 = c .before .before .before in
-    let at2 = at1 .before .before .before .before .before in
+    let at2 = at1 .before .before .before .before .before .before in
     seen-end (omega arith) (at1 .loop .inv .1) (at2 .args .counts .now) (c .counts-right .result) (c .counts-right .ensures)
 
 pub clashes-right-spec : {M : Type 1} → statement M

@@ -1,4 +1,5 @@
 -- Each test denied denies `Tested`, and all granted make it.
+use borrow.Author.Needs.{needs}
 use native.Mathlib.Omega.{arith}
 use Prim.Native.Nat.{ℕ, _/_}
 use mathlib.Core.Path.{sym, ap, _∙_}
@@ -10,84 +11,89 @@ use Rattle.memory.proofs.test.holds_plan.Tie as tie
 
 rows-right-requires : tie.Need-rows-right-requires
 rows-right-requires c κs =
-    let l = long _ _ (c .before .before .before .before .pre .1) in
+    let l = long _ _ (c .before .before .before .before .before .pre .1) in
     (l .neighbours, l .degrees)
 
 returns : tie.Need-returns
 returns c =
-    let p = c .before .before .before .before .before .before .pre in
+    let p = c .before .before .before .before .before .before .before .pre in
     refuses _ _ (p .0) (p .1) (λ h. denied _ (c .before .rows-right .result) (c .before .rows-right .ensures) (c .if1 .taken) (h .rows))
 
-waves-small-requires : tie.Need-waves-small-requires
-waves-small-requires c κs = long _ _ (c .before .before .before .before .before .before .pre .1) .waves
+all-under-requires : tie.Need-all-under-requires
+all-under-requires c κs = long _ _ (c .before .before .before .before .before .before .before .pre .1) .waves
 
 returns-2 : tie.Need-returns-2
 returns-2 c =
-    let p = c .before .before .before .before .before .before .before .before .pre in
-    refuses _ _ (p .0) (p .1) (λ h. denied _ (c .before .waves-small .result) (c .before .waves-small .ensures) (c .if2 .taken) (h .small))
+    let p = c .before .before .before .before .before .before .before .before .before .pre in
+    refuses _ _ (p .0) (p .1) (λ h. denied _ (c .before .all-under .result) (c .before .all-under .ensures) (c .if2 .taken) (h .small))
 
-clashes-right-requires : tie.Need-clashes-right-requires
-clashes-right-requires c κs =
-    let at1 = c .before .before .before in
-    let at2 = at1 .before .before .before .before .before in
-    let p = at2 .pre in
-    let l = long _ _ (p .1) in
-    let right = granted _ (at1 .rows-right .result) (at1 .rows-right .ensures) (c .before .before .if1 .left) in
-    let small = granted _ (c .before .waves-small .result) (c .before .waves-small .ensures) (c .if2 .left) in
-    (rows-of (p .0) l right, (record { long = l .waves; small = small }, l .counts))
+add-all-under : tie.Need-add-all-under
+add-all-under c = search needs
+
+all-under-requires-2 : tie.Need-all-under-requires-2
+all-under-requires-2 c κs = long _ _ (c .before .before .before .before .before .before .before .before .before .pre .1) .ranks
 
 returns-3 : tie.Need-returns-3
 returns-3 c =
-    let p = c .before .before .before .before .before .before .before .before .before .before .pre in
-    refuses _ _ (p .0) (p .1) (λ h. denied _ (c .before .clashes-right .result) (c .before .clashes-right .ensures) (c .if3 .taken) (h .symmetric, h .counts))
+    let p = c .before .before .before .before .before .before .before .before .before .before .before .pre in
+    refuses _ _ (p .0) (p .1) (λ h. denied _ (c .before .all-under2 .result) (c .before .all-under2 .ensures) (c .if3 .taken) (h .ranks))
 
-degree-sum-requires : tie.Need-degree-sum-requires
-degree-sum-requires c κs =
-    let at1 = c .before .before .before .before in
-    let at2 = at1 .before in
-    let at3 = at2 .before .before .before .before .before in
-    let p = at3 .pre in
+clashes-right-requires : tie.Need-clashes-right-requires
+clashes-right-requires c κs =
+    let waves = c .before .before in
+    let rows = waves .before .before in
+    let p = rows .before .before .before .before .before .before .before .pre in
     let l = long _ _ (p .1) in
-    let right = granted _ (at2 .rows-right .result) (at2 .rows-right .ensures) (at1 .if1 .left) in
-    (p .0, (l .degrees, λ b h. omega (arith, right b h .few)))
+    let right = granted _ (rows .before .rows-right .result) (rows .before .rows-right .ensures) (rows .if1 .left) in
+    let small = granted _ (waves .before .all-under .result) (waves .before .all-under .ensures) (waves .if2 .left) in
+    (rows-of (p .0) l right, (record { long = l .waves; small = small }, (l .counts, l .ranks)))
 
 returns-4 : tie.Need-returns-4
 returns-4 c =
     let p = c .before .before .before .before .before .before .before .before .before .before .before .before .before .pre in
-    refuses _ _ (p .0) (p .1) (λ h. c .if4 .taken (h .clashes ∙ ap (λ (z : ℕ). z / 2) (sym (c .before .before .degree-sum .ensures))))
+    refuses _ _ (p .0) (p .1) (λ h. denied _ (c .before .clashes-right .result) (c .before .clashes-right .ensures) (c .if4 .taken) (h .symmetric, h .counts))
 
-wave-count-requires : tie.Need-wave-count-requires
-wave-count-requires c κs =
-    let at1 = c .before .before .before .before .before in
-    let at2 = at1 .before in
-    let at3 = at2 .before .before .before .before .before .before .before in
-    (long _ _ (at3 .pre .1) .waves, granted _ (at2 .waves-small .result) (at2 .waves-small .ensures) (at1 .if2 .left))
+degree-sum-requires : tie.Need-degree-sum-requires
+degree-sum-requires c κs =
+    let rows = c .before .before .before .before .before .before in
+    let p = rows .before .before .before .before .before .before .before .pre in
+    let l = long _ _ (p .1) in
+    let right = granted _ (rows .before .rows-right .result) (rows .before .rows-right .ensures) (rows .if1 .left) in
+    (p .0, (l .degrees, λ b h. omega (arith, right b h .few)))
 
 returns-5 : tie.Need-returns-5
 returns-5 c =
     let p = c .before .before .before .before .before .before .before .before .before .before .before .before .before .before .before .before .pre in
-    refuses _ _ (p .0) (p .1) (λ h. c .if5 .taken (h .waves ∙ sym (c .before .before .wave-count .ensures)))
+    refuses _ _ (p .0) (p .1) (λ h. c .if5 .taken (h .clashes ∙ ap (λ (z : ℕ). z / 2) (sym (c .before .before .degree-sum .ensures))))
+
+wave-count-requires : tie.Need-wave-count-requires
+wave-count-requires c κs =
+    let waves = c .before .before .before .before .before .before .before in
+    let p = waves .before .before .before .before .before .before .before .before .before .pre in
+    (long _ _ (p .1) .waves, granted _ (waves .before .all-under .result) (waves .before .all-under .ensures) (waves .if2 .left))
 
 returns-6 : tie.Need-returns-6
 returns-6 c =
-    let at1 = c .before .before .before in
-    let at2 = at1 .before .before in
-    let at3 = at2 .before in
-    let at4 = at3 .before in
-    let at5 = at4 .before in
-    let at6 = at5 .before in
-    let at7 = at6 .before in
-    let at8 = at7 .before in
-    let at9 = at8 .before .before .before .before .before in
-    let p = at9 .pre in
-    let met = granted _ (at4 .clashes-right .result) (at4 .clashes-right .ensures) (at3 .if3 .left) in
+    let p = c .before .before .before .before .before .before .before .before .before .before .before .before .before .before .before .before .before .before .before .pre in
+    refuses _ _ (p .0) (p .1) (λ h. c .if6 .taken (h .waves ∙ sym (c .before .before .wave-count .ensures)))
+
+returns-7 : tie.Need-returns-7
+returns-7 c =
+    let sums = c .before .before .before in
+    let counts = sums .before .before .before in
+    let ranks = counts .before .before in
+    let waves = ranks .before .before in
+    let rows = waves .before .before in
+    let p = rows .before .before .before .before .before .before .before .pre in
+    let met = granted _ (counts .before .clashes-right .result) (counts .before .clashes-right .ensures) (counts .if4 .left) in
     accepts _ _ (p .0) (p .1) (record {
-      rows = granted _ (at8 .rows-right .result) (at8 .rows-right .ensures) (at7 .if1 .left);
+      rows = granted _ (rows .before .rows-right .result) (rows .before .rows-right .ensures) (rows .if1 .left);
       symmetric = met .0;
-      small = granted _ (at6 .waves-small .result) (at6 .waves-small .ensures) (at5 .if2 .left);
+      small = granted _ (waves .before .all-under .result) (waves .before .all-under .ensures) (waves .if2 .left);
+      ranks = granted _ (ranks .before .all-under2 .result) (ranks .before .all-under2 .ensures) (ranks .if3 .left);
       counts = met .1;
-      clashes = at1 .if4 .left ∙ ap (λ (z : ℕ). z / 2) (at2 .degree-sum .ensures);
-      waves = c .if5 .left ∙ c .before .before .wave-count .ensures;
+      clashes = sums .if5 .left ∙ ap (λ (z : ℕ). z / 2) (sums .before .before .degree-sum .ensures);
+      waves = c .if6 .left ∙ c .before .before .wave-count .ensures;
     })
 
 pub holds-plan-spec : {M : Type 1} → statement M
@@ -96,12 +102,15 @@ holds-plan-spec =
     (tie.spec
     rows-right-requires
     returns
-    waves-small-requires
+    all-under-requires
     returns-2
-    clashes-right-requires
+    add-all-under
+    all-under-requires-2
     returns-3
-    degree-sum-requires
+    clashes-right-requires
     returns-4
-    wave-count-requires
+    degree-sum-requires
     returns-5
-    returns-6)
+    wave-count-requires
+    returns-6
+    returns-7)

@@ -13,22 +13,22 @@ mul-v c = search needs
 
 add-v : tie.Need-add-v
 add-v c =
-    let p = c .before .before .before .before .pre in
+    let p = c .before .before .before .before .before .pre in
     omega (arith, cell-in (p .0) (p .1))
 
 mul-v-2 : tie.Need-mul-v-2
 mul-v-2 c =
-    let p = c .before .before .before .before .pre in
+    let p = c .before .before .before .before .before .pre in
     omega (arith, cell-in (p .0) (p .1))
 
 shared-slice-read-v : tie.Need-shared-slice-read-v
 shared-slice-read-v c =
-    let at1 = c .before .before .before .before .before in
+    let at1 = c .before .before .before .before .before .before in
     cell-in (at1 .pre .0) (at1 .pre .1)
 
 returns : tie.Need-returns
 returns c =
-    let p = c .before .before .before .before .before .before .before .pre in
+    let p = c .before .before .before .before .before .before .before .before .pre in
     λ sm. omega (arith, not-below (p .0) (p .1) sm, c .if1 .taken)
 
 wide-requires : tie.Need-wide-requires
@@ -36,25 +36,25 @@ wide-requires c κs = search needs
 
 mul-met : tie.Need-mul-met
 mul-met c =
-    let p = c .before .before .before .before .before .before .before .before .pre in
+    let p = c .before .before .before .before .before .before .before .before .before .pre in
     let to = c .wide .ensures in
     omega (arith, to, v-cursor (p .0) (p .1))
 
 element-copy-out-met : tie.Need-element-copy-out-met
 element-copy-out-met c =
-    let p = c .before .before .before .before .before .before .before .before .pre in
+    let p = c .before .before .before .before .before .before .before .before .before .pre in
     let to = c .wide .ensures in
     omega (arith, to, v-cursor (p .0) (p .1))
 
 mul-if2 : tie.Need-mul-if2
 mul-if2 c =
-    let p = c .before .before .before .before .before .before .before .before .before .pre in
+    let p = c .before .before .before .before .before .before .before .before .before .before .pre in
     let to = c .before .wide .ensures in
     omega (arith, to, v-cursor (p .0) (p .1))
 
 shared-slice-read-if2 : tie.Need-shared-slice-read-if2
 shared-slice-read-if2 c =
-    let p = c .before .before .before .before .before .before .before .before .before .before .pre in
+    let p = c .before .before .before .before .before .before .before .before .before .before .before .pre in
     let to = c .before .before .wide .ensures in
     omega (arith, to, v-degree (p .0) (p .1))
 
@@ -62,7 +62,7 @@ returns-2 : tie.Need-returns-2
 returns-2 c =
     let at1 = c .before .before .before in
     let at2 = at1 .before in
-    let at3 = at2 .before .before .before .before .before .before .before in
+    let at3 = at2 .before .before .before .before .before .before .before .before in
     let p = at3 .pre in
     let to = at1 .wide .ensures in
     let lt = at2 .if1 .left in
@@ -71,7 +71,7 @@ returns-2 c =
 mul-if3 : tie.Need-mul-if3
 mul-if3 c =
     let at1 = c .before .before .before in
-    let at2 = at1 .before .before .before .before .before .before .before .before in
+    let at2 = at1 .before .before .before .before .before .before .before .before .before in
     let p = at2 .pre in
     let to = at1 .wide .ensures in
     omega (arith, to, v-cursor (p .0) (p .1))
@@ -82,7 +82,7 @@ wide-requires-2 c κs = search needs
 add-if3 : tie.Need-add-if3
 add-if3 c =
     let at1 = c .before .before .before .before in
-    let at2 = at1 .before .before .before .before .before .before .before .before in
+    let at2 = at1 .before .before .before .before .before .before .before .before .before in
     let p = at2 .pre in
     let to = at1 .wide .ensures in
     let less = rw to at (c .before .if2 .left) in
@@ -92,7 +92,7 @@ add-if3 c =
 mul-if3-2 : tie.Need-mul-if3-2
 mul-if3-2 c =
     let at1 = c .before .before .before .before in
-    let at2 = at1 .before .before .before .before .before .before .before .before in
+    let at2 = at1 .before .before .before .before .before .before .before .before .before in
     let p = at2 .pre in
     let to = at1 .wide .ensures in
     let less = rw to at (c .before .if2 .left) in
@@ -102,7 +102,7 @@ mul-if3-2 c =
 shared-slice-read-if3 : tie.Need-shared-slice-read-if3
 shared-slice-read-if3 c =
     let at1 = c .before .before .before .before .before in
-    let at2 = at1 .before .before .before .before .before .before .before .before in
+    let at2 = at1 .before .before .before .before .before .before .before .before .before in
     let p = at2 .pre in
     let to = at1 .wide .ensures in
     let less = rw to at (c .before .before .if2 .left) in
@@ -114,7 +114,7 @@ returns-3 c =
     let at1 = c .before .before .before in
     let at2 = at1 .before .before .before .before in
     let at3 = at2 .before in
-    let at4 = at3 .before .before .before .before .before .before .before in
+    let at4 = at3 .before .before .before .before .before .before .before .before in
     let p = at4 .pre in
     let to = at2 .wide .ensures in
     let lt = at3 .if1 .left in
@@ -125,7 +125,7 @@ add-cursors : tie.Need-add-cursors
 add-cursors c =
     let at1 = c .before .before .before .before in
     let at2 = at1 .before .before .before in
-    let at3 = at2 .before .before .before .before .before .before .before .before in
+    let at3 = at2 .before .before .before .before .before .before .before .before .before in
     let p = at3 .pre in
     let to = at2 .wide .ensures in
     let less = rw to at (at1 .if2 .left) in
@@ -134,7 +134,7 @@ add-cursors c =
 mul-cursors : tie.Need-mul-cursors
 mul-cursors c =
     let at1 = c .before .before .before .before .before .before .before in
-    let at2 = at1 .before .before .before .before .before .before .before .before in
+    let at2 = at1 .before .before .before .before .before .before .before .before .before in
     let p = at2 .pre in
     let to = at1 .wide .ensures in
     omega (arith, to, v-cursor (p .0) (p .1))
@@ -142,14 +142,14 @@ mul-cursors c =
 element-write-cursors : tie.Need-element-write-cursors
 element-write-cursors c =
     let at1 = c .before .before .before .before .before .before .before in
-    let at2 = at1 .before .before .before .before .before .before .before .before in
+    let at2 = at1 .before .before .before .before .before .before .before .before .before in
     let p = at2 .pre in
     let to = at1 .wide .ensures in
     omega (arith, to, v-cursor (p .0) (p .1))
 
 pair-cell-requires : tie.Need-pair-cell-requires
 pair-cell-requires c κs =
-    let at1 = c .before .before .before .before .before .before .before .before .before .before .before .before .before .before .before in
+    let at1 = c .before .before .before .before .before .before .before .before .before .before .before .before .before .before .before .before in
     pairable (at1 .pre .0) (at1 .pre .1)
 
 mul-cells : tie.Need-mul-cells
@@ -157,7 +157,7 @@ mul-cells c =
     let at1 = c .before .before .before .before .before in
     let at2 = at1 .before .before .before in
     let at3 = at2 .before in
-    let at4 = at3 .before .before .before .before .before .before .before in
+    let at4 = at3 .before .before .before .before .before .before .before .before in
     let p = at4 .pre in
     let to = at2 .wide .ensures in
     let lt = at3 .if1 .left in
@@ -169,7 +169,7 @@ element-copy-out-cells c =
     let at1 = c .before .before .before .before .before in
     let at2 = at1 .before .before .before in
     let at3 = at2 .before in
-    let at4 = at3 .before .before .before .before .before .before .before in
+    let at4 = at3 .before .before .before .before .before .before .before .before in
     let p = at4 .pre in
     let to = at2 .wide .ensures in
     let lt = at3 .if1 .left in
@@ -181,7 +181,7 @@ add-cells c =
     let at1 = c .before .before .before .before .before .before in
     let at2 = at1 .before .before .before in
     let at3 = at2 .before in
-    let at4 = at3 .before .before .before .before .before .before .before in
+    let at4 = at3 .before .before .before .before .before .before .before .before in
     let p = at4 .pre in
     let to = at2 .wide .ensures in
     let lt = at3 .if1 .left in
@@ -193,7 +193,7 @@ mul-cells-2 c =
     let at1 = c .before .before .before .before .before .before in
     let at2 = at1 .before .before .before in
     let at3 = at2 .before in
-    let at4 = at3 .before .before .before .before .before .before .before in
+    let at4 = at3 .before .before .before .before .before .before .before .before in
     let p = at4 .pre in
     let to = at2 .wide .ensures in
     let lt = at3 .if1 .left in
@@ -205,7 +205,7 @@ element-write-cells c =
     let at1 = c .before .before .before .before .before .before in
     let at2 = at1 .before .before .before in
     let at3 = at2 .before in
-    let at4 = at3 .before .before .before .before .before .before .before in
+    let at4 = at3 .before .before .before .before .before .before .before .before in
     let p = at4 .pre in
     let to = at2 .wide .ensures in
     let lt = at3 .if1 .left in
@@ -218,7 +218,7 @@ returns-4 c =
     let at2 = at1 .before in
     let at3 = at2 .before .before .before in
     let at4 = at3 .before in
-    let at5 = at4 .before .before .before .before .before .before .before in
+    let at5 = at4 .before .before .before .before .before .before .before .before in
     let p = at5 .pre in
     let to = at3 .wide .ensures in
     let lt = at4 .if1 .left in

@@ -18,7 +18,7 @@ mul-wide : tie.Need-mul-wide
 mul-wide c = search needs
 
 shared-slice-read-wide : tie.Need-shared-slice-read-wide
-shared-slice-read-wide c = omega (arith, c .before .wide2 .ensures, c .before .before .before .before .before .pre .long-waves .1)
+shared-slice-read-wide c = omega (arith, c .before .wide2 .ensures, c .before .before .before .before .before .before .pre .long-waves .1)
 
 wide-requires-3 : tie.Need-wide-requires-3
 wide-requires-3 c κs = search needs
@@ -26,7 +26,7 @@ wide-requires-3 c κs = search needs
 add-for-b : tie.Need-add-for-b
 add-for-b c =
     let at1 = c .before .before .before in
-    let at2 = at1 .before .before .before in
+    let at2 = at1 .before .before .before .before in
     omega (arith, at1 .wide .ensures, rw (c .before .before .wide2 .ensures) at (c .wide3 .ensures), at2 .pre .few .0, at2 .pre .small .1)
 
 mul-for-v : tie.Need-mul-for-v
@@ -38,7 +38,7 @@ mul-wide-2 c = search needs
 shared-slice-read-wide-2 : tie.Need-shared-slice-read-wide-2
 shared-slice-read-wide-2 c =
     let at1 = c .before .before .before .before in
-    let at2 = at1 .before .before .before in
+    let at2 = at1 .before .before .before .before in
     omega (arith, at1 .wide .ensures, at2 .pre .long-waves .0)
 
 wide-requires-4 : tie.Need-wide-requires-4
@@ -48,11 +48,13 @@ add-for-v : tie.Need-add-for-v
 add-for-v c =
     let at1 = c .before .before .before .before in
     let at2 = at1 .before in
-    let at3 = at2 .before .before .before in
+    let at3 = at2 .before .before .before .before in
     omega (arith, at1 .wide2 .ensures, rw (at2 .wide .ensures) at (c .wide4 .ensures), at3 .pre .few .1, at3 .pre .small .0)
 
 is-earlier-requires : tie.Need-is-earlier-requires
-is-earlier-requires c κs = c .before .before .before .before .before .before .before .before .pre .long-degrees
+is-earlier-requires c κs =
+    let p = c .before .before .before .before .before .before .before .before .before .pre in
+    (p .long-degrees, p .long-ranks)
 
 returns : tie.Need-returns
 returns c =

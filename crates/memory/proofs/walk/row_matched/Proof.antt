@@ -10,10 +10,10 @@ use Rattle.memory.proofs.walk.row_matched.Statement.{statement}
 use Rattle.memory.proofs.walk.row_matched.Tie as tie
 
 abbrev Inv-loop : tie.InvT-loop
-Inv-loop neighbours degrees waves cursors₀ cells₀ banks b at degree i₀ cursors cells i = (i ≤ degree) × Walk neighbours degrees waves banks (b .0) i cursors cells
+Inv-loop neighbours degrees ranks waves cursors₀ cells₀ banks b at degree i₀ cursors cells i = (i ≤ degree) × Walk neighbours degrees ranks waves banks (b .0) i cursors cells
 
 abbrev μ-loop : tie.MeasureT-loop
-μ-loop neighbours degrees waves cursors₀ cells₀ banks b at degree i₀ cursors cells i = degree - i
+μ-loop neighbours degrees ranks waves cursors₀ cells₀ banks b at degree i₀ cursors cells i = degree - i
 
 cast-at : tie.Need-cast-at Inv-loop μ-loop
 cast-at c = search needs
@@ -23,7 +23,7 @@ mul-wide c = search needs
 
 shared-slice-read-wide : tie.Need-shared-slice-read-wide Inv-loop μ-loop
 shared-slice-read-wide c =
-    let at1 = c .before .before .before .before .before in
+    let at1 = c .before .before .before .before .before .before in
     omega (arith, at1 .pre .0 .ground .rows .long-degrees, at1 .pre .1)
 
 wide-requires : tie.Need-wide-requires Inv-loop μ-loop
@@ -34,7 +34,7 @@ mul-wide-2 c = search needs
 
 element-copy-out-wide : tie.Need-element-copy-out-wide Inv-loop μ-loop
 element-copy-out-wide c =
-    let at1 = c .before .before .before .before .before .before in
+    let at1 = c .before .before .before .before .before .before .before in
     omega (arith, at1 .pre .0 .ground .rows .most, at1 .pre .1)
 
 wide-requires-2 : tie.Need-wide-requires-2 Inv-loop μ-loop
@@ -42,7 +42,7 @@ wide-requires-2 c κs = search needs
 
 loop-holds : tie.Need-loop-holds Inv-loop μ-loop
 loop-holds c =
-    let at1 = c .before .before .before .before .before .before .before .before in
+    let at1 = c .before .before .before .before .before .before .before .before .before in
     let p = at1 .pre in
     (omega (arith, c .wide2 .ensures, c .before .before .wide .ensures, p .0 .ground .within (at1 .args .b .0) (p .1)), walk-start (p .0) (p .1) (c .wide2 .ensures))
 
@@ -67,7 +67,7 @@ loop-again c = (search needs, goes-on _ _ _ (c .before .match-one .result) (c .b
 returns-2 : tie.Need-returns-2 Inv-loop μ-loop
 returns-2 c =
     let at1 = c .before .before .before .before in
-    let at2 = at1 .before .before .before .before .before .before in
+    let at2 = at1 .before .before .before .before .before .before .before in
     let a = at2 .args in
     let e : c .before .loop .i ≡ getD (a .degrees .now) (a .b .0) 0 = omega (arith, at1 .wide .ensures) in
     walk-end (rw e at (c .before .loop .inv .1))

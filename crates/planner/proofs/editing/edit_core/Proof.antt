@@ -33,8 +33,8 @@ same-length-6 c = search needs
 returns : tie.Need-returns
 returns c =
     let n = c .before .before in
-    let a = n .before .before .before .before .before .before .before .before .before .before .before .before .before .args in
-    call-refused _ _ _ (given (a .neighbours) (a .degrees) (a .waves) (a .counts) (a .trail) (a .moved) (a .tally))
+    let a = n .before .before .before .before .before .before .before .before .before .before .before .before .before .before .args in
+    call-refused _ _ _ (given (a .neighbours) (a .degrees) (a .waves) (a .counts) (a .ranks) (a .trail) (a .moved) (a .tally))
     (n .check-memory .result) (n .check-memory .ensures .0) (c .before .if1 .taken) (c .refuse .result) (c .refuse .ensures .0) (c .refuse .ensures .1)
 
 edit-held-requires : tie.Need-edit-held-requires
@@ -62,8 +62,8 @@ returns-2 : tie.Need-returns-2
 returns-2 c =
     let made = c .before .before .before .before .before .before .before .before .before .before .before .before in
     let n = made .before .before .before .before .before .before .before in
-    let a = n .before .before .before .before .before .before .before .before .before .before .before .before .before .before .args in
-    call-held _ _ _ (given (a .neighbours) (a .degrees) (a .waves) (a .counts) (a .trail) (a .moved) (a .tally))
+    let a = n .before .before .before .before .before .before .before .before .before .before .before .before .before .before .before .args in
+    call-held _ _ _ (given (a .neighbours) (a .degrees) (a .waves) (a .counts) (a .ranks) (a .trail) (a .moved) (a .tally))
     (sym (n .if1 .left) ∙ n .before .check-memory .ensures .0) (made .edit-held .ensures _ (n .before .check-memory .ensures .1 (n .if1 .left)))
 
 pub edit-core-spec : {M : Type 1} → statement M

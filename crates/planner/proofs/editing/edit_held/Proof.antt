@@ -7,7 +7,7 @@ use Rattle.planner.proofs.editing.edit_held.Statement.{statement}
 use Rattle.planner.proofs.editing.edit_held.Tie as tie
 
 edit-number-requires : tie.Need-edit-number-requires
-edit-number-requires c κs = let held = c .before .before .before .before .before .before .before .before .before .before .pre in (held .0, held .1 .plan)
+edit-number-requires c κs = let held = c .before .before .before .before .before .before .before .before .before .before .before .pre in (held .0, held .1 .plan)
 
 refuse-requires : tie.Need-refuse-requires
 refuse-requires c κs = search needs
@@ -27,9 +27,9 @@ same-length-4 c = search needs
 returns : tie.Need-returns
 returns c =
     let n = c .before .before in
-    let a = n .before .before .before .before .before .before .before .before .before .before .before .args in
+    let a = n .before .before .before .before .before .before .before .before .before .before .before .before .args in
     λ G ready.
-    edit-refused _ G _ _ (given (a .neighbours) (a .degrees) (a .waves) (a .counts) (a .trail) (a .moved) (a .tally)) ready
+    edit-refused _ G _ _ (given (a .neighbours) (a .degrees) (a .waves) (a .counts) (a .ranks) (a .trail) (a .moved) (a .tally)) ready
     (n .edit-number .result) (n .edit-number .ensures G (ready .plan)) (c .before .if1 .taken) (c .refuse .result) (c .refuse .ensures .0) (c .refuse .ensures .1)
 
 make-edit-requires : tie.Need-make-edit-requires
@@ -37,7 +37,7 @@ make-edit-requires c κs =
     let at1 = c .before .before .before .before .before .before in
     let at2 = at1 .before in
     let n = at2 in
-    let held = n .before .before .before .before .before .before .before .before .before .before .before .pre in
+    let held = n .before .before .before .before .before .before .before .before .before .before .before .before .pre in
     (held .0, editable _ _ _ (held .1) (sym (at1 .if1 .left) ∙ n .edit-number .ensures (held .0) (held .1 .plan)))
 
 same-length-5 : tie.Need-same-length-5

@@ -25,7 +25,7 @@ returns-3 c =
     sym (one-bank G _ _ (omega (arith, at2 .if1 .left)) (omega (arith, at1 .if2 .left)) _ (c .if3 .taken))
 
 clashes-held-requires : tie.Need-clashes-held-requires
-clashes-held-requires c κs = let p = c .before .before .before .before .before .before in (p .before .before .before .before .before .before .before .pre, p .if1 .left)
+clashes-held-requires c κs = let p = c .before .before .before .before .before .before in (p .before .before .before .before .before .before .before .before .pre, p .if1 .left)
 
 wide-requires : tie.Need-wide-requires
 wide-requires c κs = search needs
@@ -39,7 +39,7 @@ mul-clash-number c = search needs
 shared-slice-read-clash-number : tie.Need-shared-slice-read-clash-number
 shared-slice-read-clash-number c =
     let p = c .before .before .before .before .before .before .before .before .before .before in omega
-    (arith, degree-cell (p .before .before .before .before .before .before .before .pre .1) (p .if1 .left), c .before .before .wide .ensures)
+    (arith, degree-cell (p .before .before .before .before .before .before .before .before .pre .1) (p .if1 .left), c .before .before .wide .ensures)
 
 mul-clash-number-2 : tie.Need-mul-clash-number-2
 mul-clash-number-2 c = search needs
@@ -48,7 +48,7 @@ shared-slice-read-clash-number-2 : tie.Need-shared-slice-read-clash-number-2
 shared-slice-read-clash-number-2 c =
     let p = c .before .before .before .before .before .before .before .before in omega (
       arith,
-      degree-cell (p .before .before .before .before .before .before .before .before .before .before .pre .1)
+      degree-cell (p .before .before .before .before .before .before .before .before .before .before .before .pre .1)
           (p .if2 .left),
       c .before .before .wide2 .ensures,
     )

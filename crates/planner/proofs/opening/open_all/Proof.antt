@@ -26,10 +26,13 @@ same-length-3 c = search needs
 same-length-4 : tie.Need-same-length-4
 same-length-4 c = search needs
 
+same-length-5 : tie.Need-same-length-5
+same-length-5 c = search needs
+
 returns-2 : tie.Need-returns-2
 returns-2 c =
-    let at1 = c .before .before .before .before .before .before .before .before in
-    let at2 = at1 .before .before .before .before .before in
+    let at1 = c .before .before .before .before .before .before .before .before .before .before in
+    let at2 = at1 .before .before .before .before .before .before in
     let at3 = at2 .before in
     room-opened _ _ _ (at3 .room-number .ensures) (at2 .if1 .left) _ _ (at1 .open-core .ensures)
 
@@ -44,4 +47,5 @@ open-all-spec =
     same-length-2
     same-length-3
     same-length-4
+    same-length-5
     returns-2)

@@ -19,7 +19,7 @@ mul-wide c = search needs
 
 shared-slice-read-wide : tie.Need-shared-slice-read-wide
 shared-slice-read-wide c =
-    let at1 = c .before .before .before .before .before .before in
+    let at1 = c .before .before .before .before .before .before .before in
     omega (arith, degree-cell (at1 .pre .0 .1) (at1 .pre .1), c .before .wide .ensures)
 
 wide-requires-2 : tie.Need-wide-requires-2
@@ -27,7 +27,7 @@ wide-requires-2 c κs = search needs
 
 add-end : tie.Need-add-end
 add-end c =
-    let at1 = c .before .before .before .before .before .before .before in
+    let at1 = c .before .before .before .before .before .before .before .before in
     let d = ap (λ (k : ℕ). getD (at1 .args .degrees .now) k 0) (c .before .before .wide .ensures) in
     omega (arith, few-cells (at1 .pre .0 .1) (at1 .pre .1), c .wide2 .ensures)
 
@@ -42,14 +42,14 @@ part-result-start c = search needs
 
 part-result-end : tie.Need-part-result-end
 part-result-end c =
-    let at1 = c .before .before .before .before .before .before .before in
+    let at1 = c .before .before .before .before .before .before .before .before in
     let d = ap (λ (k : ℕ). getD (at1 .args .degrees .now) k 0) (c .before .before .wide .ensures) in
     omega (arith, few-cells (at1 .pre .0 .1) (at1 .pre .1), row-cells (at1 .pre .0 .1) (at1 .pre .1), c .wide2 .ensures, c .before .before .wide .ensures)
 
 returns : tie.Need-returns
 returns c =
     let at1 = c .before .before .before in
-    let at2 = at1 .before .before .before .before .before in
+    let at2 = at1 .before .before .before .before .before .before in
     λ G p.
     row-part p (at2 .pre .1) (at1 .wide .result) (c .before .wide2 .result) (at1 .wide .ensures)
     (c .before .wide2 .ensures ∙ ap (λ (k : ℕ). getD (at2 .args .degrees .now) k 0) (at1 .wide .ensures))

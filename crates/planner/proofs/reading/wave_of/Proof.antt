@@ -17,18 +17,18 @@ returns c = (c .before .check-bank .ensures .0, wave-refused _ _ _ _ (c .before 
 wide-requires : tie.Need-wide-requires
 wide-requires c κs = search needs
 
-mul-t11 : tie.Need-mul-t11
-mul-t11 c = search needs
+mul-t12 : tie.Need-mul-t12
+mul-t12 c = search needs
 
-shared-slice-read-t13 : tie.Need-shared-slice-read-t13
-shared-slice-read-t13 c =
+shared-slice-read-t14 : tie.Need-shared-slice-read-t14
+shared-slice-read-t14 c =
     let at1 = c .before .before .before in
     let h = at1 .check-bank .ensures .1 (c .before .before .if1 .left) in omega (arith, wave-cell (h .0) (h .1), c .before .wide .ensures)
 
 returns-2 : tie.Need-returns-2
 returns-2 c =
     let at1 = c .before .before .before in
-    let at2 = at1 .before .before .before .before .before in
+    let at2 = at1 .before .before .before .before .before .before in
     let z = sym (c .before .before .if1 .left) ∙ at1 .check-bank .ensures .0 in
     let h = at1 .check-bank .ensures .1 (c .before .before .if1 .left) in
     (z, ap (λ (k : ℕ). getD (at2 .args .waves .now) k 0) (c .before .wide .ensures) ∙ plan-wave (h .0) (h .1) ∙ wave-found _ _ _ z)
@@ -36,4 +36,4 @@ returns-2 c =
 pub wave-of-spec : {M : Type 1} → statement M
 wave-of-spec =
     tie.close
-    (tie.spec check-bank-requires returns wide-requires mul-t11 shared-slice-read-t13 returns-2)
+    (tie.spec check-bank-requires returns wide-requires mul-t12 shared-slice-read-t14 returns-2)

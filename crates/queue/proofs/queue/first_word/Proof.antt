@@ -12,7 +12,7 @@ mul-marks : tie.Need-mul-marks
 mul-marks c = search needs
 
 element-copy-out-marks : tie.Need-element-copy-out-marks
-element-copy-out-marks c = summary-inside (c .before .pre .1) (c .first-summary .ensures)
+element-copy-out-marks c = summary-inside (c .before .pre .2) (c .first-summary .ensures)
 
 sub-result : tie.Need-sub-result
 sub-result c = search needs
@@ -22,19 +22,19 @@ mul-result c = search needs
 
 cast-result : tie.Need-cast-result
 cast-result c =
-    let wait = c .before .before .pre .1 in
+    let wait = c .before .before .pre .2 in
     let first = c .before .first-summary .ensures in
     omega (arith, lowest-mark (wait .queue) first (summary-inside wait first) .inside)
 
 add-result : tie.Need-add-result
 add-result c =
-    let wait = c .before .before .pre .1 in
+    let wait = c .before .before .pre .2 in
     let first = c .before .first-summary .ensures in
     omega (arith, lowest-mark (wait .queue) first (summary-inside wait first) .inside)
 
 returns : tie.Need-returns
 returns c =
-    let wait = c .before .before .pre .1 in
+    let wait = c .before .before .pre .2 in
     let first = c .before .first-summary .ensures in
     head-word (wait .queue) first (summary-inside wait first)
 

@@ -30,8 +30,14 @@ add-wave c = search needs
 add-count : tie.Need-add-count
 add-count c = search needs
 
-mul-end : tie.Need-mul-end
-mul-end c = search needs
+mul-tally-at : tie.Need-mul-tally-at
+mul-tally-at c = search needs
+
+add-tally-at : tie.Need-add-tally-at
+add-tally-at c = search needs
+
+add-rank : tie.Need-add-rank
+add-rank c = search needs
 
 add-end : tie.Need-add-end
 add-end c = search needs
@@ -84,23 +90,20 @@ part-holds-plan-start-4 c = search needs
 part-holds-plan-end-4 : tie.Need-part-holds-plan-end-4
 part-holds-plan-end-4 c = search needs
 
+mul-holds-plan-5 : tie.Need-mul-holds-plan-5
+mul-holds-plan-5 c = search needs
+
+sub-holds-plan-5 : tie.Need-sub-holds-plan-5
+sub-holds-plan-5 c = search needs
+
+part-holds-plan-start-5 : tie.Need-part-holds-plan-start-5
+part-holds-plan-start-5 c = search needs
+
+part-holds-plan-end-5 : tie.Need-part-holds-plan-end-5
+part-holds-plan-end-5 c = search needs
+
 holds-plan-requires : tie.Need-holds-plan-requires
 holds-plan-requires c κs =
-    let at1 = c .before .before .before .before .before .before .before .before .before in
-    let n = c .before .before .before .before .before .before .before .wide .result in
-    let t = c .before .before .before .before .before .before .tally-in in
-    let cells = at1 .args .place .now in
-    let degree = 1 + n * 23 in
-    let wave = degree + n in
-    let count = wave + n in
-    let end = count + n * 24 in
-    let is-n = c .before .before .before .before .before .before .before .wide .ensures in
-    let banks = c .before .before .before .before .if1 .left in
-    let parts = slices-from (at1 .args .banks) degree wave count end cells (omega arith) (omega arith) (omega arith) (omega arith) in
-    (omega (arith, banks), rw (banks, parts) (slices-long (at1 .args .banks) cells (at1 .pre .1)))
-
-returns-2 : tie.Need-returns-2
-returns-2 c =
     let at1 = c .before .before .before .before .before .before .before .before .before .before in
     let n = c .before .before .before .before .before .before .before .before .wide .result in
     let t = c .before .before .before .before .before .before .before .tally-in in
@@ -108,10 +111,29 @@ returns-2 c =
     let degree = 1 + n * 23 in
     let wave = degree + n in
     let count = wave + n in
-    let end = count + n * 24 in
+    let tally-at = count + n * 24 in
+    let rank = tally-at + 3 in
     let is-n = c .before .before .before .before .before .before .before .before .wide .ensures in
     let banks = c .before .before .before .before .before .if1 .left in
-    let parts = slices-from (at1 .args .banks) degree wave count end cells (omega arith) (omega arith) (omega arith) (omega arith) in
+    let parts = slices-from (at1 .args .banks) degree wave count tally-at rank (rank + n) cells
+    (omega arith) (omega arith) (omega arith) (omega arith) (omega arith) (omega arith) in
+    (omega (arith, banks), rw (banks, parts) (slices-long (at1 .args .banks) cells (at1 .pre .1)))
+
+returns-2 : tie.Need-returns-2
+returns-2 c =
+    let at1 = c .before .before .before .before .before .before .before .before .before .before .before in
+    let n = c .before .before .before .before .before .before .before .before .before .wide .result in
+    let t = c .before .before .before .before .before .before .before .before .tally-in in
+    let cells = at1 .args .place .now in
+    let degree = 1 + n * 23 in
+    let wave = degree + n in
+    let count = wave + n in
+    let tally-at = count + n * 24 in
+    let rank = tally-at + 3 in
+    let is-n = c .before .before .before .before .before .before .before .before .before .wide .ensures in
+    let banks = c .before .before .before .before .before .before .if1 .left in
+    let parts = slices-from (at1 .args .banks) degree wave count tally-at rank (rank + n) cells
+    (omega arith) (omega arith) (omega arith) (omega arith) (omega arith) (omega arith) in
     holds-here (at1 .args .banks) cells _ (t .result) (rw is-n at (t .ensures)) banks (rw parts at (c .holds-plan .ensures))
 
 pub holds-in-spec : {M : Type 1} → statement M
@@ -125,7 +147,9 @@ holds-in-spec =
     add-degree
     add-wave
     add-count
-    mul-end
+    mul-tally-at
+    add-tally-at
+    add-rank
     add-end
     mul-holds-plan
     sub-holds-plan
@@ -143,5 +167,9 @@ holds-in-spec =
     sub-holds-plan-4
     part-holds-plan-start-4
     part-holds-plan-end-4
+    mul-holds-plan-5
+    sub-holds-plan-5
+    part-holds-plan-start-5
+    part-holds-plan-end-5
     holds-plan-requires
     returns-2)

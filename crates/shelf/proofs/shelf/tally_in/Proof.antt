@@ -14,32 +14,32 @@ add-at-2 c = search needs
 mul-at : tie.Need-mul-at
 mul-at c = search needs
 
-add-t4 : tie.Need-add-t4
-add-t4 c = search needs
+add-at-3 : tie.Need-add-at-3
+add-at-3 c = search needs
+
+mul-t4 : tie.Need-mul-t4
+mul-t4 c = search needs
+
+shared-slice-read-t8 : tie.Need-shared-slice-read-t8
+shared-slice-read-t8 c = search needs
+
+add-t6 : tie.Need-add-t6
+add-t6 c = search needs
 
 mul-t5 : tie.Need-mul-t5
 mul-t5 c = search needs
 
-shared-slice-read-t7 : tie.Need-shared-slice-read-t7
-shared-slice-read-t7 c = search needs
+shared-slice-read-t10 : tie.Need-shared-slice-read-t10
+shared-slice-read-t10 c = search needs
 
-add-t8 : tie.Need-add-t8
-add-t8 c = search needs
+add-t11 : tie.Need-add-t11
+add-t11 c = search needs
 
-mul-t9 : tie.Need-mul-t9
-mul-t9 c = search needs
+mul-t12 : tie.Need-mul-t12
+mul-t12 c = search needs
 
-shared-slice-read-t11 : tie.Need-shared-slice-read-t11
-shared-slice-read-t11 c = search needs
-
-add-t12 : tie.Need-add-t12
-add-t12 c = search needs
-
-mul-t13 : tie.Need-mul-t13
-mul-t13 c = search needs
-
-shared-slice-read-t15 : tie.Need-shared-slice-read-t15
-shared-slice-read-t15 c = search needs
+shared-slice-read-t14 : tie.Need-shared-slice-read-t14
+shared-slice-read-t14 c = search needs
 
 returns : tie.Need-returns
 returns c = let at1 = c .before .before .before in tally-from (at1 .args .n) _ (at1 .args .place .now) (omega arith)
@@ -51,13 +51,13 @@ tally-in-spec =
     add-at
     add-at-2
     mul-at
-    add-t4
+    add-at-3
+    mul-t4
+    shared-slice-read-t8
+    add-t6
     mul-t5
-    shared-slice-read-t7
-    add-t8
-    mul-t9
-    shared-slice-read-t11
-    add-t12
-    mul-t13
-    shared-slice-read-t15
+    shared-slice-read-t10
+    add-t11
+    mul-t12
+    shared-slice-read-t14
     returns)

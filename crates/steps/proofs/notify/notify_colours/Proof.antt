@@ -11,30 +11,30 @@ use Rattle.steps.proofs.notify.notify_colours.Statement.{statement}
 use Rattle.steps.proofs.notify.notify_colours.Tie as tie
 
 abbrev Inv-loop : tie.InvT-loop
-Inv-loop neighbours degrees counts₀ queue₀ b changed old new at degree i₀ counts queue i =
+Inv-loop neighbours degrees counts₀ ranks queue₀ b changed old new at degree i₀ counts queue i =
     (i ≤ degree)
     × (length counts ≡ length counts₀)
     × ((s : Notice)
-    → Notifying s neighbours degrees counts₀ queue₀ (b .0) (old .0) (new .0) 0
-    → Notifying s neighbours degrees counts queue (b .0) (old .0) (new .0) i)
+    → Notifying s neighbours degrees ranks counts₀ queue₀ (b .0) (old .0) (new .0) 0
+    → Notifying s neighbours degrees ranks counts queue (b .0) (old .0) (new .0) i)
 
 abbrev μ-loop : tie.MeasureT-loop
-μ-loop neighbours degrees counts₀ queue₀ b changed old new at degree i₀ counts queue i = degree - i
+μ-loop neighbours degrees counts₀ ranks queue₀ b changed old new at degree i₀ counts queue i = degree - i
 
 returns : tie.Need-returns Inv-loop μ-loop
-returns c = λ G nf. none-notified nf _ (λ x. rw (not-true (c .before .before .before .before .args .changed) (c .if1 .taken)) refl)
+returns c = λ G nf. none-notified nf _ (λ x. rw (not-true (c .before .before .before .before .before .args .changed) (c .if1 .taken)) refl)
 
 cast-at : tie.Need-cast-at Inv-loop μ-loop
 cast-at c = search needs
 
 mul-degree : tie.Need-mul-degree Inv-loop μ-loop
-mul-degree c = let nf = c .before .before .before .before .before .pre .1 in omega (arith, nf .bank, nf .shown .few)
+mul-degree c = let nf = c .before .before .before .before .before .before .pre .1 in omega (arith, nf .bank, nf .shown .few)
 
 shared-slice-read-degree : tie.Need-shared-slice-read-degree Inv-loop μ-loop
-shared-slice-read-degree c = let nf = c .before .before .before .before .before .before .pre .1 in omega (arith, nf .bank, nf .shown .wide-degrees)
+shared-slice-read-degree c = let nf = c .before .before .before .before .before .before .before .pre .1 in omega (arith, nf .bank, nf .shown .wide-degrees)
 
 cast-degree : tie.Need-cast-degree Inv-loop μ-loop
-cast-degree c = omega (arith, few-neighbours (c .before .before .before .before .before .before .pre .1))
+cast-degree c = omega (arith, few-neighbours (c .before .before .before .before .before .before .before .pre .1))
 
 loop-holds : tie.Need-loop-holds Inv-loop μ-loop
 loop-holds c = (omega arith, refl, λ s nt. nt)
@@ -43,11 +43,13 @@ notify-one-requires : tie.Need-notify-one-requires Inv-loop μ-loop
 notify-one-requires c κs =
     let loop = c .before .before .before in
     let at = loop .before .before .before in
-    let start = start-notifying (not-false _ (at .if1 .left)) (at .before .before .before .before .pre .1) in
+    let start = start-notifying (not-false _ (at .if1 .left)) (at .before .before .before .before .before .pre .1) in
     ((_, loop .loop .inv .2 _ start), c .before .before .loop-test .taken)
 
 add-i : tie.Need-add-i Inv-loop μ-loop
-add-i c = let test = c .before .before .before .before .before in omega (arith, few-neighbours (test .before .before .before .before .before .before .before .before .pre .1), test .loop-test .taken)
+add-i c =
+    let test = c .before .before .before .before .before in
+    omega (arith, few-neighbours (test .before .before .before .before .before .before .before .before .before .pre .1), test .loop-test .taken)
 
 loop-less : tie.Need-loop-less Inv-loop μ-loop
 loop-less c = omega arith
@@ -65,7 +67,7 @@ returns-2 : tie.Need-returns-2 Inv-loop μ-loop
 returns-2 c =
     let loop = c .before .loop in
     let at = c .before .before .before .before in
-    let a = at .before .before .before .before .args in
+    let a = at .before .before .before .before .before .args in
     let e : loop .i ≡ getD (a .degrees .now) (a .b .0) 0 = omega (arith, loop .inv .0, c .loop-test .left) in
     λ G nf.
     let said = not-false _ (at .if1 .left) in

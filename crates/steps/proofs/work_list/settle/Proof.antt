@@ -12,17 +12,17 @@ use Rattle.steps.proofs.work_list.settle.Statement.{statement}
 use Rattle.steps.proofs.work_list.settle.Tie as tie
 
 abbrev Inv-loop : tie.InvT-loop
-Inv-loop neighbours degrees waves₀ counts₀ trail₀ moved₀ queue₀ p₀ waves counts trail moved queue p =
+Inv-loop neighbours degrees waves₀ counts₀ ranks trail₀ moved₀ queue₀ p₀ waves counts trail moved queue p =
     (length waves ≡ length waves₀)
     × (length counts ≡ length counts₀)
     × (length trail ≡ length trail₀)
     × (length moved ≡ length moved₀)
     × ((e : Edit)
-    → Working e (memoryOf (slicesOf neighbours degrees waves₀ counts₀) trail₀ moved₀ (e .was .tally)) queue₀ p₀
-    → Working e (memoryOf (slicesOf neighbours degrees waves counts) trail moved (e .was .tally)) queue p)
+    → Working e (memoryOf (slicesOf neighbours degrees waves₀ counts₀ ranks) trail₀ moved₀ (e .was .tally)) queue₀ p₀
+    → Working e (memoryOf (slicesOf neighbours degrees waves counts ranks) trail moved (e .was .tally)) queue p)
 
 abbrev μ-loop : tie.MeasureT-loop
-μ-loop neighbours degrees waves₀ counts₀ trail₀ moved₀ queue₀ p₀ waves counts trail moved queue p = 1025 - p .taken
+μ-loop neighbours degrees waves₀ counts₀ ranks trail₀ moved₀ queue₀ p₀ waves counts trail moved queue p = 1025 - p .taken
 
 loop-holds : tie.Need-loop-holds Inv-loop μ-loop
 loop-holds c = (refl, refl, refl, refl, λ e wk. wk)
@@ -34,7 +34,7 @@ can-step-requires : tie.Need-can-step-requires Inv-loop μ-loop
 can-step-requires c κs =
     let test = c .before .before .before .before .before in
     let loop = test .before .before .before in
-    let pre = loop .before .before .before .before .before .before .before .pre in
+    let pre = loop .before .before .before .before .before .before .before .before .pre in
     (pre .0, steppable (loop .loop .inv .4 (pre .0) (pre .1)) (test .before .is-empty .ensures) (test .if1 .taken))
 
 loop-less : tie.Need-loop-less Inv-loop μ-loop
@@ -42,7 +42,7 @@ loop-less c =
     let done = c .before .before .before .before .before .before .before .before in
     let test = done .before .before .before .before .before .before in
     let loop = test .before .before .before in
-    let pre = loop .before .before .before .before .before .before .before .pre in
+    let pre = loop .before .before .before .before .before .before .before .before .pre in
     let wk = loop .loop .inv .4 (pre .0) (pre .1) in
     let st = steppable wk (test .before .is-empty .ensures) (test .if1 .taken) in
     omega (arith, done .can-step .ensures (pre .0) st .treated .one, wk .room, wk .shown .few)
@@ -55,8 +55,8 @@ loop-again c =
     let kept = done .can-step .kept .1 .1 in (
       kept .0 ∙ inv .0,
       kept .1 .0 ∙ inv .1,
-      kept .1 .1 .0 ∙ inv .2,
-      kept .1 .1 .1 .0 ∙ inv .3,
+      kept .1 .1 .1 .0 ∙ inv .2,
+      kept .1 .1 .1 .1 .0 ∙ inv .3,
       λ e wk. done .can-step .ensures e (steppable (inv .4 e wk) (test .before .is-empty .ensures) (test .if1 .taken)) .working,
     )
 

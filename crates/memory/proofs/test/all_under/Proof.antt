@@ -1,17 +1,17 @@
--- The waves before i are small.
+-- The cells before i are below the bound.
 use borrow.Author.Needs.{needs}
 use native.Mathlib.Omega.{arith}
 use Prim.Native.Nat.{ℕ, _-_, _<_, _≤_}
 use borrow.Author.Count.{below-more}
 use lib.ListN.{getD}
-use Rattle.memory.proofs.test.waves_small.Statement.{statement}
-use Rattle.memory.proofs.test.waves_small.Tie as tie
+use Rattle.memory.proofs.test.all_under.Statement.{statement}
+use Rattle.memory.proofs.test.all_under.Tie as tie
 
 abbrev Inv-loop : tie.InvT-loop
-Inv-loop waves banks n i₀ i = (i ≤ n) × ((k : ℕ) → k < i → getD waves k 0 < 24)
+Inv-loop cells banks bound n i₀ i = (i ≤ n) × ((k : ℕ) → k < i → getD cells k 0 < bound)
 
 abbrev μ-loop : tie.MeasureT-loop
-μ-loop waves banks n i₀ i = n - i
+μ-loop cells banks bound n i₀ i = n - i
 
 loop-holds : tie.Need-loop-holds Inv-loop μ-loop
 loop-holds c = (search needs, λ k h. absurd (omega arith))
@@ -37,8 +37,8 @@ loop-again c = (search needs, below-more _ _ (c .before .before .before .loop .i
 returns-2 : tie.Need-returns-2 Inv-loop μ-loop
 returns-2 c = λ i h. c .before .loop .inv .1 i (omega arith)
 
-pub waves-small-spec : {M : Type 1} → statement M
-waves-small-spec =
+pub all-under-spec : {M : Type 1} → statement M
+all-under-spec =
     tie.close
     (tie.spec
     Inv-loop
