@@ -1,15 +1,15 @@
 -- The bits of a queue against the banks that wait.
-use mathlib.Core.Bool.{Bool, not}
+use mathlib.Core.Bool.{Bool, true, not}
 use mathlib.Core.List.{List}
 use mathlib.Core.Logic.{_≢_}
 use mathlib.Core.Path.{_≡_, sym, ap, _∙_}
 use Prim.Native.Nat.{ℕ, _+_, _*_, _-_, _/_, _%_, _<_}
 use native.Mathlib.Decide.{ℕ-discrete}
 use native.Mathlib.Omega.{arith}
-use lib.Dec.{T, eqb}
+use lib.Dec.{T, eqb, eqb→eq, not-T}
 use lib.ListN.{getD}
 use Rattle.rule.specs.Graph.{Graph}
-use Rattle.rule.proofs.Booleans.{T-along}
+use Rattle.rule.proofs.Booleans.{is-true, T-along}
 use Rattle.queue.specs.Queue.{testBit, wordOf, waits, Queue, Keyed}
 use Rattle.queue.specs.inner.Words.{HasBit, Written}
 use Rattle.queue.proofs.Bits.{bit-none}
@@ -17,6 +17,14 @@ use Rattle.queue.proofs.Bits.{bit-none}
 -- 0 has no bit
 pub zero-bit : {a : ℕ} (k : ℕ) → a ≡ 0 → T (testBit a k) → ⊥
 zero-bit k e t = T-along (ap (λ (x : ℕ). testBit x k) e ∙ bit-none k) t
+
+-- a number with a bit is not 0
+pub not-zero : (a k : ℕ) → T (testBit a k) → not (eqb a 0) ≡ true
+not-zero a k t = is-true (not (eqb a 0)) (not-T (eqb a 0) (λ z. zero-bit k (eqb→eq a 0 z) t))
+
+-- a word in which a bank waits has its bit in the summary
+pub word-marked : {G : Graph} {q : List ℕ} → Queue G q → (i k : ℕ) → i < 384 → T (testBit (getD q i 0) k) → T (testBit (getD q (384 + i / 64) 0) (i % 64))
+word-marked {q = q} queue i k l t = T-along (sym (queue .summary i l ∙ not-zero (getD q i 0) k t)) tt
 
 -- ---- the words
 

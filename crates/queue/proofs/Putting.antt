@@ -6,15 +6,15 @@ use Prim.Native.Nat.{ℕ, _+_, _*_, _-_, _/_, _%_, _^_, _<_}
 use native.Mathlib.Decide.{ℕ-discrete}
 use native.Mathlib.Omega.{arith}
 use lib.Count.{trailingZeros}
-use lib.Dec.{T, eqb, eqb→eq, not-T}
+use lib.Dec.{T, eqb, eqb→eq}
 use lib.ListN.{getD}
 use Rattle.rule.specs.Graph.{Graph}
-use Rattle.rule.proofs.Booleans.{test-ext, is-true, T-along, or-false, and-true, eq→eqb, and-false}
+use Rattle.rule.proofs.Booleans.{test-ext, T-along, or-false, and-true, eq→eqb, and-false}
 use Rattle.queue.specs.Queue.{testBit, wordOf, waits, Enqueuable, Enqueued}
 use Rattle.queue.specs.inner.Words.{Written}
 use Rattle.queue.proofs.Bits.{trailing}
 use Rattle.queue.proofs.Writing.{or-true, own-place, other-place}
-use Rattle.queue.proofs.Banks.{zero-bit, word-inside, written-queue, written-own, written-other}
+use Rattle.queue.proofs.Banks.{zero-bit, not-zero, word-inside, written-queue, written-own, written-other}
 
 -- numbers with the same bits are 0 together
 same-zero : {a b : ℕ} → a < 2 ^ 64 → b < 2 ^ 64 → ((m : ℕ) → testBit a m ≡ testBit b m) → eqb a 0 ≡ eqb b 0
@@ -29,10 +29,6 @@ same-zero {a} {b} la lb same =
           | yes f ↦ eq→eqb d 0 f
           | no n ↦ absurd (zero-bit (trailingZeros 64 d) z (T-along (sym (e (trailingZeros 64 d))) (trailing 64 d n l .set)))
         ]
-
--- a number with a bit is not 0
-not-zero : (a k : ℕ) → T (testBit a k) → not (eqb a 0) ≡ true
-not-zero a k t = is-true (not (eqb a 0)) (not-T (eqb a 0) (λ z. zero-bit k (eqb→eq a 0 z) t))
 
 module _ {G : Graph} {ds q : List ℕ} {v : ℕ} (line : Enqueuable G ds q v) where
   abbrev w : ℕ

@@ -1,145 +1,96 @@
--- The first bank of a degree, by rank and number: found bit by bit and word by word.
-use mathlib.Core.Bool.{Bool, true, false, cond, _&&_, not}
+-- The first bank of a degree, by rank and number: the one of the least key, found bit by bit and word by word.
 use mathlib.Core.List.{List}
 use mathlib.Core.Logic.{_⊎_, inl, inr, _≢_}
-use mathlib.Core.Path.{_≡_, refl, sym, ap, _∙_, subst}
-use Prim.Native.Nat.{ℕ, _+_, _*_, _-_, _/_, _%_, _^_, _<_, _≤_}
+use mathlib.Core.Path.{_≡_, refl, sym, _∙_}
+use Prim.Native.Nat.{ℕ, _+_, _*_, _/_, _%_, _^_, _<_, _≤_, min}
 use native.Mathlib.Decide.{ℕ-discrete}
+use native.Mathlib.Nat.{mod-lt}
 use native.Mathlib.Omega.{arith}
-use lib.Bits.{bitXor, xor-lt}
 use lib.Count.{trailingZeros}
-use lib.Dec.{T, eqb}
+use lib.Dec.{T, ltb→lt}
 use lib.ListN.{length, getD}
-use lib.Pow.{pow-lt}
-use Rattle.rule.specs.Lists.{Strict}
 use Rattle.rule.specs.Graph.{Graph}
-use Rattle.rule.proofs.Booleans.{and-l, and-true, is-true, is-false, passes?, T-along, lt-or-ge}
-use Rattle.rule.proofs.Order.{tie-strict}
-use Rattle.rule.proofs.Degrees.{smaller-rank, no-smaller}
-use Rattle.queue.specs.Queue.{testBit, Queue, Waiting}
+use Rattle.rule.proofs.Booleans.{passes?, T-along, lt-or-ge}
+use Rattle.rule.proofs.Degrees.{two-digits}
+use Rattle.queue.specs.Queue.{testBit, Waiting}
 use Rattle.queue.specs.inner.Words.{Head}
-use Rattle.queue.specs.inner.Ties.{tied, inDegree, Candidates, Before, FirstOf, FirstOfDegree}
-use Rattle.queue.proofs.Bits.{LowestBit, trailing, bit-xor, trailing-more}
-use Rattle.queue.proofs.Writing.{one-shifted, other-place}
-use Rattle.queue.proofs.Banks.{zero-bit}
+use Rattle.queue.specs.inner.Ties.{tied, inDegree, keyOf, Candidates, KeyOfOne, Least, FirstOfDegree}
+use Rattle.queue.proofs.Bits.{LowestBit, trailing, bit-shifted, bit-kept}
+use Rattle.queue.proofs.Lowest.{withoutLowest, lowest, rest-part, rest-above, rest-gone, rest-fits, rest-less}
+use Rattle.queue.proofs.Banks.{zero-bit, word-marked}
 
--- ---- two banks
-
-tied-strict : (rs : List ℕ) → Strict (tied rs)
+-- a bank that comes before another has the smaller key
+tied-key : (rs : List ℕ) (x y : ℕ) → x < 1024 → y < 1024 → T (tied rs x y) → keyOf rs x < keyOf rs y
 unfolding tied
-tied-strict rs = tie-strict (λ (x : ℕ). getD rs x 0)
+tied-key rs x y lx ly t = ltb→lt (keyOf rs x) (keyOf rs y) (T-along (sym (two-digits (getD rs x 0) x (getD rs y 0) y lx ly)) t)
 
-pub rank-first : (rs : List ℕ) (p q : ℕ) → getD rs q 0 < getD rs p 0 → q ≡ cond (tied rs q p) q p
-unfolding tied
-rank-first rs p q l = rw (is-true (tied rs q p) (smaller-rank (getD rs q 0) q (getD rs p 0) p l))
-
-not-tied : (rs : List ℕ) (p q : ℕ) → p ≤ q → getD rs p 0 ≤ getD rs q 0 → T (tied rs q p) → ⊥
-unfolding tied
-not-tied rs p q m l = no-smaller (getD rs q 0) q (getD rs p 0) p l m
-
-pub number-first : (rs : List ℕ) (p q : ℕ) → p ≤ q → getD rs p 0 ≤ getD rs q 0 → p ≡ cond (tied rs q p) q p
-number-first rs p q m l = rw (is-false (tied rs q p) (not-tied rs p q m l))
-
--- ---- a word: `rest` are the bits still to be looked at, `now` is the first of p and the others
+-- ---- a word: `rest` are the bits still to be looked at, `now` is the least of p and the other keys
 
 pub record Scan (rs : List ℕ) (bits base p rest now : ℕ) : Type 0 where
-  pub left : Candidates rs rest base now
-  pub one : (now ≡ p) ⊎ Before rs bits base p now
+  pub fits : rest < 2 ^ 64
+  pub one : (now ≡ p) ⊎ KeyOfOne rs bits base now
+  pub low : now ≤ p
   pub part : (k : ℕ) → T (testBit rest k) → T (testBit bits k)
-  pub passed : (k : ℕ) → k < 64 → T (testBit bits k) → (T (testBit rest k) → ⊥) → T (tied rs (base + k) now) → ⊥
+  pub passed : (k : ℕ) → k < 64 → T (testBit bits k) → (T (testBit rest k) → ⊥) → now ≤ keyOf rs (base + k)
 
-pub scan-start : {rs : List ℕ} {bits base p : ℕ} → Candidates rs bits base p → Scan rs bits base p bits p
-scan-start given = record { left = given; one = inl refl; part = λ k t. t; passed = λ k l t n. absurd (n t) }
+pub scan-start : {rs : List ℕ} {bits base p : ℕ} → Candidates rs bits base → Scan rs bits base p bits p
+scan-start given = record { fits = given .fits; one = inl refl; low = omega arith; part = λ k t. t; passed = λ k l t n. absurd (n t) }
 
-pub scan-end : {rs : List ℕ} {bits base p now : ℕ} → Scan rs bits base p 0 now → FirstOf rs bits base p now
-scan-end scan = record { one = scan .one; first = λ k l t. scan .passed k l t (zero-bit k refl) }
+pub scan-end : {rs : List ℕ} {bits base p now : ℕ} → Scan rs bits base p 0 now → Least rs bits base p now
+scan-end scan = record { one = scan .one; low = scan .low; first = λ k l t. scan .passed k l t (zero-bit k refl) }
 
 module _ {rs : List ℕ} {bits base p rest now : ℕ} (scan : Scan rs bits base p rest now) (some : rest ≢ 0) where
-  abbrev low : ℕ
-  low = trailingZeros 64 rest
-
   pub scan-lowest : LowestBit 64 rest (trailingZeros 64 rest)
-  scan-lowest = trailing 64 rest some (scan .left .fits)
+  scan-lowest = lowest 64 (omega arith) some (scan .fits)
 
-  abbrev rest' : ℕ
-  rest' = bitXor rest (2 ^ low)
+  -- its bank has a rank
+  pub scan-cell : Candidates rs bits base → base + trailingZeros 64 rest < length rs
+  scan-cell given = given .cells (trailingZeros 64 rest) (scan-lowest .inside) (scan .part (trailingZeros 64 rest) (scan-lowest .set))
 
-  cut : (k : ℕ) → testBit rest' k ≡ (testBit rest k && not (eqb k low))
-  cut k = bit-xor rest low k (scan-lowest .set)
-
-  still : (k : ℕ) → T (testBit rest' k) → T (testBit rest k)
-  still k t = and-l (testBit rest k) (not (eqb k low)) (T-along (cut k) t)
-
-  fits' : rest' < 2 ^ 64
-  fits' = xor-lt 64 rest (2 ^ low) (scan .left .fits) (pow-lt (scan-lowest .inside))
-
-  gone : (k : ℕ) → k ≢ low → (T (testBit rest' k) → ⊥) → T (testBit rest k) → ⊥
-  gone k d n t = n (T-along (sym (cut k ∙ ap (λ (x : Bool). testBit rest k && not x) (other-place d) ∙ and-true (testBit rest k))) t)
-
-  keep : (T (tied rs (base + low) now) → ⊥) → Scan rs bits base p rest' now
-  keep later = record {
-    left = record {
-      fits = fits';
-      small = scan .left .small;
-      cell = scan .left .cell;
-      cells = λ k l t. scan .left .cells k l (still k t);
-      after = λ k l t. scan .left .after k l (still k t);
-    };
-    one = scan .one;
-    part = λ k t. scan .part k (still k t);
-    passed = λ k l t n. elim (ℕ-discrete k low) [ yes e ↦ rw e later | no d ↦ scan .passed k l t (gone k d n) ];
-  }
-
-  take : T (tied rs (base + low) now) → Scan rs bits base p rest' (base + low)
-  take sooner = record {
-    left = record {
-      fits = fits';
-      small = scan .left .small;
-      cell = scan .left .cells low (scan-lowest .inside) (scan-lowest .set);
-      cells = λ k l t. scan .left .cells k l (still k t);
-      after = λ k l t. elim (lt-or-ge k low) [ inl m ↦ absurd (scan-lowest .below k m (still k t)) | inr m ↦ omega arith ];
-    };
-    one = inr (record {
-      low = omega arith;
-      high = omega (arith, scan-lowest .inside);
-      set = let e : base + low - base ≡ low = omega arith in rw e (scan .part low (scan-lowest .set));
-      before = elim (scan .one) [ inl e ↦ rw (← e) sooner | inr b ↦ tied-strict rs .trans (base + low) now p sooner (b .before) ];
-    });
-    part = λ k t. scan .part k (still k t);
-    passed = λ k l t n u. elim (ℕ-discrete k low) [
-      | yes e ↦ tied-strict rs .irrefl (base + low) (rw e at u)
-      | no d ↦ scan .passed k l t (gone k d n) (tied-strict rs .trans (base + k) (base + low) now u sooner)
+  -- a turn of the loop
+  pub scan-step : {r : ℕ} → r ≡ min now (keyOf rs (base + trailingZeros 64 rest))
+      → Scan rs bits base p (withoutLowest rest) r
+  scan-step {r = r} e = record {
+    fits = rest-fits 64 (omega arith) some (scan .fits);
+    one = elim (lt-or-ge now (keyOf rs (base + trailingZeros 64 rest))) [
+      | inl l ↦ let f : r ≡ now = omega arith in rw f (scan .one)
+      | inr l ↦ inr (trailingZeros 64 rest, scan-lowest .inside, scan .part (trailingZeros 64 rest) (scan-lowest .set), omega arith)
+    ];
+    low = omega (arith, scan .low);
+    part = λ k t. scan .part k (rest-part 64 (omega arith) some (scan .fits) k t);
+    passed = λ k l t n. elim (ℕ-discrete k (trailingZeros 64 rest)) [
+      | yes d ↦ rw d (omega arith)
+      | no d ↦ omega (arith, scan .passed k l t (rest-gone 64 (omega arith) some (scan .fits) k d n))
     ];
   }
 
-  -- a turn of the loop
-  pub scan-step : {r : ℕ} → r ≡ cond (tied rs (base + trailingZeros 64 rest) now) (base + trailingZeros 64 rest) now
-      → Scan rs bits base p (bitXor rest (1 * 2 ^ trailingZeros 64 rest % 18446744073709551616)) r
-  scan-step e =
-      rw (e, one-shifted low (scan-lowest .inside)) (elim (passes? (tied rs (base + low) now)) [
-        | inl t ↦ rw (is-true (tied rs (base + low) now) t) (take t)
-        | inr n ↦ rw (is-false (tied rs (base + low) now) n) (keep n)
-      ])
+  pub scan-less : withoutLowest rest < rest
+  scan-less = rest-less 64 (omega arith) some (scan .fits)
 
-  pub scan-less : 64 - trailingZeros 64 (bitXor rest (1 * 2 ^ trailingZeros 64 rest % 18446744073709551616)) < 64 - trailingZeros 64 rest
-  scan-less = rw (one-shifted low (scan-lowest .inside)) (omega (arith, scan-lowest .inside, trailing-more 64 some (scan .left .fits) fits' cut))
+-- ---- a degree: `marks` are the words still to be looked at, `now` is the least key of the banks in the others and of `bank`
 
--- ---- a degree: `now` is the first of the banks in the words before word i
+pub record Search (rs words : List ℕ) (w marks now : ℕ) : Type 0 where
+  pub fits : marks < 2 ^ 16
+  pub bank : ℕ
+  pub inside : bank < 1024
+  pub waits : T (inDegree words w bank)
+  pub own : now ≡ keyOf rs bank
+  pub ahead : (x : ℕ) → x < 1024 → T (inDegree words w x) → T (testBit marks (x / 64)) → bank ≤ x
+  pub passed : (x : ℕ) → x < 1024 → T (inDegree words w x) → (T (testBit marks (x / 64)) → ⊥) → now ≤ keyOf rs x
 
-pub record Search (rs words : List ℕ) (w i now : ℕ) : Type 0 where
-  pub from : w ≤ i
-  pub to : i ≤ w / 16 * 16 + 16
-  pub inside : now < 1024
-  pub waits : T (inDegree words w now)
-  pub ahead : (x : ℕ) → x < 1024 → (i - w / 16 * 16) * 64 ≤ x → T (inDegree words w x) → now ≤ x
-  pub first : (x : ℕ) → x < (i - w / 16 * 16) * 64 → T (inDegree words w x) → T (tied rs x now) → ⊥
+module _ {rs words : List ℕ} {w marks now : ℕ} (search : Search rs words w marks now) (some : marks ≢ 0) where
+  pub search-lowest : LowestBit 16 marks (trailingZeros 64 marks)
+  search-lowest = lowest 16 (omega arith) some (search .fits)
 
--- bit k of word i is bank i % 16 * 64 + k
-place : (words : List ℕ) (w : ℕ) {i x : ℕ} (k : ℕ) → k < 64 → x ≡ (i - w / 16 * 16) * 64 + k → w / 16 * 16 ≤ i → inDegree words w x ≡ testBit (getD words i 0) k
+  pub search-less : withoutLowest marks < marks
+  search-less = rest-less 16 (omega arith) some (search .fits)
+
+-- bit k of word i of the degree is bank i * 64 + k
+place : (words : List ℕ) (w i k : ℕ) → k < 64 → inDegree words w (i * 64 + k) ≡ testBit (getD words (w / 16 * 16 + i) 0) k
 unfolding inDegree
-place words w {i} {x} k l e m =
-    let word : w / 16 * 16 + x / 64 ≡ i = omega arith in
-    let bit : x % 64 ≡ k = omega arith in
+place words w i k l =
+    let word : (i * 64 + k) / 64 ≡ i = omega arith in
+    let bit : (i * 64 + k) % 64 ≡ k = omega arith in
     rw (word, bit)
 
 module _ {G : Graph} {rs words : List ℕ} {w : ℕ} (wait : Waiting G rs words) (head : Head words w) where
@@ -155,85 +106,125 @@ module _ {G : Graph} {rs words : List ℕ} {w : ℕ} (wait : Waiting G rs words)
   pub head-lowest : LowestBit 64 (getD words w 0) (trailingZeros 64 (getD words w 0))
   head-lowest = trailing 64 (getD words w 0) (head .some) (wait .queue .fits w)
 
-  pub search-start : Search rs words w w (w % 16 * 64 + trailingZeros 64 (getD words w 0))
+  abbrev first-bank : ℕ
+  first-bank = w % 16 * 64 + trailingZeros 64 (getD words w 0)
+
+  first-waits : T (inDegree words w first-bank)
+  first-waits =
+      let e : w / 16 * 16 + w % 16 ≡ w = omega arith in
+      T-along (sym (place words w (w % 16) (trailingZeros 64 (getD words w 0)) (head-lowest .inside))) (rw e (head-lowest .set))
+
+  pub first-key : (w % 16 * 64 + trailingZeros 64 (getD words w 0) < 1024) × (w % 16 * 64 + trailingZeros 64 (getD words w 0) < length rs)
+  first-key =
+      let l : first-bank < 1024 = omega (arith, head-lowest .inside) in
+      (l, cells first-bank l first-waits)
+
+  -- no bank of the degree has a smaller number
+  first-number : (x : ℕ) → x < 1024 → T (inDegree words w x) → first-bank ≤ x
   unfolding inDegree
-  search-start =
-      let low = trailingZeros 64 (getD words w 0) in
-      record {
-        from = omega arith;
-        to = omega arith;
-        inside = omega (arith, head-lowest .inside);
-        waits = T-along (sym (place words w low (head-lowest .inside) (omega arith) (omega arith))) (head-lowest .set);
-        ahead = λ x l m t. elim (lt-or-ge x (w % 16 * 64 + low)) [
-          | inl k ↦ absurd (head-lowest .below (x % 64) (omega (arith, head-lowest .inside)) (let e : w / 16 * 16 + x / 64 ≡ w = omega (arith, head-lowest .inside) in rw e at t))
-          | inr k ↦ k
-        ];
-        first = λ x l t. absurd (zero-bit (x % 64) (head .none (w / 16 * 16 + x / 64) (omega arith)) t);
-      }
+  first-number x l t =
+      elim (lt-or-ge x first-bank) [
+        | inr k ↦ k
+        | inl k ↦ elim (lt-or-ge (w / 16 * 16 + x / 64) w) [
+          | inl m ↦ absurd (zero-bit (x % 64) (head .none (w / 16 * 16 + x / 64) m) t)
+          | inr m ↦
+              let e : w / 16 * 16 + x / 64 ≡ w = omega (arith, head-lowest .inside) in
+              absurd (head-lowest .below (x % 64) (omega (arith, head-lowest .inside)) (rw e at t))
+        ]
+      ]
 
-  module _ {i now : ℕ} (search : Search rs words w i now) where
-    pub search-cell : now < length rs
-    search-cell = cells now (search .inside) (search .waits)
+  -- the summary marks the words in which banks of the degree wait
+  marked : (x : ℕ) → x < 1024 → T (inDegree words w x) → T (testBit (getD words (384 + w / 64) 0 / 2 ^ (w / 16 * 16 % 64) % 65536) (x / 64))
+  unfolding inDegree
+  marked x l t =
+      let i = w / 16 * 16 + x / 64 in
+      let s = getD words (384 + w / 64) 0 in
+      let e : 384 + i / 64 ≡ 384 + w / 64 = omega arith in
+      let f : i % 64 ≡ w / 16 * 16 % 64 + x / 64 = omega arith in
+      T-along (sym (bit-kept (s / 2 ^ (w / 16 * 16 % 64)) 16 (x / 64) (omega arith) ∙ bit-shifted s (w / 16 * 16 % 64) (x / 64)))
+      (rw (e, f) at (word-marked (wait .queue) i (x % 64) (omega (arith, head .inside)) t))
 
-    pub search-zero : getD rs now 0 ≡ 0 → FirstOfDegree rs words w now
-    search-zero e = record {
+  pub search-start : {now : ℕ} → now ≡ keyOf rs (w % 16 * 64 + trailingZeros 64 (getD words w 0))
+      → Search rs words w (getD words (384 + w / 64) 0 / 2 ^ (w / 16 * 16 % 64) % 65536) now
+  search-start e = record {
+    fits = mod-lt (getD words (384 + w / 64) 0 / 2 ^ (w / 16 * 16 % 64)) (omega arith);
+    bank = first-bank;
+    inside = first-key .0;
+    waits = first-waits;
+    own = e;
+    ahead = λ x l t m. first-number x l t;
+    passed = λ x l t n. absurd (n (marked x l t));
+  }
+
+  module _ {marks now : ℕ} (search : Search rs words w marks now) where
+    found : ((x : ℕ) → x < 1024 → T (inDegree words w x) → now ≤ keyOf rs x) → FirstOfDegree rs words w (search .bank)
+    found least = record {
       inside = search .inside;
       waits = search .waits;
-      first = λ x l t u. elim (lt-or-ge x ((i - w / 16 * 16) * 64)) [
-        | inl m ↦ search .first x m t u
-        | inr m ↦ not-tied rs now x (search .ahead x l m t) (omega arith) u
-      ];
+      first = λ x l t u. omega (arith, least x l t, tied-key rs x (search .bank) l (search .inside) u, search .own);
     }
 
-    pub search-end : w / 16 * 16 + 16 ≤ i → FirstOfDegree rs words w now
-    search-end m = record { inside = search .inside; waits = search .waits; first = λ x l t. search .first x (omega arith) t }
+    -- a bank of rank 0 comes before those still to be looked at, whose numbers are larger
+    pub search-zero : now < 1024 → FirstOfDegree rs words w now
+    search-zero z =
+        let e : now ≡ search .bank = omega (arith, search .own) in
+        rw e (found (λ x l t. elim (passes? (testBit marks (x / 64))) [
+          | inl m ↦ omega (arith, search .ahead x l t m)
+          | inr n ↦ search .passed x l t n
+        ]))
 
-    module _ (more : i < w / 16 * 16 + 16) where
-      own : (k : ℕ) → k < 64 → inDegree words w (i % 16 * 64 + k) ≡ testBit (getD words i 0) k
-      own k l = place words w k l (omega (arith, search .from)) (omega (arith, search .from))
+    pub search-end : marks ≡ 0 → FirstOfDegree rs words w (now % 1024)
+    search-end z =
+        let e : now % 1024 ≡ search .bank = omega (arith, search .own, search .inside) in
+        rw e (found (λ x l t. search .passed x l t (zero-bit (x / 64) z)))
 
-      pub search-word : Candidates rs (getD words i 0) (i % 16 * 64) now
+    module _ (some : marks ≢ 0) where
+      abbrev i : ℕ
+      i = trailingZeros 64 marks
+
+      low-inside : i < 16
+      low-inside = search-lowest search some .inside
+
+      pub search-word : Candidates rs (getD words (w / 16 * 16 + trailingZeros 64 marks) 0) (trailingZeros 64 marks * 64)
       search-word = record {
-        fits = wait .queue .fits i;
-        small = omega arith;
-        cell = search-cell;
-        cells = λ k l t. cells (i % 16 * 64 + k) (omega arith) (T-along (sym (own k l)) t);
-        after = λ k l t. search .ahead (i % 16 * 64 + k) (omega arith) (omega (arith, search .from)) (T-along (sym (own k l)) t);
+        fits = wait .queue .fits (w / 16 * 16 + i);
+        small = omega (arith, low-inside);
+        cells = λ k l t. cells (i * 64 + k) (omega (arith, low-inside)) (T-along (sym (place words w i k l)) t);
       }
 
-      module _ {r : ℕ} (step : FirstOf rs (getD words i 0) (i % 16 * 64) now r) where
-        -- the banks of word i
-        fresh : (x : ℕ) → x < (i + 1 - w / 16 * 16) * 64 → (i - w / 16 * 16) * 64 ≤ x → T (inDegree words w x) → T (tied rs x r) → ⊥
-        fresh x l m t u =
-            let e : i % 16 * 64 + x % 64 ≡ x = omega (arith, search .from) in
-            step .first (x % 64) (omega arith) (T-along (own (x % 64) (omega arith)) (rw e t)) (rw e u)
+      module _ {r : ℕ} (step : Least rs (getD words (w / 16 * 16 + trailingZeros 64 marks) 0) (trailingZeros 64 marks * 64) now r) where
+        abbrev marks' : ℕ
+        marks' = withoutLowest marks
 
-        same : r ≡ now → Search rs words w (i + 1) r
-        same e = record {
-          from = omega (arith, search .from);
-          to = omega arith;
-          inside = rw e (search .inside);
-          waits = rw e (search .waits);
-          ahead = λ x l m t. rw e (search .ahead x l (omega arith) t);
-          first = λ x l t u. elim (lt-or-ge x ((i - w / 16 * 16) * 64)) [ inl m ↦ search .first x m t (rw e at u) | inr m ↦ fresh x l m t u ];
-        }
-
-        better : Before rs (getD words i 0) (i % 16 * 64) now r → Search rs words w (i + 1) r
-        better b =
-            let k = r - i % 16 * 64 in
-            let e : i % 16 * 64 + k ≡ r = omega (arith, b .low) in
-            record {
-              from = omega (arith, search .from);
-              to = omega arith;
-              inside = omega (arith, b .high);
-              waits = subst (λ (x : ℕ). T (inDegree words w x)) e (T-along (sym (own k (omega (arith, b .high)))) (b .set));
-              ahead = λ x l m t. omega (arith, b .high, search .from);
-              first = λ x l t u. elim (lt-or-ge x ((i - w / 16 * 16) * 64)) [
-                | inl m ↦ search .first x m t (tied-strict rs .trans x r now u (b .before))
-                | inr m ↦ fresh x l m t u
-              ];
-            }
+        passed' : (x : ℕ) → x < 1024 → T (inDegree words w x) → (T (testBit marks' (x / 64)) → ⊥) → r ≤ keyOf rs x
+        passed' x l t n =
+            elim (ℕ-discrete (x / 64) i) [
+              | yes e ↦
+                  let f : x ≡ i * 64 + x % 64 = omega arith in
+                  rw f (step .first (x % 64) (omega arith) (T-along (place words w i (x % 64) (omega arith)) (rw f at t)))
+              | no d ↦ omega (arith, step .low, search .passed x l t (rest-gone 16 (omega arith) some (search .fits) (x / 64) d n))
+            ]
 
         -- a turn of the loop
-        pub search-step : Search rs words w (i + 1) r
-        search-step = elim (step .one) [ inl e ↦ same e | inr b ↦ better b ]
+        pub search-step : Search rs words w (withoutLowest marks) r
+        search-step =
+            elim (step .one) [
+              | inl e ↦ record {
+                fits = rest-fits 16 (omega arith) some (search .fits);
+                bank = search .bank;
+                inside = search .inside;
+                waits = search .waits;
+                own = e ∙ search .own;
+                ahead = λ x l t m. search .ahead x l t (rest-part 16 (omega arith) some (search .fits) (x / 64) m);
+                passed = passed';
+              }
+              | inr (k, l, t, e) ↦ record {
+                fits = rest-fits 16 (omega arith) some (search .fits);
+                bank = i * 64 + k;
+                inside = omega (arith, low-inside);
+                waits = T-along (sym (place words w i k l)) t;
+                own = e;
+                ahead = λ x h u m. omega (arith, rest-above 16 (omega arith) some (search .fits) (x / 64) m);
+                passed = passed';
+              }
+            ]

@@ -2,7 +2,7 @@
 use mathlib.Core.Bool.{Bool, false, not}
 use mathlib.Core.List.{List}
 use mathlib.Core.Logic.{inl, inr}
-use mathlib.Core.Path.{_≡_, refl, sym, ap, _∙_, subst}
+use mathlib.Core.Path.{_≡_, refl, sym, ap}
 use Prim.Native.Nat.{ℕ, _+_, _*_, _-_, _/_, _%_, _<_}
 use native.Mathlib.Decide.{ℕ-discrete}
 use native.Mathlib.Omega.{arith}
@@ -17,7 +17,7 @@ use Rattle.queue.specs.inner.Words.{HasBit, Written, First, Head}
 use Rattle.queue.specs.inner.Ties.{tied, inDegree, FirstOfDegree}
 use Rattle.queue.proofs.Bits.{LowestBit, trailing}
 use Rattle.queue.proofs.Writing.{own-place, other-place}
-use Rattle.queue.proofs.Banks.{zero-bit, word-inside, word-bits, written-queue, written-own, written-other}
+use Rattle.queue.proofs.Banks.{zero-bit, word-marked, word-inside, word-bits, written-queue, written-own, written-other}
 
 module _ {G : Graph} {q : List ℕ} (queue : Queue G q) where
   -- a word whose bit in the summary is not set is 0
@@ -136,8 +136,7 @@ module _ {G : Graph} {rs q : List ℕ} (wait : Waiting G rs q) {w h : ℕ} (head
   pub still-marked : {q₁ : List ℕ} {value : Bool} → Written q q₁ (w / 16 * 16 + h / 64) (h % 64) value
       → T (testBit (getD q₁ (384 + (w / 16 * 16 + h / 64) / 64) 0) ((w / 16 * 16 + h / 64) % 64))
   still-marked one =
-      T-along (sym (ap (λ (a : ℕ). testBit a (spot % 64)) (one .elsewhere (384 + spot / 64) (λ e. omega (arith, spot-less))) ∙ wait .queue .summary spot spot-less))
-      (not-T (eqb (getD q spot 0) 0) (λ t. zero-bit (h % 64) (eqb→eq (getD q spot 0) 0 t) bit-set))
+      T-along (sym (ap (λ (a : ℕ). testBit a (spot % 64)) (one .elsewhere (384 + spot / 64) (λ e. omega (arith, spot-less))))) (word-marked (wait .queue) spot (h % 64) spot-less bit-set)
 
   -- what `dequeue` does
   pub dequeued : {q₁ q₂ : List ℕ} → Written q q₁ (w / 16 * 16 + h / 64) (h % 64) false

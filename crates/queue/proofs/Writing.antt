@@ -19,7 +19,7 @@ use Rattle.queue.specs.inner.Words.{HasBit, Written}
 use Rattle.queue.proofs.Bits.{bit-or, bit-xor}
 
 -- a bit shifted within a word
-pub one-shifted : (k : ℕ) → k < 64 → 1 * 2 ^ k % 18446744073709551616 ≡ 2 ^ k
+one-shifted : (k : ℕ) → k < 64 → 1 * 2 ^ k % 18446744073709551616 ≡ 2 ^ k
 one-shifted k l = shl-exact {a = 1} 1 k 64 (omega arith) (omega arith) ∙ one-mul (2 ^ k)
 
 zero-shifted : (k : ℕ) → 0 * 2 ^ k % 18446744073709551616 ≡ 0

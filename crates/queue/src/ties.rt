@@ -1,59 +1,75 @@
 // The first of the banks that wait in one degree: by rank, then by number.
+use crate::words::BANK_WORDS;
+use crate::words::DEGREE_MARKS;
 use crate::words::DEGREE_WORDS;
 use crate::words::WORD_BITS;
 use crate::words::WORDS;
-ghost use mathlib.Core.Bool.{cond};
+use rule::MOST_BANKS;
+use rule::wide;
 ghost use mathlib.Core.Path.{_≡_};
-ghost use Prim.Native.Nat.{_<_, _≤_};
+ghost use Prim.Native.Nat.{_<_, min};
 ghost use lib.ListN.{length};
 ghost use Rattle.rule.specs.Graph.{Graph};
 ghost use Rattle.queue.specs.Queue.{Waiting};
 ghost use Rattle.queue.specs.inner.Words.{Head};
-ghost use Rattle.queue.specs.inner.Ties.{tied, Candidates, FirstOf, FirstOfDegree};
+ghost use Rattle.queue.specs.inner.Ties.{keyOf, Candidates, Least, FirstOfDegree};
 
-// Of banks p and q, where q is not the smaller number, the one that comes first.
-fn first_of_two(ranks: &[u16], p: usize, q: usize) -> usize
-    requires { ⌜ (p ≤ q) × (q < length (now ranks)) ⌝ }
-    ensures { λ r. ⌜ r ≡ cond (tied (now (ranks .entry)) q p) q p ⌝ }
+// The key of bank x: of two banks of one degree, the one with the smaller key comes first.
+fn key(ranks: &[u16], x: usize) -> usize
+    requires { ⌜ (x < 1024) × (x < length (now ranks)) ⌝ }
+    ensures { λ r. ⌜ r ≡ keyOf (now (ranks .entry)) x ⌝ }
 {
-    if ranks[q] < ranks[p] {
-        return q;
-    }
-    p
+    wide(ranks[x]) * MOST_BANKS + x
 }
 
-// Of bank p and the banks of a word, none of them a smaller number, the one that comes first.
-fn first_in_word(ranks: &[u16], bits: u64, base: usize, p: usize) -> usize
-    requires { ⌜ Candidates (now ranks) bits base p ⌝ }
-    ensures { λ r. ⌜ FirstOf (now (ranks .entry)) bits base p r ⌝ }
+// The smaller of two keys.
+fn smaller(a: usize, b: usize) -> usize
+    ensures { λ r. ⌜ r ≡ min a b ⌝ }
+{
+    if b < a {
+        return b;
+    }
+    a
+}
+
+// The least of a key and those of the banks of a word.
+fn least_in_word(ranks: &[u16], bits: u64, base: usize, so_far: usize) -> usize
+    requires { ⌜ Candidates (now ranks) bits base ⌝ }
+    ensures { λ r. ⌜ Least (now (ranks .entry)) bits base «so_far» r ⌝ }
 {
     let mut rest = bits;
-    let mut first = p;
+    let mut least = so_far;
     while rest != 0 {
         let low = u64::trailing_zeros(rest) as usize;
-        first = first_of_two(ranks, first, base + low);
-        rest = rest ^ (1 << low);
+        least = smaller(least, key(ranks, base + low));
+        rest = rest & (rest - 1);
     }
-    first
+    least
 }
 
-// The first bank of a degree, from the first word in which a bank waits. No rank is below 0: such a bank ends the search.
+// The first bank of a degree, from the first word in which a bank waits. The summary leads to the other words. No rank is below 0: a bank of
+// rank 0 ends the search.
 pub fn first_of_degree(ranks: &[u16], queue: &[u64; WORDS], word: usize) -> usize
     requires { ⌜ ((G : Graph) × Waiting G (now ranks) (now queue)) ⌝ }
     requires { ⌜ Head (now queue) word ⌝ }
     ensures { λ r. ⌜ FirstOfDegree (now (ranks .entry)) (now (queue .entry)) word r ⌝ }
 {
     let head = queue[word];
-    let end = word / DEGREE_WORDS * DEGREE_WORDS + DEGREE_WORDS;
-    let mut first = word % DEGREE_WORDS * WORD_BITS + u64::trailing_zeros(head) as usize;
-    let mut i = word;
-    while i < end {
-        if ranks[first] == 0 {
-            return first;
+    let summary = queue[BANK_WORDS + word / WORD_BITS];
+    let start = word / DEGREE_WORDS * DEGREE_WORDS;
+    let mut least = key(
+        ranks,
+        word % DEGREE_WORDS * WORD_BITS + u64::trailing_zeros(head) as usize,
+    );
+    let mut marks = (summary >> (start % WORD_BITS)) % DEGREE_MARKS;
+    while marks != 0 {
+        if least < MOST_BANKS {
+            return least;
         }
-        let bits = queue[i];
-        first = first_in_word(ranks, bits, i % DEGREE_WORDS * WORD_BITS, first);
-        i += 1;
+        let i = u64::trailing_zeros(marks) as usize;
+        let bits = queue[start + i];
+        least = least_in_word(ranks, bits, i * WORD_BITS, least);
+        marks = marks & (marks - 1);
     }
-    first
+    least % MOST_BANKS
 }

@@ -17,6 +17,9 @@ pub const WORD_BITS: usize = 64;
 // The words of a degree: a bit for each of the 1,024 banks.
 pub const DEGREE_WORDS: usize = 16;
 
+// One more than what the summary can say of the words of a degree.
+pub const DEGREE_MARKS: u64 = 65536;
+
 // If `put`, sets bit `place` of a word. No branch: of a bank's neighbours about half are put.
 pub fn set_bit(queue: &mut [u64; WORDS], word: usize, place: usize, put: bool)
     requires { ⌜ HasBit (now queue) word place ⌝ }

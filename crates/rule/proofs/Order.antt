@@ -66,7 +66,7 @@ module _ (key : ℕ → ℕ) (K R : ℕ → ℕ → Bool) (strictK : Strict K) (
   }
 
 -- the smaller rank first, then the smaller number
-pub tie-strict : (rank : ℕ → ℕ) → Strict (λ x y. tieBy (rank x) x (rank y) y)
+tie-strict : (rank : ℕ → ℕ) → Strict (λ x y. tieBy (rank x) x (rank y) y)
 unfolding tieBy
 tie-strict rank = byKey-strict rank ltb ltb ltb-strict ltb-strict
 

@@ -1,17 +1,15 @@
--- `first_of_degree`: the words passed have no bank that comes before the one so far.
+-- `first_of_degree`: the words that are not marked any more have no bank of a smaller key.
 use borrow.Author.Needs.{needs}
 use native.Mathlib.Omega.{arith}
-use Prim.Native.Nat.{_-_, _*_, _+_, _/_}
-use mathlib.Core.Path.{_≡_}
-use Rattle.queue.proofs.Ranks.{Search, head-lowest, search-start, search-cell, search-zero, search-word, search-step, search-end}
+use Rattle.queue.proofs.Ranks.{Search, head-lowest, first-key, search-start, search-zero, search-lowest, search-word, search-step, search-less, search-end}
 use Rattle.queue.proofs.ties.first_of_degree.Statement.{statement}
 use Rattle.queue.proofs.ties.first_of_degree.Tie as tie
 
 abbrev Inv-loop : tie.InvT-loop
-Inv-loop ranks queue word head end first₀ i₀ first i = Search ranks queue word i first
+Inv-loop ranks queue word head summary start least₀ marks₀ least marks = Search ranks queue word marks least
 
 abbrev μ-loop : tie.MeasureT-loop
-μ-loop ranks queue word head end first₀ i₀ first i = word / 16 * 16 + 16 - i
+μ-loop ranks queue word head summary start least₀ marks₀ least marks = marks
 
 mul-head : tie.Need-mul-head Inv-loop μ-loop
 mul-head c = search needs
@@ -19,66 +17,79 @@ mul-head c = search needs
 element-copy-out-head : tie.Need-element-copy-out-head Inv-loop μ-loop
 element-copy-out-head c = search needs
 
-mul-end : tie.Need-mul-end Inv-loop μ-loop
-mul-end c = search needs
+add-summary : tie.Need-add-summary Inv-loop μ-loop
+add-summary c = search needs
 
-add-end : tie.Need-add-end Inv-loop μ-loop
-add-end c = search needs
+mul-summary : tie.Need-mul-summary Inv-loop μ-loop
+mul-summary c = search needs
 
-mul-first : tie.Need-mul-first Inv-loop μ-loop
-mul-first c = search needs
+element-copy-out-summary : tie.Need-element-copy-out-summary Inv-loop μ-loop
+element-copy-out-summary c = search needs
 
-cast-first : tie.Need-cast-first Inv-loop μ-loop
-cast-first c = omega (arith, head-lowest (c .before .before .pre .0 .1) (c .before .before .pre .1) .inside)
+mul-start : tie.Need-mul-start Inv-loop μ-loop
+mul-start c = search needs
 
-add-first : tie.Need-add-first Inv-loop μ-loop
-add-first c = omega (arith, head-lowest (c .before .before .pre .0 .1) (c .before .before .pre .1) .inside)
+mul-key : tie.Need-mul-key Inv-loop μ-loop
+mul-key c = search needs
+
+cast-key : tie.Need-cast-key Inv-loop μ-loop
+cast-key c =
+    let p = c .before .before .before .pre in
+    omega (arith, head-lowest (p .0 .1) (p .1) .inside)
+
+add-key : tie.Need-add-key Inv-loop μ-loop
+add-key c =
+    let p = c .before .before .before .pre in
+    omega (arith, head-lowest (p .0 .1) (p .1) .inside)
+
+key-requires : tie.Need-key-requires Inv-loop μ-loop
+key-requires c κs = first-key (c .before .before .before .pre .0 .1) (c .before .before .before .pre .1)
+
+shr-marks : tie.Need-shr-marks Inv-loop μ-loop
+shr-marks c = search needs
 
 loop-holds : tie.Need-loop-holds Inv-loop μ-loop
-loop-holds c = search-start (c .before .before .pre .0 .1) (c .before .before .pre .1)
-
-mul-if1 : tie.Need-mul-if1 Inv-loop μ-loop
-mul-if1 c = search needs
-
-shared-slice-read-if1 : tie.Need-shared-slice-read-if1 Inv-loop μ-loop
-shared-slice-read-if1 c =
-    let p = c .before .before .before .before .before .pre in
-    search-cell (p .0 .1) (p .1) (c .before .before .loop .inv)
+loop-holds c = search-start (c .before .before .before .before .pre .0 .1) (c .before .before .before .before .pre .1) (c .key .ensures)
 
 returns : tie.Need-returns Inv-loop μ-loop
 returns c =
-    let p = c .before .before .before .before .before .before .pre in
-    search-zero (p .0 .1) (p .1) (c .before .before .before .loop .inv) (c .if1 .taken)
+    let p = c .before .before .before .before .before .before .before .pre in
+    search-zero (p .0 .1) (p .1) (c .before .before .loop .inv) (c .if1 .taken)
+
+cast-i : tie.Need-cast-i Inv-loop μ-loop
+cast-i c = omega (arith, search-lowest (c .before .before .loop .inv) (c .before .loop-test .taken) .inside)
+
+add-bits : tie.Need-add-bits Inv-loop μ-loop
+add-bits c = omega (arith, c .before .before .before .before .before .before .before .pre .1 .inside, search-lowest (c .before .before .loop .inv) (c .before .loop-test .taken) .inside)
 
 mul-bits : tie.Need-mul-bits Inv-loop μ-loop
-mul-bits c = search needs
+mul-bits c = omega (arith, c .before .before .before .before .before .before .before .pre .1 .inside, search-lowest (c .before .before .loop .inv) (c .before .loop-test .taken) .inside)
 
 element-copy-out-bits : tie.Need-element-copy-out-bits Inv-loop μ-loop
-element-copy-out-bits c = search needs
+element-copy-out-bits c = omega (arith, c .before .before .before .before .before .before .before .pre .1 .inside, search-lowest (c .before .before .loop .inv) (c .before .loop-test .taken) .inside)
 
-mul-first-in-word : tie.Need-mul-first-in-word Inv-loop μ-loop
-mul-first-in-word c = search needs
+mul-least-in-word : tie.Need-mul-least-in-word Inv-loop μ-loop
+mul-least-in-word c = omega (arith, search-lowest (c .before .before .before .loop .inv) (c .before .before .loop-test .taken) .inside)
 
-first-in-word-requires : tie.Need-first-in-word-requires Inv-loop μ-loop
-first-in-word-requires c κs =
-    let p = c .before .before .before .before .before .before .before .pre in
-    search-word (p .0 .1) (p .1) (c .before .before .before .before .loop .inv) (c .before .before .before .loop-test .taken)
+least-in-word-requires : tie.Need-least-in-word-requires Inv-loop μ-loop
+least-in-word-requires c κs =
+    let p = c .before .before .before .before .before .before .before .before .pre in
+    search-word (p .0 .1) (p .1) (c .before .before .before .loop .inv) (c .before .before .loop-test .taken)
 
-add-i : tie.Need-add-i Inv-loop μ-loop
-add-i c = search needs
+sub-marks : tie.Need-sub-marks Inv-loop μ-loop
+sub-marks c = search needs
 
 loop-less : tie.Need-loop-less Inv-loop μ-loop
-loop-less c = omega arith
+loop-less c = search-less (c .before .before .before .before .loop .inv) (c .before .before .before .loop-test .taken)
 
 loop-again : tie.Need-loop-again Inv-loop μ-loop
 loop-again c =
-    let p = c .before .before .before .before .before .before .before .before .pre in
-    let turn = c .before .before .before .before in
-    search-step (p .0 .1) (p .1) (turn .before .loop .inv) (turn .loop-test .taken) (c .first-in-word .ensures)
+    let p = c .before .before .before .before .before .before .before .before .before .pre in
+    search-step (p .0 .1) (p .1) (c .before .before .before .before .loop .inv) (c .before .before .before .loop-test .taken) (c .least-in-word .ensures)
 
 returns-2 : tie.Need-returns-2 Inv-loop μ-loop
 returns-2 c =
-    let p = c .before .before .before .before .pre in
+    let p = c .before .before .before .before .before .before .pre in
     search-end (p .0 .1) (p .1) (c .before .loop .inv) (c .loop-test .left)
 
 pub first-of-degree-spec : {M : Type 1} → statement M
@@ -89,20 +100,24 @@ first-of-degree-spec =
     μ-loop
     mul-head
     element-copy-out-head
-    mul-end
-    add-end
-    mul-first
-    cast-first
-    add-first
+    add-summary
+    mul-summary
+    element-copy-out-summary
+    mul-start
+    mul-key
+    cast-key
+    add-key
+    key-requires
+    shr-marks
     loop-holds
-    mul-if1
-    shared-slice-read-if1
     returns
+    cast-i
+    add-bits
     mul-bits
     element-copy-out-bits
-    mul-first-in-word
-    first-in-word-requires
-    add-i
+    mul-least-in-word
+    least-in-word-requires
+    sub-marks
     loop-less
     loop-again
     returns-2)
