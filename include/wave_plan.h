@@ -62,7 +62,7 @@ extern "C" {
 
 /* The most bytes of a list, of a sheet, of a journal, and of a poster. */
 #define WAVE_PLAN_MOST_LIST_BYTES 60000
-#define WAVE_PLAN_MOST_SHEET_BYTES 4067
+#define WAVE_PLAN_MOST_SHEET_BYTES 4084
 #define WAVE_PLAN_MOST_JOURNAL_BYTES 60000
 #define WAVE_PLAN_MOST_POSTER_BYTES 8200
 
@@ -204,7 +204,7 @@ uint16_t wave_plan_replay(const uint8_t *journal, size_t journal_bytes, uint16_t
                           uint16_t *tally, size_t tally_cells, uint16_t *result, size_t result_cells);
 
 /* Writes the gate poster of the plan to the front of `out`: pages of 50 lines of 40 characters and a line feed. result[0]: its
- * number of bytes, 2050 for each page; 0 for a plan without banks. */
+ * number of bytes, 2050 for each page; a plan without banks has one. */
 uint16_t wave_plan_write_poster(const uint16_t *neighbours, size_t neighbours_cells, const uint16_t *degrees, size_t degrees_cells,
                                 const uint16_t *waves, size_t waves_cells, const uint16_t *counts, size_t counts_cells,
                                 const uint16_t *ranks, size_t ranks_cells, const uint16_t *tally, size_t tally_cells,

@@ -269,7 +269,7 @@ static void of_read_list(void) {
 
 static void of_write_sheet(void) {
     Plan p = four_banks(WAVE_PLAN_SHEET_RESULTS);
-    static const char sheet[] = "WAVES 2\nA 0 2\nB 1 3\n";
+    static const char sheet[] = "WAVES 2\nA 0 2\nB 1 3\nTOTAL 4 4\n";
     size_t length = strlen(sheet);
     uint8_t *out = calloc(WAVE_PLAN_MOST_SHEET_BYTES, 1);
     if (!out) exit(2);
@@ -292,7 +292,7 @@ static void of_write_sheet(void) {
 
 static void of_write_poster(void) {
     Plan p = four_banks(WAVE_PLAN_POSTER_RESULTS);
-    static const char first[] = "A     0    2", second[] = "B     1    3";
+    static const char first[] = "A     0    2", second[] = "B     1    3", foot[] = "TOTAL 4 4 ";
     enum { LINE = 41, PAGE = 50 * LINE };
     uint8_t *out = calloc(WAVE_PLAN_MOST_POSTER_BYTES, 1);
     if (!out) exit(2);
@@ -307,6 +307,7 @@ static void of_write_poster(void) {
     IS(p.result[0], PAGE);
     IS(memcmp(out, first, strlen(first)), 0);
     IS(memcmp(out + LINE, second, strlen(second)), 0);
+    IS(memcmp(out + 2 * LINE, foot, strlen(foot)), 0);
     for (int i = strlen(first); i < LINE - 1; i++) IS(out[i], ' ');
     IS(out[LINE - 1], '\n');
     IS(out[PAGE - 2], ' ');

@@ -68,8 +68,8 @@ pub row-part : (b : ℕ) (s : Slices) (t : Tally) → bankNumber b s t ≡ 0
     → take (length (clashesOf b s t)) (drop (23 * b) (s .neighbours)) ≡ clashesOf b s t
 row-part = Answers.row-part
 
-pub sheet-short : (s : Slices) (t : Tally) (out : List ℕ) → writeSheet s t out .answer .length ≤ 4067
-sheet-short s t out = written-most sheet s t out 4067 sheet-fits
+pub sheet-short : (s : Slices) (t : Tally) (out : List ℕ) → writeSheet s t out .answer .length ≤ 4084
+sheet-short s t out = written-most sheet s t out 4084 sheet-fits
 
 pub poster-short : (s : Slices) (t : Tally) (out : List ℕ) → writePoster s t out .answer .length ≤ 8200
 poster-short s t out = written-most poster s t out 8200 poster-fits

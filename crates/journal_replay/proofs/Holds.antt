@@ -37,7 +37,7 @@ clashes-ranked G b r f c = record {
     by true h = f
     by false h = h
 
-enter-kept : (e : Entry) (s : State) → Holding s → rankFits e ≡ true → entryNumber e s ≡ 0 → Holding (enter e s)
+pub enter-kept : (e : Entry) (s : State) → Holding s → rankFits e ≡ true → entryNumber e s ≡ 0 → Holding (enter e s)
 unfolding entryNumber enter setRank rankFits
 enter-kept (Clash k a b) s h f z = make-kept k (a .0) (b .0) s h z
 enter-kept (Rank b r) s h f z =

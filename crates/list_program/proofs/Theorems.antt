@@ -25,7 +25,7 @@ unfolding textOf
 accepted-text Sheet list out z room =
     let l : ListResult = readList list blank in
     let holds = accepted-holds list blank z in
-    let short : 4067 ≤ length out = omega arith in
+    let short : 4084 ≤ length out = omega arith in
     sym (answer-text (textOf Sheet) list out l (λ i. l) z _ (Sheets.never-short (endOf list blank .graph) (l .memory .slices) (l .memory .tally) out holds short))
 accepted-text Poster list out z room =
     let l : ListResult = readList list blank in

@@ -37,7 +37,7 @@ each-kept b (v ∷ vs) s h l e =
     each-kept b vs (make Striking b v s) (make-sound Striking b v s (h .holding) (strike-number (s .graph) (h .holding .clashes) b l v vs e)) l
     (strike-rest (s .graph) (h .holding .clashes) b l v vs e)
 
-change-kept : (c : Change) (s : State) → Sound s → ChangeFits c → changeNumber c s ≡ 0 → Sound (change c s)
+pub change-kept : (c : Change) (s : State) → Sound s → ChangeFits c → changeNumber c s ≡ 0 → Sound (change c s)
 unfolding change changeNumber firstNo
 change-kept (One e) s h f z = enter-sound e s h f z
 change-kept (StrikeAll b) s h f z =

@@ -1,9 +1,9 @@
 -- The pages read again: each line has its form, and gives its banks and its wave.
 use mathlib.Core.Bool.{Bool, true, false, cond, not}
 use mathlib.Core.List.{List, [], _∷_, _++_, map, flatMap, append-assoc}
-use mathlib.Core.Logic.{_⊎_, inl, inr}
+use mathlib.Core.Logic.{_⊎_, inl, inr, _≢_}
 use mathlib.Core.Path.{_≡_, refl, sym, ap, ap₂, subst, _∙_}
-use Prim.Native.Nat.{ℕ, zero, suc, _+_, _*_, _-_, _/_, _≤_, _<_}
+use Prim.Native.Nat.{ℕ, zero, suc, _+_, _*_, _-_, _/_, _%_, _≤_, _<_}
 use native.Mathlib.Omega.{arith}
 use lib.Dec.{T, eqb}
 use lib.ListN.{length, getD, take, drop, replicate, length-append, replicate-append-replicate}
@@ -14,10 +14,13 @@ use Rattle.rule.proofs.Lists.{in-head, in-tail, in-cons, in-none, in-append, fi
 use Rattle.text.specs.Text.{joined}
 use Rattle.text.specs.Numbers.{valueFrom, decimal}
 use Rattle.text.proofs.Digits.{digit-high}
-use Rattle.text.proofs.Decimal.{some-digit, decimal-digits, decimal-value}
+use Rattle.text.proofs.Decimal.{some-digit, few-digits, decimal-digits, decimal-value}
+use Rattle.text.proofs.Without.{Without}
 use Rattle.wave_lines.specs.Lines.{Line}
-use Rattle.poster_writer.specs.Poster.{pieces, sevens, rightAligned, padded, posterLine, marked, waveLines}
-use Rattle.poster_writer.specs.Reading.{linesOn, numberIn, bankIn, banksOn, continued, grouped, Row}
+use Rattle.wave_lines.specs.Foot.{footText, totalsOf, totalsOn}
+use Rattle.wave_lines.proofs.Totals.{length-foot, foot-without, totals-padded}
+use Rattle.poster_writer.specs.Poster.{pieces, sevens, rightAligned, padded, posterLine, marked, waveLines, footLine, filled}
+use Rattle.poster_writer.specs.Reading.{linesOn, numberIn, bankIn, banksOn, isFoot, aboveFoot, continued, grouped, Row}
 use Rattle.poster_writer.specs.inner.Cells.{Small}
 use Rattle.poster_writer.proofs.Each.{Each, each-append, each-replicate, each-map}
 use Rattle.poster_writer.proofs.Columns.{length-aligned, length-columns, length-padded, length-rows, length-spaces}
@@ -127,49 +130,27 @@ module _ (letter : ℕ) (high : 65 ≤ letter) (rest : List (List ℕ)) (none : 
       (ap₂ (λ (x y : List ℕ). x ++ y) (banks-on letter p (fits .0)) (continues ps rest (fits .1) none))
       (passed-over ps rest))
 
-blank-mark : getD (padded []) 0 0 ≡ 32
-unfolding padded
-blank-mark = refl
-
-blanks-continue : (n : ℕ) → continued (replicate n (padded [])) ≡ []
-unfolding continued
-blanks-continue zero = refl
-blanks-continue (suc n) = rw blank-mark (ap₂ (λ (x y : List ℕ). x ++ y) blank-on (blanks-continue n))
-
-blanks-no-wave : (n : ℕ) → grouped (replicate n (padded [])) ≡ []
-unfolding grouped
-blanks-no-wave zero = refl
-blanks-no-wave (suc n) = rw blank-mark (blanks-no-wave n)
-
 -- a sheet's line that the poster can show: a letter, and banks below 1,024, at least one
 pub record Good (l : Line) : Type 0 where
   pub high : 65 ≤ l .letter
   pub small : Small (l .banks)
   pub some : 1 ≤ length (l .banks)
 
--- the waves, and the lines that fill the page: no line continues what stood before them, and they are read as they were
-module _ (n : ℕ) where
-  abbrev shown : List Line → List (List ℕ)
-  shown ls = flatMap waveLines ls ++ replicate n (padded [])
+-- the lines of the waves: none continues what stood before them, and they are read as they were
+pub none-continues : (ls : List Line) → Each Good ls → continued (flatMap waveLines ls) ≡ []
+unfolding flatMap waveLines continued
+none-continues [] good = refl
+none-continues (l ∷ ls) good =
+    first-stops (l .letter) (good .0 .high) (flatMap waveLines ls) (none-continues ls (good .1)) (sevens (l .banks))
+    (omega (arith, length-sevens (l .banks), good .0 .some))
 
-  shown-cons : (l : Line) (ls : List Line) → shown (l ∷ ls) ≡ marked (l .letter) (sevens (l .banks)) ++ shown ls
-  unfolding flatMap waveLines
-  shown-cons l ls = append-assoc (waveLines l) (flatMap waveLines ls) (replicate n (padded []))
-
-  pub none-continues : (ls : List Line) → Each Good ls → continued (shown ls) ≡ []
-  none-continues [] good = unfold flatMap in blanks-continue n
-  none-continues (l ∷ ls) good =
-      ap continued (shown-cons l ls)
-      ∙ first-stops (l .letter) (good .0 .high) (shown ls) (none-continues ls (good .1)) (sevens (l .banks))
-      (omega (arith, length-sevens (l .banks), good .0 .some))
-
-  pub waves-again : (ls : List Line) → Each Good ls → grouped (shown ls) ≡ ls
-  waves-again [] good = unfold flatMap in blanks-no-wave n
-  waves-again (l ∷ ls) good =
-      ap grouped (shown-cons l ls)
-      ∙ one-wave (l .letter) (good .0 .high) (shown ls) (none-continues ls (good .1)) (sevens (l .banks)) (each-fits (l .banks) (good .0 .small))
-      (omega (arith, length-sevens (l .banks), good .0 .some))
-      ∙ ap₂ (λ (bs : List ℕ) (rest : List Line). record { letter = l .letter; banks = bs } ∷ rest) (sevens-joined (l .banks)) (waves-again ls (good .1))
+pub waves-again : (ls : List Line) → Each Good ls → grouped (flatMap waveLines ls) ≡ ls
+unfolding flatMap waveLines grouped
+waves-again [] good = refl
+waves-again (l ∷ ls) good =
+    one-wave (l .letter) (good .0 .high) (flatMap waveLines ls) (none-continues ls (good .1)) (sevens (l .banks)) (each-fits (l .banks) (good .0 .small))
+    (omega (arith, length-sevens (l .banks), good .0 .some))
+    ∙ ap₂ (λ (bs : List ℕ) (rest : List Line). record { letter = l .letter; banks = bs } ∷ rest) (sevens-joined (l .banks)) (waves-again ls (good .1))
 
 -- the banks line by line are those of the waves, and before them those that continue none of these
 pub banks-by-wave : (ls : List (List ℕ)) → joined (map banksOn ls) ≡ continued ls ++ joined (map (λ (l : Line). l .banks) (grouped ls))
@@ -201,6 +182,10 @@ in-columns (b ∷ bs) y m =
       | inr t ↦ in-columns bs y t
     ]
 
+without-none : (c : ℕ) (xs : List ℕ) → Without c xs → T (memb c xs) → ⊥
+without-none c [] w m = in-none c m
+without-none c (x ∷ xs) w m = elim (in-cons c x xs m) [ inl e ↦ w .0 (sym e) | inr t ↦ without-none c xs (w .1) t ]
+
 -- a line to its end
 module _ (text : List ℕ) (few : length text ≤ 40) where
   abbrev front : List ℕ
@@ -213,8 +198,8 @@ module _ (text : List ℕ) (few : length text ≤ 40) where
   unfolding padded
   padded-is = sym (append-assoc text (replicate (40 - length text) 32) (10 ∷ []))
 
-  pub row : getD (padded text) 1 0 ≡ 32 → (T (memb 10 text) → ⊥) → Row (padded text)
-  row space none = record {
+  pub row : (foot : List ℕ) → (padded text ≢ foot → getD (padded text) 1 0 ≡ 32) → (T (memb 10 text) → ⊥) → Row foot (padded text)
+  row foot space none = record {
     long = length-padded text few;
     space = space;
     inside = λ m.
@@ -226,54 +211,122 @@ module _ (text : List ℕ) (few : length text ≤ 40) where
     feed = ap (λ (l : List ℕ). getD l 40 0) padded-is ∙ getD-at front 10 [] 0 40 length-front;
   }
 
-blank-row : Row (padded [])
-blank-row = row [] (omega arith) space (in-none 10)
-  where
-    space : getD (padded []) 1 0 ≡ 32
-    space = unfold padded in refl
+-- the second character is a space on a blank line and on those of the waves
+abbrev Spaced : List ℕ → Type 0
+Spaced l = getD l 1 0 ≡ 32
 
-line-row : (mark : ℕ) (bs : List ℕ) → (10 ≡ mark → ⊥) → Fits bs → Row (posterLine mark bs)
-unfolding posterLine
-line-row mark bs seen fits =
-    row (mark ∷ 32 ∷ joined (map rightAligned bs)) (omega (arith, length-columns bs (fits .0), fits .1)) space (λ m.
-    elim (in-cons 10 mark (32 ∷ joined (map rightAligned bs)) m) [
-      | inl e ↦ seen e
-      | inr t ↦ elim (in-cons 10 32 (joined (map rightAligned bs)) t) [
-        | inl e ↦ let f : _≡_ {A = ℕ} 10 32 = e in omega arith
-        | inr u ↦ elim (in-columns bs 10 u) [ inl e ↦ let f : _≡_ {A = ℕ} 10 32 = e in omega arith | inr h ↦ omega arith ]
-      ]
-    ])
-  where
-    space : getD (padded (mark ∷ 32 ∷ joined (map rightAligned bs))) 1 0 ≡ 32
-    space = unfold padded in refl
+blank-spaced : Spaced (padded [])
+unfolding padded
+blank-spaced = refl
 
-marked-rows : (mark : ℕ) (ps : List (List ℕ)) → (10 ≡ mark → ⊥) → Each Fits ps → Each Row (marked mark ps)
+line-spaced : (mark : ℕ) (bs : List ℕ) → Spaced (posterLine mark bs)
+unfolding posterLine padded
+line-spaced mark bs = refl
+
+marked-spaced : (mark : ℕ) (ps : List (List ℕ)) → Each Spaced (marked mark ps)
 unfolding marked
-marked-rows mark [] seen fits = tt
-marked-rows mark (p ∷ ps) seen fits = (line-row mark p seen (fits .0), marked-rows 32 ps (λ e. omega arith) (fits .1))
+marked-spaced mark [] = tt
+marked-spaced mark (p ∷ ps) = (line-spaced mark p, marked-spaced 32 ps)
 
-waves-rows : (ls : List Line) → Each Good ls → Each Row (flatMap waveLines ls)
+waves-spaced : (ls : List Line) → Each Spaced (flatMap waveLines ls)
 unfolding flatMap waveLines
-waves-rows [] good = tt
-waves-rows (l ∷ ls) good =
-    let high : 65 ≤ l .letter = good .0 .high in
-    let first = marked-rows (l .letter) (sevens (l .banks)) (λ e. omega arith) (each-fits (l .banks) (good .0 .small)) in
-    each-append Row (waveLines l) (flatMap waveLines ls) first (waves-rows ls (good .1))
+waves-spaced [] = tt
+waves-spaced (l ∷ ls) = each-append Spaced (waveLines l) (flatMap waveLines ls) (marked-spaced (l .letter) (sevens (l .banks))) (waves-spaced ls)
+
+-- on the foot it is none
+foot-marked : (n m : ℕ) → isFoot (footLine n m) ≡ true
+unfolding isFoot footLine padded footText
+foot-marked n m = refl
+
+-- so it is found, and the lines above it
+above-is : (ls rest : List (List ℕ)) (foot : List ℕ) → Each Spaced ls → isFoot foot ≡ true → aboveFoot (ls ++ (foot ∷ rest)) ≡ ls
+unfolding aboveFoot
+above-is [] rest foot spaced is = rw is
+above-is (l ∷ ls) rest foot spaced is =
+    let none : isFoot l ≡ false = unfold isFoot in rw (spaced .0) in
+    rw none (ap (_∷_ l) (above-is ls rest foot (spaced .1) is))
+
+pub above-foot : (ls : List Line) (n m : ℕ) (rest : List (List ℕ))
+    → aboveFoot ((flatMap waveLines ls ++ (footLine n m ∷ [])) ++ rest) ≡ flatMap waveLines ls
+above-foot ls n m rest =
+    ap aboveFoot (append-assoc (flatMap waveLines ls) (footLine n m ∷ []) rest)
+    ∙ above-is (flatMap waveLines ls) rest (footLine n m) (waves-spaced ls) (foot-marked n m)
+
+pub foot-at : (ls : List Line) (n m : ℕ) (rest : List (List ℕ))
+    → getD ((flatMap waveLines ls ++ (footLine n m ∷ [])) ++ rest) (length (flatMap waveLines ls)) [] ≡ footLine n m
+foot-at ls n m rest =
+    ap (λ (l : List (List ℕ)). getD l (length (flatMap waveLines ls)) []) (append-assoc (flatMap waveLines ls) (footLine n m ∷ []) rest)
+    ∙ getD-at (flatMap waveLines ls) (footLine n m) rest [] (length (flatMap waveLines ls)) refl
+
+-- the foot of a plan's numbers is a line, and its numbers are read as they were
+module _ (n m : ℕ) (low : n < 10000) (few : m < 100000) where
+  pub foot-short : length (footText n m) ≤ 16
+  foot-short = omega (arith, length-foot n m, few-digits 3 n low, few-digits 4 m few)
+
+  pub foot-totals : totalsOn (footLine n m) ≡ totalsOf n m
+  unfolding footLine padded
+  foot-totals =
+      let left : ℕ = 39 - length (footText n m) in
+      let split : 40 - length (footText n m) ≡ suc left = omega (arith, foot-short) in
+      ap (λ (count : ℕ). totalsOn (footText n m ++ (replicate count 32 ++ (10 ∷ [])))) split
+      ∙ totals-padded n m (replicate left 32 ++ (10 ∷ []))
+
+  foot-row : Row (footLine n m) (footLine n m)
+  unfolding footLine
+  foot-row = row (footText n m) (omega (arith, foot-short)) (padded (footText n m)) (λ other. absurd (other refl)) (without-none 10 (footText n m) (foot-without n m))
 
 -- every line has the form of one
-pub rows : (n : ℕ) (ls : List Line) → Each Good ls → Each Row (flatMap waveLines ls ++ replicate n (padded []))
-rows n ls good = each-append Row (flatMap waveLines ls) (replicate n (padded [])) (waves-rows ls good) (each-replicate Row (padded []) blank-row n)
+module _ (foot : List ℕ) where
+  blank-row : Row foot (padded [])
+  blank-row = row [] (omega arith) foot (λ other. blank-spaced) (in-none 10)
 
-each-long : (ls : List (List ℕ)) → Each Row ls → Each (λ l. length l ≡ 41) ls
-each-long = each-map Row (λ l. length l ≡ 41) (λ l r. r .long)
+  line-row : (mark : ℕ) (bs : List ℕ) → (10 ≡ mark → ⊥) → Fits bs → Row foot (posterLine mark bs)
+  unfolding posterLine
+  line-row mark bs seen fits =
+      row (mark ∷ 32 ∷ joined (map rightAligned bs)) (omega (arith, length-columns bs (fits .0), fits .1)) foot (λ other. line-spaced mark bs) (λ m.
+      elim (in-cons 10 mark (32 ∷ joined (map rightAligned bs)) m) [
+        | inl e ↦ seen e
+        | inr t ↦ elim (in-cons 10 32 (joined (map rightAligned bs)) t) [
+          | inl e ↦ let f : _≡_ {A = ℕ} 10 32 = e in omega arith
+          | inr u ↦ elim (in-columns bs 10 u) [ inl e ↦ let f : _≡_ {A = ℕ} 10 32 = e in omega arith | inr h ↦ omega arith ]
+        ]
+      ])
+
+  marked-rows : (mark : ℕ) (ps : List (List ℕ)) → (10 ≡ mark → ⊥) → Each Fits ps → Each (Row foot) (marked mark ps)
+  unfolding marked
+  marked-rows mark [] seen fits = tt
+  marked-rows mark (p ∷ ps) seen fits = (line-row mark p seen (fits .0), marked-rows 32 ps (λ e. omega arith) (fits .1))
+
+  waves-rows : (ls : List Line) → Each Good ls → Each (Row foot) (flatMap waveLines ls)
+  unfolding flatMap waveLines
+  waves-rows [] good = tt
+  waves-rows (l ∷ ls) good =
+      let high : 65 ≤ l .letter = good .0 .high in
+      let first = marked-rows (l .letter) (sevens (l .banks)) (λ e. omega arith) (each-fits (l .banks) (good .0 .small)) in
+      each-append (Row foot) (waveLines l) (flatMap waveLines ls) first (waves-rows ls (good .1))
+
+  pub each-long : (ls : List (List ℕ)) → Each (Row foot) ls → Each (λ l. length l ≡ 41) ls
+  each-long = each-map (Row foot) (λ l. length l ≡ 41) (λ l r. r .long)
+
+-- those of the waves and of the foot, and with the filling
+pub lines-rows : (ls : List Line) → Each Good ls → (n m : ℕ) → n < 10000 → m < 100000
+    → Each (Row (footLine n m)) (flatMap waveLines ls ++ (footLine n m ∷ []))
+lines-rows ls good n m low few =
+    each-append (Row (footLine n m)) (flatMap waveLines ls) (footLine n m ∷ []) (waves-rows (footLine n m) ls good) (foot-row n m low few, tt)
+
+pub filled-rows : (foot : List ℕ) (ls : List (List ℕ)) → Each (Row foot) ls → Each (Row foot) (filled ls)
+unfolding filled
+filled-rows foot ls rows =
+    let fill : ℕ = (50 - length ls % 50) % 50 in
+    each-append (Row foot) ls (replicate fill (padded [])) rows (each-replicate (Row foot) (padded []) (blank-row foot) fill)
 
 pub waves-long : (ls : List Line) → Each Good ls → Each (λ l. length l ≡ 41) (flatMap waveLines ls)
-waves-long ls good = each-long (flatMap waveLines ls) (waves-rows ls good)
+waves-long ls good = each-long [] (flatMap waveLines ls) (waves-rows [] ls good)
 
 -- lines put together are found again
-pub lines-again : (ls : List (List ℕ)) → Each Row ls → linesOn (joined ls) ≡ ls
+pub lines-again : (foot : List ℕ) (ls : List (List ℕ)) → Each (Row foot) ls → linesOn (joined ls) ≡ ls
 unfolding linesOn
-lines-again ls e =
-    let long = length-rows ls (each-long ls e) in
+lines-again foot ls e =
+    let long = length-rows ls (each-long foot ls e) in
     let count : length (joined ls) / 41 ≡ length ls = omega arith in
-    ap (λ (n : ℕ). pieces n 41 (joined ls)) count ∙ pieces-joined 41 ls (each-long ls e)
+    ap (λ (n : ℕ). pieces n 41 (joined ls)) count ∙ pieces-joined 41 ls (each-long foot ls e)

@@ -1,11 +1,13 @@
--- The gate poster of a plan (02, N3): the sheet's waves in lines of 40 characters and a line feed, 50 lines a page.
+-- The gate poster of a plan (02, N3 and N7): the sheet's waves and its foot in lines of 40 characters and a line feed, 50 lines a page.
 use mathlib.Core.List.{List, [], _∷_, _++_, map, flatMap}
 use Prim.Native.Nat.{ℕ, zero, suc, _+_, _-_, _/_, _%_}
 use lib.ListN.{length, take, drop, replicate}
 use Rattle.rule.specs.Graph.{Graph}
+use Rattle.memory.specs.Plan.{clashCount}
 use Rattle.text.specs.Text.{joined}
 use Rattle.text.specs.Numbers.{decimal}
 use Rattle.wave_lines.specs.Lines.{Line, linesOf}
+use Rattle.wave_lines.specs.Foot.{footText}
 
 -- a list cut into `count` pieces of `size`
 unfoldable pub pieces : {A : Type 0} → ℕ → ℕ → List A → List (List A)
@@ -37,11 +39,15 @@ marked mark (bs ∷ rest) = posterLine mark bs ∷ marked 32 rest
 unfoldable pub waveLines : Line → List (List ℕ)
 waveLines l = marked (l .letter) (sevens (l .banks))
 
--- the lines of all waves, in the sheet's order
-unfoldable pub posterLines : Graph → List (List ℕ)
-posterLines G = flatMap waveLines (linesOf G)
+-- the sheet's foot, `TOTAL n m`
+unfoldable pub footLine : ℕ → ℕ → List ℕ
+footLine n m = padded (footText n m)
 
--- lines of 40 spaces that fill the last page of 50; no line has no page
+-- the lines of all waves, in the sheet's order, then the foot
+unfoldable pub posterLines : Graph → List (List ℕ)
+posterLines G = flatMap waveLines (linesOf G) ++ (footLine (G .banks) (clashCount G) ∷ [])
+
+-- lines of 40 spaces that fill the last page of 50
 unfoldable pub filled : List (List ℕ) → List (List ℕ)
 filled lines = lines ++ replicate ((50 - length lines % 50) % 50) (padded [])
 

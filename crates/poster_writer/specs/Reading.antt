@@ -1,6 +1,7 @@
 -- Reading a poster: what stands on its pages, line by line and column by column.
-use mathlib.Core.Bool.{cond, not}
+use mathlib.Core.Bool.{Bool, cond, not}
 use mathlib.Core.List.{List, [], _∷_, _++_, map}
+use mathlib.Core.Logic.{_≢_}
 use mathlib.Core.Path.{_≡_}
 use Prim.Native.Nat.{ℕ, _/_}
 use lib.Dec.{T, eqb}
@@ -9,6 +10,7 @@ use Rattle.rule.specs.Lists.{filter, memb}
 use Rattle.text.specs.Numbers.{valueFrom}
 use Rattle.text.specs.Text.{joined}
 use Rattle.wave_lines.specs.Lines.{Line}
+use Rattle.wave_lines.specs.Foot.{Totals, totalsOn}
 use Rattle.poster_writer.specs.Poster.{pieces}
 
 -- the lines of the pages, 40 characters and a line feed each
@@ -28,9 +30,18 @@ bankIn columns = numberIn (filter (λ x. not (eqb x 32)) columns)
 unfoldable pub banksOn : List ℕ → List ℕ
 banksOn line = joined (map bankIn (pieces 7 5 (drop 2 line)))
 
+-- is it the foot? all other lines have a space as their second character
+unfoldable pub isFoot : List ℕ → Bool
+isFoot line = not (eqb (getD line 1 0) 32)
+
+-- the lines above the foot
+unfoldable pub aboveFoot : List (List ℕ) → List (List ℕ)
+aboveFoot [] = []
+aboveFoot (l ∷ ls) = cond (isFoot l) [] (l ∷ aboveFoot ls)
+
 -- the banks on the pages, line by line
 unfoldable pub banksRead : List ℕ → List ℕ
-banksRead pages = joined (map banksOn (linesOn pages))
+banksRead pages = joined (map banksOn (aboveFoot (linesOn pages)))
 
 -- the first character of a line
 abbrev pub mark : List ℕ → ℕ
@@ -48,11 +59,15 @@ grouped (l ∷ ls) = cond (eqb (mark l) 32) (grouped ls) (record { letter = mark
 
 -- the waves on the pages
 unfoldable pub wavesRead : List ℕ → List Line
-wavesRead pages = grouped (linesOn pages)
+wavesRead pages = grouped (aboveFoot (linesOn pages))
 
--- a line of the poster: 40 characters, the second a space and none a line feed, then a line feed
-pub record Row (l : List ℕ) : Type 0 where
+-- the numbers of the foot, which is the line after those above it
+unfoldable pub totalsRead : List ℕ → Totals
+totalsRead pages = totalsOn (getD (linesOn pages) (length (aboveFoot (linesOn pages))) [])
+
+-- a line of the poster with this foot: 40 characters, none a line feed, then a line feed; the second is a space if it is not the foot
+pub record Row (foot l : List ℕ) : Type 0 where
   pub long : length l ≡ 41
-  pub space : getD l 1 0 ≡ 32
+  pub space : l ≢ foot → getD l 1 0 ≡ 32
   pub inside : T (memb 10 (take 40 l)) → ⊥
   pub feed : getD l 40 0 ≡ 10

@@ -1,10 +1,12 @@
-// The lines of one wave. Each function writes at `at` and answers the place after what it wrote.
+// The lines of one wave, the foot and the filling. Each function writes at `at` and answers the place after what it wrote.
 use crate::column::put_aligned;
 use crate::column::put_end;
+use memory::Tally;
 use rule::Bank;
 use rule::Wave;
 use text::put_byte;
 use wave_lines::letter;
+use wave_lines::put_foot;
 ghost use mathlib.Core.List.{[], map};
 ghost use mathlib.Core.Path.{_≡_};
 ghost use Prim.Native.Nat.{_+_, _*_, _/_, _≤_, _<_, min};
@@ -12,7 +14,8 @@ ghost use lib.ListN.{length, getD, replicate};
 ghost use Rattle.text.specs.Text.{joined};
 ghost use Rattle.text.specs.Places.{Room, Wrote};
 ghost use Rattle.wave_lines.specs.Lines.{letters};
-ghost use Rattle.poster_writer.specs.Poster.{rightAligned, padded, posterLine};
+ghost use Rattle.wave_lines.specs.Foot.{footText};
+ghost use Rattle.poster_writer.specs.Poster.{rightAligned, padded, posterLine, footLine};
 ghost use Rattle.poster_writer.specs.inner.Cells.{Small, markAt, linesWith};
 
 // The banks of a line.
@@ -104,6 +107,15 @@ pub fn put_wave(out: &mut [u8], at: usize, c: Wave, banks: &[u16]) -> usize
         i += 1;
     }
     next
+}
+
+// The foot of a plan with this tally, and its end.
+pub fn put_foot_line(out: &mut [u8], at: usize, tally: Tally) -> usize
+    requires { ⌜ (length (footText (tally .banks) (tally .clashes)) ≤ 40) × (at + 41 ≤ length (now out)) ⌝ }
+    ensures { λ r. ⌜ Wrote (footLine (tally .banks) (tally .clashes)) at out r ⌝ }
+{
+    let end = put_foot(out, at, tally);
+    put_end(out, end, end - at)
 }
 
 // Lines of 40 spaces.

@@ -1,5 +1,6 @@
 // Writing the poster of a plan.
 use crate::lines::put_blank_lines;
+use crate::lines::put_foot_line;
 use crate::waves::count_lines;
 use crate::waves::put_waves;
 use memory::Tally;
@@ -15,7 +16,7 @@ const PAGE_LINES: usize = 50;
 
 const PAGE_BYTES: usize = 41 * PAGE_LINES;
 
-// The bytes of the longest poster: 1,024 banks in 24 waves take up to 166 lines, four pages.
+// The bytes of the longest poster: 1,024 banks in 24 waves take up to 166 lines, and the foot one, four pages.
 pub const LONGEST_POSTER: usize = 4 * PAGE_BYTES;
 
 // Writes the poster of the plan to the front of out.
@@ -43,7 +44,7 @@ pub fn write_poster(
     }
     let n = tally.banks;
     let k = tally.waves;
-    let lines = count_lines(waves, n, k);
+    let lines = count_lines(waves, n, k) + 1;
     let pages = (lines + (PAGE_LINES - 1)) / PAGE_LINES;
     let length = PAGE_BYTES * pages;
     if out.len() < length {
@@ -52,7 +53,8 @@ pub fn write_poster(
             length: 0,
         };
     }
-    let end = put_waves(out, waves, n, k);
+    let foot = put_waves(out, waves, n, k);
+    let end = put_foot_line(out, foot, tally);
     put_blank_lines(out, end, PAGE_LINES * pages - lines);
     Written {
         number: 0,

@@ -1,5 +1,5 @@
 -- How long a sheet is: each bank stands on it once, so the waves do not matter but for their number.
-use mathlib.Core.List.{List, [], _∷_, map}
+use mathlib.Core.List.{List, [], _∷_, _++_, map}
 use mathlib.Core.Logic.{inl, inr}
 use mathlib.Core.Path.{_≡_, refl, sym, ap, _∙_}
 use Prim.Native.Nat.{ℕ, zero, suc, _+_, _*_, _-_, _≤_, _<_}
@@ -10,16 +10,17 @@ use Rattle.rule.specs.Graph.{Graph}
 use Rattle.rule.specs.Wave.{waveCount}
 use Rattle.rule.proofs.Booleans.{lt-or-ge}
 use Rattle.rule.proofs.Lists.{length-upto}
-use Rattle.memory.specs.Plan.{Clashes}
+use Rattle.memory.specs.Plan.{clashCount, Clashes}
 use Rattle.text.specs.Text.{joined}
 use Rattle.text.specs.Numbers.{decimal}
-use Rattle.text.proofs.Decimal.{length-low, length-decimal}
+use Rattle.text.proofs.Decimal.{length-low, few-digits, length-decimal}
 use Rattle.text.proofs.Joined.{texts-next}
 use Rattle.wave_lines.specs.Lines.{Line, banksOf, lineOf, linesOf}
-use Rattle.wave_lines.proofs.Shown.{total, total-append, shown-total}
-use Rattle.wave_lines.proofs.Plans.{few-waves}
-use Rattle.sheet_writer.specs.Sheet.{bankText, lineText, headText, sheet}
-use Rattle.sheet_writer.proofs.Texts.{length-head}
+use Rattle.wave_lines.proofs.Shown.{total, total-append, shown-total, count-lines}
+use Rattle.wave_lines.proofs.Plans.{few-waves, few-clashes}
+use Rattle.wave_lines.proofs.Totals.{length-foot}
+use Rattle.sheet_writer.specs.Sheet.{bankText, lineText, headText, lastText, sheetOf, sheet}
+use Rattle.sheet_writer.proofs.Texts.{length-head, length-last}
 
 -- the bytes of bank b on its line
 size : ℕ → ℕ
@@ -43,11 +44,17 @@ length-lines G (c ∷ cs) =
     let sum = total-append size (banksOf G c) (joined (map (banksOf G) cs)) in
     omega (arith, length-line (lineOf G c), length-lines G cs)
 
-pub length-sheet : (G : Graph) → length (sheet G) ≡ length (headText (waveCount G)) + (2 * waveCount G + length (joined (map bankText (upto (G .banks)))))
-unfolding sheet linesOf
+pub length-sheet : (G : Graph) → length (sheet G)
+    ≡ length (headText (waveCount G)) + (2 * waveCount G + length (joined (map bankText (upto (G .banks))))) + length (lastText (G .banks) (clashCount G))
+unfolding sheet sheetOf linesOf
 length-sheet G =
     let k : ℕ = waveCount G in
-    let parts = length-append (headText k) (joined (map lineText (map (lineOf G) (upto k)))) in
+    let last : List ℕ = lastText (G .banks) (clashCount G) in
+    let lines : List ℕ = joined (map lineText (map (lineOf G) (upto k))) in
+    let head : List ℕ = headText (length (map (lineOf G) (upto k))) in
+    let parts = length-append head (lines ++ last) in
+    let more = length-append lines last in
+    let count = ap (λ (n : ℕ). length (headText n)) (count-lines G) in
     omega (arith, length-lines G (upto k), length-upto k, shown-total G size, texts-total (upto (G .banks)))
 
 -- the bytes of n banks: 2 for each, and 1 more for each from 10, from 100 and from 1,000 on
@@ -81,12 +88,14 @@ head-low k h = omega (arith, length-head k, length-low k h)
 pub head-high : (k : ℕ) → 10 ≤ k → k < 100 → length (headText k) ≡ 9
 head-high k g h = omega (arith, length-head k, length-decimal 1 k g h)
 
--- the longest sheet: 1,024 banks in 24 waves
-pub sheet-fits : (G : Graph) → Clashes G → length (sheet G) ≤ 4067
+-- the longest sheet: 1,024 banks in 24 waves, and 10,000 clashes or more
+pub sheet-fits : (G : Graph) → Clashes G → length (sheet G) ≤ 4084
 sheet-fits G clashes =
     let k : ℕ = waveCount G in
     let few : k ≤ 24 = few-waves G clashes in
     let most : G .banks ≤ 1024 = clashes .most in
     let head : length (headText k) ≤ 9 =
     elim (lt-or-ge k 10) [ inl l ↦ omega (arith, head-low k l) | inr g ↦ omega (arith, head-high k g (omega arith)) ] in
-    omega (arith, length-sheet G, length-banks (G .banks) (omega arith))
+    let banks = few-digits 3 (G .banks) (omega arith) in
+    let clash = few-digits 4 (clashCount G) (omega (arith, few-clashes G clashes)) in
+    omega (arith, length-sheet G, length-banks (G .banks) (omega arith), length-last (G .banks) (clashCount G), length-foot (G .banks) (clashCount G))

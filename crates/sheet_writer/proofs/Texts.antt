@@ -13,7 +13,8 @@ use Rattle.text.specs.Text.{joined}
 use Rattle.text.specs.Numbers.{decimal}
 use Rattle.text.proofs.Joined.{texts-append, texts-next, texts-more, texts-room}
 use Rattle.wave_lines.specs.inner.Cells.{membersOf}
-use Rattle.sheet_writer.specs.Sheet.{bankText, lineText, headText}
+use Rattle.wave_lines.specs.Foot.{footText}
+use Rattle.sheet_writer.specs.Sheet.{bankText, lineText, headText, lastText}
 use Rattle.sheet_writer.specs.inner.Cells.{memberText, membersText, sheetWave, sheetWaves}
 
 -- bank b on the line of wave c, or not
@@ -81,3 +82,7 @@ length-wave ws n c = omega (arith, length-append (membersText ws c n) (10 ∷ []
 pub length-head : (k : ℕ) → length (headText k) ≡ 6 + (length (decimal k) + 1)
 unfolding headText
 length-head k = omega (arith, length-append (decimal k) (10 ∷ []))
+
+pub length-last : (n m : ℕ) → length (lastText n m) ≡ length (footText n m) + 1
+unfolding lastText
+length-last n m = length-append (footText n m) (10 ∷ [])

@@ -10,10 +10,12 @@ use Rattle.rule.specs.Wave.{lowestFrom, lowestFree, waveIn, wave, waves, waveCo
 use Rattle.rule.specs.Reach.{edited, changed, isNamed, isTurned, isReached, onTrail, trail, moved}
 use Rattle.rule.specs.declared.Kind.{Kind}
 use Rattle.rule.specs.declared.Kind.the-variants.{Adding, Striking}
+use Rattle.memory.specs.Plan.{clashCount}
 use Rattle.text.specs.Text.{joined}
 use Rattle.text.specs.Numbers.{decimalIn, decimal}
 use Rattle.wave_lines.specs.Lines.{letters, banksOf, linesOf}
-use Rattle.sheet_writer.specs.Sheet.{bankText, lineText, headText, sheet}
+use Rattle.wave_lines.specs.Foot.{footText}
+use Rattle.sheet_writer.specs.Sheet.{bankText, lineText, headText, lastText, sheetOf, sheet}
 
 -- are the two lists equal?
 same : List ℕ → List ℕ → Bool
@@ -54,18 +56,22 @@ allRight (c ∷ cs) G = right c G && allRight cs (after c G)
 
 pub cases : List Case
 cases =
-    -- M1, and its sheet: `WAVES 0`
+    -- M1, and its sheet: `WAVES 0`, `TOTAL 0 0`
     given 0 [] 0 []
-    ∷ shown (87 ∷ 65 ∷ 86 ∷ 69 ∷ 83 ∷ 32 ∷ 48 ∷ 10 ∷ [])
+    ∷ shown (87 ∷ 65 ∷ 86 ∷ 69 ∷ 83 ∷ 32 ∷ 48 ∷ 10 ∷ 84 ∷ 79 ∷ 84 ∷ 65 ∷ 76 ∷ 32 ∷ 48 ∷ 32 ∷ 48 ∷ 10 ∷ [])
     -- M2, M3, M4
     ∷ given 3 [] 1 (0 ∷ 0 ∷ 0 ∷ [])
     ∷ then Adding 1 2 2 (0 ∷ 0 ∷ 1 ∷ []) (1 ∷ 2 ∷ []) (2 ∷ [])
     ∷ then Adding 0 1 2 (1 ∷ 0 ∷ 1 ∷ []) (1 ∷ 0 ∷ []) (0 ∷ [])
     ∷ then Adding 0 2 3 (0 ∷ 1 ∷ 2 ∷ []) (0 ∷ 1 ∷ 2 ∷ []) (0 ∷ 1 ∷ 2 ∷ [])
-    -- M5, M6, M7; after M6 the sheet of 01's example list: `WAVES 2`, `A 0 2`, `B 1 3`
+    -- M5, M6, M7; after M6 the sheet of 01's example list: `WAVES 2`, `A 0 2`, `B 1 3`, `TOTAL 4 4`
     ∷ given 4 ((0, 1) ∷ (1, 2) ∷ (2, 3) ∷ []) 2 (1 ∷ 0 ∷ 1 ∷ 0 ∷ [])
     ∷ then Adding 0 3 2 (0 ∷ 1 ∷ 0 ∷ 1 ∷ []) (0 ∷ 1 ∷ 2 ∷ 3 ∷ []) (0 ∷ 1 ∷ 2 ∷ 3 ∷ [])
-    ∷ shown (87 ∷ 65 ∷ 86 ∷ 69 ∷ 83 ∷ 32 ∷ 50 ∷ 10 ∷ 65 ∷ 32 ∷ 48 ∷ 32 ∷ 50 ∷ 10 ∷ 66 ∷ 32 ∷ 49 ∷ 32 ∷ 51 ∷ 10 ∷ [])
+    ∷ shown
+    (87 ∷ 65 ∷ 86 ∷ 69 ∷ 83 ∷ 32 ∷ 50 ∷ 10
+    ∷ 65 ∷ 32 ∷ 48 ∷ 32 ∷ 50 ∷ 10
+    ∷ 66 ∷ 32 ∷ 49 ∷ 32 ∷ 51 ∷ 10
+    ∷ 84 ∷ 79 ∷ 84 ∷ 65 ∷ 76 ∷ 32 ∷ 52 ∷ 32 ∷ 52 ∷ 10 ∷ [])
     ∷ then Striking 0 3 2 (1 ∷ 0 ∷ 1 ∷ 0 ∷ []) (1 ∷ 2 ∷ 0 ∷ 3 ∷ []) (1 ∷ 2 ∷ 0 ∷ 3 ∷ [])
     -- M8, M9
     ∷ given 6 ((0, 4) ∷ (0, 2) ∷ (2, 3) ∷ (1, 3) ∷ (1, 5) ∷ (2, 5) ∷ []) 2 (1 ∷ 0 ∷ 0 ∷ 1 ∷ 0 ∷ 1 ∷ [])
@@ -75,5 +81,5 @@ cases =
 pub examples-hold : T (allRight cases (empty 0))
 unfolding same clashes after right allRight cases upto filter some memb insertBy sortBy tieBy earlierBy neighbours degree earlier later
     earlierNeighbours order pair lowestFrom lowestFree waveIn wave waves waveCount edited changed isNamed isTurned isReached onTrail trail moved
-    letters banksOf linesOf joined decimalIn decimal bankText lineText headText sheet
+    clashCount letters banksOf linesOf joined decimalIn decimal footText bankText lineText headText lastText sheetOf sheet
 examples-hold = tt

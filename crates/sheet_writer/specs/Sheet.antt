@@ -1,11 +1,13 @@
 -- The sheet of a plan (01, "The sheet"): the text of its lines.
 use mathlib.Core.List.{List, [], _∷_, _++_, map}
 use Prim.Native.Nat.{ℕ}
+use lib.ListN.{length}
 use Rattle.rule.specs.Graph.{Graph}
-use Rattle.rule.specs.Wave.{waveCount}
+use Rattle.memory.specs.Plan.{clashCount}
 use Rattle.text.specs.Text.{joined}
 use Rattle.text.specs.Numbers.{decimal}
 use Rattle.wave_lines.specs.Lines.{Line, linesOf}
+use Rattle.wave_lines.specs.Foot.{footText}
 
 -- a bank, with one space before it
 unfoldable pub bankText : ℕ → List ℕ
@@ -19,6 +21,14 @@ lineText l = l .letter ∷ (joined (map bankText (l .banks)) ++ (10 ∷ []))
 unfoldable pub headText : ℕ → List ℕ
 headText k = (87 ∷ 65 ∷ 86 ∷ 69 ∷ 83 ∷ 32 ∷ []) ++ (decimal k ++ (10 ∷ []))
 
--- the sheet: first `WAVES k`, then the lines
+-- the last line: the foot, `TOTAL n m`
+unfoldable pub lastText : ℕ → ℕ → List ℕ
+lastText n m = footText n m ++ (10 ∷ [])
+
+-- the sheet of these waves, whichever they are: first `WAVES k`, then their lines, last `TOTAL n m`
+unfoldable pub sheetOf : List Line → ℕ → ℕ → List ℕ
+sheetOf lines n m = headText (length lines) ++ (joined (map lineText lines) ++ lastText n m)
+
+-- the sheet of a plan
 unfoldable pub sheet : Graph → List ℕ
-sheet G = headText (waveCount G) ++ joined (map lineText (linesOf G))
+sheet G = sheetOf (linesOf G) (G .banks) (clashCount G)

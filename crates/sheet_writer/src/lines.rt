@@ -1,14 +1,16 @@
 // The lines of a sheet. Each function writes at `at` and answers the place after what it wrote.
+use memory::Tally;
 use rule::Bank;
 use rule::Wave;
 use text::put_byte;
 use text::put_number;
 use text::put_text;
 use wave_lines::letter;
+use wave_lines::put_foot;
 ghost use Prim.Native.Nat.{_≤_, _<_};
 ghost use lib.ListN.{length};
 ghost use Rattle.text.specs.Places.{Room, Wrote};
-ghost use Rattle.sheet_writer.specs.Sheet.{headText};
+ghost use Rattle.sheet_writer.specs.Sheet.{headText, lastText};
 ghost use Rattle.sheet_writer.specs.inner.Cells.{memberText, membersText, sheetWave, sheetWaves};
 
 // Bank b, whose wave is w, if it stands on the line of wave c.
@@ -60,6 +62,15 @@ pub fn put_lines(out: &mut [u8], at: usize, waves: &[u16], n: u16, k: u16) -> us
         c += 1;
     }
     next
+}
+
+// The last line.
+pub fn put_last(out: &mut [u8], at: usize, tally: Tally) -> usize
+    requires { ⌜ Room (lastText (tally .banks) (tally .clashes)) at out ⌝ }
+    ensures { λ r. ⌜ Wrote (lastText (tally .banks) (tally .clashes)) at out r ⌝ }
+{
+    let next = put_foot(out, at, tally);
+    put_byte(out, next, b'\n')
 }
 
 // The first line, at the front.

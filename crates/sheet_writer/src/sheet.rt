@@ -1,10 +1,12 @@
 // Writing the sheet of a plan.
 use crate::lines::put_head;
+use crate::lines::put_last;
 use crate::lines::put_lines;
 use memory::Tally;
 use planner::check_plan;
 use rule::wide;
 use wave_lines::Written;
+use wave_lines::foot_length;
 ghost use mathlib.Core.Path.{_≡_};
 ghost use mathlib.Core.List.{map};
 ghost use Prim.Native.Nat.{_+_, _*_, _≤_};
@@ -16,8 +18,8 @@ ghost use Rattle.wave_lines.specs.Calls.{textResult};
 ghost use Rattle.sheet_writer.specs.Sheet.{bankText, headText};
 ghost use Rattle.sheet_writer.specs.Calls.{writeSheet};
 
-// The bytes of the longest sheet, that of 1,024 banks in 24 waves: 9 of `WAVES 24`, 2 for each line, and 4,010 of the banks.
-pub const LONGEST_SHEET: usize = 4067;
+// The bytes of the longest sheet, that of 1,024 banks in 24 waves: 9 of `WAVES 24`, 2 for each line, 4,010 of the banks, and 17 of `TOTAL 1024 10000`.
+pub const LONGEST_SHEET: usize = 4084;
 
 // The bytes of the banks on their lines, each with its space.
 fn banks_length(banks: u16) -> usize
@@ -37,10 +39,10 @@ fn banks_length(banks: u16) -> usize
     5 * n - 1110
 }
 
-// The bytes of the sheet of n banks in k waves: each bank stands on it once, on whichever line.
-fn sheet_length(n: u16, k: u16) -> usize
+// The bytes of the sheet of n banks in k waves, before its foot: each bank stands on it once, on whichever line.
+fn waves_length(n: u16, k: u16) -> usize
     requires { ⌜ (n ≤ 1024) × (k ≤ 24) ⌝ }
-    ensures { λ r. ⌜ r ≡ length (headText k) + (2 * k + length (joined (map bankText (upto n)))) ⌝ }
+    ensures { λ r. ⌜ (r ≡ length (headText k) + (2 * k + length (joined (map bankText (upto n))))) × (r ≤ 4067) ⌝ }
 {
     let lines = 2 * wide(k) + banks_length(n);
     if k < 10 {
@@ -74,7 +76,8 @@ pub fn write_sheet(
     }
     let n = tally.banks;
     let k = tally.waves;
-    let length = sheet_length(n, k);
+    let before = waves_length(n, k);
+    let length = before + foot_length(tally) + 1;
     if out.len() < length {
         return Written {
             number: 12,
@@ -82,7 +85,8 @@ pub fn write_sheet(
         };
     }
     let next = put_head(out, k);
-    put_lines(out, next, waves, n, k);
+    let foot = put_lines(out, next, waves, n, k);
+    put_last(out, foot, tally);
     Written {
         number: 0,
         length: length,

@@ -4,4 +4,5 @@ pub mod Shown
 pub mod Plans
 pub mod Members
 pub mod Writing
+pub mod Totals
 pub mod Theorems

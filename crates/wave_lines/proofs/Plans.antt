@@ -2,7 +2,7 @@
 use mathlib.Core.Bool.{Bool, _&&_}
 use mathlib.Core.List.{List, [], _∷_, map, foldr, map-congr-left}
 use mathlib.Core.Path.{_≡_, refl, sym, ap, _∙_}
-use Prim.Native.Nat.{ℕ, suc, _≤_, _<_, max}
+use Prim.Native.Nat.{ℕ, suc, _+_, _*_, _≤_, _<_, max}
 use native.Mathlib.Nat.{max-le}
 use native.Mathlib.Omega.{arith}
 use lib.Dec.{T, eqb}
@@ -15,7 +15,7 @@ use Rattle.rule.proofs.Lists.{in-head, in-tail, upto-below, length-upto, filter
 use Rattle.rule.proofs.Theorems.{wave-le}
 use Rattle.memory.specs.declared.Tally.{Tally}
 use Rattle.memory.specs.Cells.{over}
-use Rattle.memory.specs.Plan.{Slices, planIn, tallyOf, Clashes, PlanOf}
+use Rattle.memory.specs.Plan.{Slices, clashCount, planIn, tallyOf, Clashes, PlanOf}
 use Rattle.memory.proofs.Fronts.{getD-map, getD-upto}
 use Rattle.memory.proofs.Theorems.{long}
 use Rattle.wave_lines.specs.Lines.{letters, Line, banksOf, lineOf, linesOf}
@@ -41,6 +41,15 @@ module _ (G : Graph) (clashes : Clashes G) where
   unfolding waveCount
   few-waves = few-in (upto (G .banks)) (upto-below (G .banks))
 
+  -- nor more than 11,776 clashes: 23 at each of 1,024 banks, each counted at two
+  clashes-in : (bs : List ℕ) → ((b : ℕ) → T (memb b bs) → b < G .banks) → foldr (λ b m. degree G b + m) 0 bs ≤ 23 * length bs
+  clashes-in [] h = omega arith
+  clashes-in (b ∷ bs) h = omega (arith, clashes .few b (h b (in-head b b bs refl)), clashes-in bs (λ x m. h x (in-tail x b bs m)))
+
+  pub few-clashes : clashCount G ≤ 11776
+  unfolding clashCount
+  few-clashes = omega (arith, clashes-in (upto (G .banks)) (upto-below (G .banks)), length-upto (G .banks), clashes .most)
+
 -- memory that holds the plan of G
 module _ (G : Graph) (s : Slices) (t : Tally) (p : PlanOf G s t) where
   pub plan-banks : t .banks ≡ G .banks
@@ -50,6 +59,10 @@ module _ (G : Graph) (s : Slices) (t : Tally) (p : PlanOf G s t) where
   pub plan-count : t .waves ≡ waveCount G
   unfolding tallyOf
   plan-count = ap (λ (u : Tally). u .waves) (p .tally)
+
+  pub plan-clashes : t .clashes ≡ clashCount G
+  unfolding tallyOf
+  plan-clashes = ap (λ (u : Tally). u .clashes) (p .tally)
 
   pub plan-room : t .banks ≤ length (s .waves)
   plan-room = rw plan-banks (long (G .banks) s (p .long) .waves)

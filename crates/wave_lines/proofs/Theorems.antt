@@ -9,11 +9,13 @@ use Rattle.rule.specs.Lists.{memb, Sorted}
 use Rattle.rule.specs.Graph.{Graph}
 use Rattle.rule.specs.Wave.{wave, waveCount}
 use Rattle.memory.specs.declared.Tally.{Tally}
-use Rattle.memory.specs.Plan.{Slices, Clashes, PlanOf}
+use Rattle.memory.specs.Plan.{Slices, clashCount, Clashes, PlanOf}
 use Rattle.wave_lines.specs.Lines.{letters, Line, lineOf, linesOf, banksShown, times}
+use Rattle.wave_lines.specs.Foot.{footText, totalsOf, totalsOn}
 use Rattle.wave_lines.specs.Calls.{writeText}
 use Rattle.wave_lines.proofs.Letters
 use Rattle.wave_lines.proofs.Shown
+use Rattle.wave_lines.proofs.Totals
 use Rattle.wave_lines.proofs.Plans
 use Rattle.wave_lines.proofs.Writing
 
@@ -26,7 +28,7 @@ pub letters-differ : (c d : ℕ) → c < 24 → d < 24 → getD letters c 0 ≡ 
 letters-differ = Letters.letters-differ
 
 module _ (G : Graph) where
-  -- 2. there are k lines, and line c is that of wave c; no plan has more than 24
+  -- 2. there are k lines, and line c is that of wave c; no plan has more than 24, nor more than 11,776 clashes
   pub count-lines : length (linesOf G) ≡ waveCount G
   count-lines = Shown.count-lines G
 
@@ -36,9 +38,15 @@ module _ (G : Graph) where
   pub few-waves : Clashes G → waveCount G ≤ 24
   few-waves = Plans.few-waves G
 
-  -- 3. every bank stands on the lines exactly once, and no other number does
+  pub few-clashes : Clashes G → clashCount G ≤ 11776
+  few-clashes = Plans.few-clashes G
+
+  -- 3. every bank stands on the lines exactly once, and no other number does; so as many stand there as the plan has
   pub bank-once : (b : ℕ) → times b (banksShown G) ≡ cond (ltb b (G .banks)) 1 0
   bank-once = Shown.bank-once G
+
+  pub shown-count : length (banksShown G) ≡ G .banks
+  shown-count = Shown.shown-count G
 
   -- 4. it stands on the line of its rule wave; a line's banks ascend; no line is without one
   pub on-line : (b c : ℕ) → memb b (lineOf G c .banks) ≡ (ltb b (G .banks) && eqb (wave G b) c)
@@ -58,3 +66,7 @@ one-lines = Plans.one-lines
 pub written-within : (text : Graph → List ℕ) (s : Slices) (t : Tally) (out : List ℕ)
     → writeText text s t out .answer .length ≤ length (writeText text s t out .out)
 written-within = Writing.written-within
+
+-- 7. reading a foot gives the numbers that were put on it
+pub totals-on : (n m : ℕ) → totalsOn (footText n m) ≡ totalsOf n m
+totals-on = Totals.totals-on

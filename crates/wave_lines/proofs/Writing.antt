@@ -132,8 +132,19 @@ never-short text most fits one G s t out held room =
     let H = graphIn (t .banks) s in
     text-fits text s t out (sym checked) (omega (arith, fits H (plan .clashes))) (text G) (one G H s t held plan)
 
--- what is written where no refusal is due
+-- what is written where no refusal is due: memory holds a plan, and the text is that plan's
 module _ (text : Graph → List ℕ) (s : Slices) (t : Tally) (out : List ℕ) where
+  plan-by : (c : ℕ) → textNumber (text (graphIn (t .banks) s)) s t out ≡ c → textBy c (text (graphIn (t .banks) s)) out .answer .number ≡ 0
+      → PlanOf (graphIn (t .banks) s) s t
+  unfolding textBy textNumber planNumber
+  plan-by zero e z =
+      number-plan s t (passed (few text s t out) (long text s t out) (held text s t out) (room text s t out) e)
+  plan-by (suc c) e z = absurd (omega (arith, z))
+
+  pub written-plan : writeText text s t out .answer .number ≡ 0 → PlanOf (graphIn (t .banks) s) s t
+  unfolding writeText
+  written-plan z = plan-by (textNumber (text (graphIn (t .banks) s)) s t out) refl z
+
   front-by : (c : ℕ) → textBy c (text (graphIn (t .banks) s)) out .answer .number ≡ 0
       → writtenBytes (textBy c (text (graphIn (t .banks) s)) out) ≡ text (graphIn (t .banks) s)
   unfolding textBy over

@@ -1,4 +1,5 @@
--- What a reader must believe of a plan's lines and of a text of them: Lines, Calls. inner serves the functions.
+-- What a reader must believe of a plan's lines, their foot and a text of them: Lines, Foot, Calls. inner serves the functions.
 pub mod Lines
+pub mod Foot
 pub mod Calls
 pub mod inner

@@ -1,4 +1,8 @@
-// The waves of a plan as lines, for every text of them: the wave letters, and the answer of a call that writes such a text.
+// The waves of a plan as lines, for every text of them: the wave letters, the foot, and the answer of a call that writes such a text.
+mod foot;
+
+pub use foot::foot_length;
+pub use foot::put_foot;
 ghost use mathlib.Core.Path.{_≡_};
 ghost use Prim.Native.Nat.{_<_};
 ghost use lib.ListN.{getD};

@@ -2,19 +2,21 @@
 
 use crate::graph::{number_of_waves, Bank, Wave};
 use crate::memory::Memory;
-use crate::sheet::{printed, TextAnswer, LETTERS};
+use crate::sheet::{foot, printed, TextAnswer, LETTERS};
 
 /// The most banks of a line, and the lines of a page.
 const LINE_BANKS: usize = 7;
 const PAGE_LINES: usize = 50;
 
-/// The poster of the waves by bank number: pages of 50 lines of 40 characters and a line feed.
-pub fn poster_text(waves: &[Wave]) -> String {
+/// The poster of the waves by bank number and the number of clashes: pages of 50 lines of 40
+/// characters and a line feed. The foot is the line after the last wave's last one.
+pub fn poster_text(waves: &[Wave], clashes: usize) -> String {
     let k = number_of_waves(waves);
     let lines = LETTERS.chars().take(k).enumerate();
     let mut lines: Vec<String> = lines
         .flat_map(|(w, letter)| wave_lines(letter, w, waves))
         .collect();
+    lines.push(foot(waves, clashes));
     while lines.len() % PAGE_LINES != 0 {
         lines.push(String::new());
     }

@@ -8,8 +8,8 @@ use crate::refusals::*;
 /// The wave letters: A to Z without I and O.
 pub const LETTERS: &str = "ABCDEFGHJKLMNPQRSTUVWXYZ";
 
-/// A text made of the waves by bank number.
-pub(crate) type Text = fn(&[Wave]) -> String;
+/// A text made of the waves by bank number and the number of clashes.
+pub(crate) type Text = fn(&[Wave], usize) -> String;
 
 /// The answer to a call that writes a text: the number and the text's length.
 #[derive(Clone, Copy, Debug, PartialEq, Eq)]
@@ -18,14 +18,19 @@ pub struct TextAnswer {
     pub length: usize,
 }
 
-/// The sheet of the waves by bank number.
-pub fn sheet_text(waves: &[Wave]) -> String {
+/// The sheet of the waves by bank number and the number of clashes.
+pub fn sheet_text(waves: &[Wave], clashes: usize) -> String {
     let k = number_of_waves(waves);
     let lines = LETTERS.chars().take(k).enumerate();
     let lines: String = lines
         .map(|(w, letter)| wave_line(letter, w, waves))
         .collect();
-    format!("WAVES {k}\n{lines}")
+    format!("WAVES {k}\n{lines}{}\n", foot(waves, clashes))
+}
+
+/// The foot, without its line feed: the banks and the clashes.
+pub(crate) fn foot(waves: &[Wave], clashes: usize) -> String {
+    format!("TOTAL {} {clashes}", waves.len())
 }
 
 /// The line of wave w: its letter and its banks ascending, one space before each.
@@ -58,7 +63,7 @@ impl Memory {
     /// All questions of a call that writes a text. The answer is the text.
     fn text_questions(&self, text: Text, space: usize) -> Result<String, u16> {
         let graph = self.plan_questions()?;
-        let text = text(&graph.waves());
+        let text = text(&graph.waves(), graph.clashes());
         ask(text.len() <= space, OUTPUT_TOO_SHORT)?;
         Ok(text)
     }
@@ -77,5 +82,5 @@ pub(crate) fn printed(text: Text, list: &[u8]) -> Vec<u8> {
         return format!("REFUSED {} ROW {}\n", read.number, read.row).into_bytes();
     }
     let graph = memory.held_graph().expect("an accepted list leaves a plan");
-    text(&graph.waves()).into_bytes()
+    text(&graph.waves(), graph.clashes()).into_bytes()
 }

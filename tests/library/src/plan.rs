@@ -30,8 +30,8 @@ pub struct Edit {
 pub(crate) const MAX_BANKS: u16 = 1024;
 
 /// The bytes of the longest sheet: 9 for its first line, 2 for each of 24 waves, 4,010 for 1,024
-/// banks.
-const SHEET_BYTES: usize = 4067;
+/// banks, 17 for its foot.
+const SHEET_BYTES: usize = 4084;
 
 /// The most bytes of a journal, and the bytes of the field of one edit.
 const JOURNAL_BYTES: usize = 60_000;

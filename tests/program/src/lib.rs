@@ -1,15 +1,15 @@
 //! Runs the programs *sheet* and *poster* on a list and judges what they print.
 //!
 //! - `run`: starts a program.
-//! - `read_back`: reads the waves off a printed sheet or poster and holds them against the rule,
-//!   bank by bank, without the model.
+//! - `read_back`: reads the waves and the foot off a printed sheet or poster and holds them against
+//!   the rule and the list, without the model.
 
 pub mod read_back;
 pub mod run;
 
 use independent::{poster, sheet};
 
-/// The program *sheet* prints for this list what the model does; a sheet also follows the rule.
+/// The program *sheet* prints for this list what the model does; a sheet also follows the rule and adds up.
 pub fn agrees_with_model(list: &[u8]) {
     let printed = run::sheet_program(list);
     same(list, &printed, &sheet::program_output(list));
@@ -18,7 +18,7 @@ pub fn agrees_with_model(list: &[u8]) {
     }
 }
 
-/// The program *poster* prints for this list what the model does; a poster also follows the rule.
+/// The program *poster* prints for this list what the model does; a poster also follows the rule and adds up.
 pub fn poster_agrees_with_model(list: &[u8]) {
     let printed = run::poster_program(list);
     same(list, &printed, &poster::program_output(list));

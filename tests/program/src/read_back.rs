@@ -1,30 +1,34 @@
-//! Reads the waves off a printed sheet or poster and holds them against the rule, bank by bank. The
-//! clashes and the ranks come straight from the rows of the accepted list; nothing of the model is
-//! used.
+//! Reads the waves and the foot off a printed sheet or poster and holds the waves against the rule,
+//! bank by bank, and the foot against what stands above it and the clashes. The clashes and the ranks
+//! come straight from the rows of the accepted list; nothing of the model is used.
 
 use std::collections::BTreeSet;
 
 const LETTERS: &[u8; 24] = b"ABCDEFGHJKLMNPQRSTUVWXYZ";
 
-/// The sheet printed for an accepted list shows the rule wave of each bank.
+/// The sheet printed for an accepted list shows the rule wave of each bank, and its foot adds up.
 pub fn sheet_follows_rule(list: &[u8], sheet: &[u8]) {
-    follows_rule(list, &lines_of_sheet(text(sheet)));
+    let (banks, foot) = lines_of_sheet(text(sheet));
+    follows_rule(list, &banks, foot);
 }
 
-/// The poster printed for an accepted list shows the rule wave of each bank.
+/// The poster printed for an accepted list shows the rule wave of each bank, and its foot adds up.
 pub fn poster_follows_rule(list: &[u8], poster: &[u8]) {
-    follows_rule(list, &lines_of_poster(text(poster)));
+    let (banks, foot) = lines_of_poster(text(poster));
+    follows_rule(list, &banks, foot);
 }
 
 /// The waves by bank number that the sheet of n banks shows.
 pub fn waves_on_sheet(sheet: &[u8], n: usize) -> Vec<usize> {
-    waves_of(&lines_of_sheet(text(sheet)), n)
+    waves_of(&lines_of_sheet(text(sheet)).0, n)
 }
 
-/// The banks by wave are the rule's.
-fn follows_rule(list: &[u8], banks: &[Vec<usize>]) {
+/// The banks by wave are the rule's, and the foot counts banks and clashes.
+fn follows_rule(list: &[u8], banks: &[Vec<usize>], foot: &str) {
     let Depot { ranks, clashes } = depot_of(text(list));
     let n = ranks.len();
+    let shown: usize = banks.iter().map(Vec::len).sum();
+    assert_eq!(foot, format!("TOTAL {shown} {}", clashes.len()));
     let waves = waves_of(banks, n);
     let near: Vec<BTreeSet<usize>> = (0..n).map(|b| near(b, &clashes)).collect();
     for b in 0..n {
@@ -105,30 +109,35 @@ fn waves_of(banks: &[Vec<usize>], n: usize) -> Vec<usize> {
         .collect()
 }
 
-/// The banks by wave that a sheet shows. Checks its form: one space before each bank, a line for
-/// each wave.
-fn lines_of_sheet(sheet: &str) -> Vec<Vec<usize>> {
+/// The banks by wave that a sheet shows, and its foot. Checks its form: one space before each bank, a
+/// line for each wave.
+fn lines_of_sheet(sheet: &str) -> (Vec<Vec<usize>>, &str) {
     assert!(sheet.ends_with('\n'));
     let lines: Vec<&str> = sheet.split_terminator('\n').collect();
-    assert_eq!(lines[0], format!("WAVES {}", lines.len() - 1));
-    let lines = lines[1..].iter().zip(LETTERS);
-    lines
-        .map(|(line, &letter)| banks_on(line, letter))
-        .collect()
+    let last = lines.len() - 1;
+    assert_eq!(lines[0], format!("WAVES {}", last - 1));
+    let waves = lines[1..last].iter().zip(LETTERS);
+    let waves = waves.map(|(line, &letter)| banks_on(line, letter));
+    (waves.collect(), lines[last])
 }
 
-/// The banks by wave that a poster shows. Checks its form: pages of 50 lines of 40 characters, each
-/// with a letter or a space, a space, up to seven banks right-aligned in five columns and spaces.
-fn lines_of_poster(poster: &str) -> Vec<Vec<usize>> {
+/// The banks by wave that a poster shows, and its foot. Checks its form: pages of 50 lines of 40
+/// characters; above the foot each has a letter or a space, a space, up to seven banks right-aligned
+/// in five columns and spaces; below it fewer than 50 of spaces alone.
+fn lines_of_poster(poster: &str) -> (Vec<Vec<usize>>, &str) {
     assert_eq!(poster.len() % (50 * 41), 0, "whole pages");
     let lines: Vec<&str> = poster.split_terminator('\n').collect();
     assert_eq!(41 * lines.len(), poster.len());
+    assert!(lines.iter().all(|line| line.len() == 40));
+    let foot = lines.iter().position(|line| line.starts_with("TOTAL "));
+    let foot = foot.expect("a foot");
+    let blank = &lines[foot + 1..];
+    assert!(blank.len() < 50, "a page too many");
+    assert!(blank.iter().all(|line| line.trim_end().is_empty()));
     let mut waves: Vec<Vec<usize>> = Vec::new();
-    let mut blank = 0;
-    for line in lines {
-        assert_eq!(line.len(), 40);
+    for line in &lines[..foot] {
         let banks = columns(line);
-        blank = if banks.is_empty() { blank + 1 } else { 0 };
+        assert!(!banks.is_empty(), "a line without a bank");
         match line.as_bytes()[0] {
             b' ' => waves.last_mut().expect("a wave before it").extend(banks),
             letter => {
@@ -137,8 +146,7 @@ fn lines_of_poster(poster: &str) -> Vec<Vec<usize>> {
             }
         }
     }
-    assert!(blank < 50, "a page without a bank");
-    waves
+    (waves, lines[foot].trim_end())
 }
 
 /// The banks in the columns of a poster's line. Only the last ones may be empty.

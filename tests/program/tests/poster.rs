@@ -24,20 +24,23 @@ fn one_wave_of_any_size() {
     for n in 0..=1024 {
         let list = list(n, 0);
         poster_agrees_with_model(&list);
-        assert_eq!(lines(&run::poster_program(&list)), (n + 6) / 7);
+        assert_eq!(lines(&run::poster_program(&list)), (n + 6) / 7 + 1);
     }
 }
 
-/// No bank, no page; nine banks of which 0 and 8 clash.
+/// No bank, and the foot on its page; nine banks of which 0 and 8 clash.
 #[test]
-fn no_page_and_one() {
-    assert_eq!(run::poster_program(b"N 0"), b"");
+fn pages_of_no_bank_and_of_nine() {
+    let page = run::poster_program(b"N 0");
+    assert_eq!(page[..10], *b"TOTAL 0 0 ");
+    assert_eq!((page.len(), lines(&page)), (2050, 1));
     poster_agrees_with_model(b"N 9\n+ 0 8");
     let page = run::poster_program(b"N 9\n+ 0 8");
     assert_eq!(page[..8], *b"A     0 ");
     assert_eq!(page[41..49], *b"      7 ");
     assert_eq!(page[82..90], *b"B     8 ");
-    assert_eq!((page.len(), lines(&page)), (2050, 3));
+    assert_eq!(page[123..133], *b"TOTAL 9 1 ");
+    assert_eq!((page.len(), lines(&page)), (2050, 4));
 }
 
 /// 24 waves: of one bank each, and with a first wave of up to 1,001 banks.
@@ -59,17 +62,17 @@ fn waves_of_few_banks_and_of_many() {
         }
     }
     let longest = run::poster_program(&list(1024, 24));
-    assert_eq!((longest.len(), lines(&longest)), (8200, 166));
+    assert_eq!((longest.len(), lines(&longest)), (8200, 167));
 }
 
-/// Lists whose waves take exactly 50 and 51 lines.
+/// Lists whose waves and foot take exactly 50 and 51 lines.
 #[test]
 fn a_full_page_and_a_line_more() {
     let lists = [
-        (350, 1, 50, 1),
-        (351, 1, 51, 2),
-        (212, 24, 50, 1),
-        (213, 24, 51, 2),
+        (343, 1, 50, 1),
+        (344, 1, 51, 2),
+        (205, 24, 50, 1),
+        (206, 24, 51, 2),
     ];
     for (n, clique, count, pages) in lists {
         let list = list(n, clique);

@@ -36,8 +36,8 @@ pub fn edges() -> Vec<Case> {
 /// The paper's list example and M1 to M9.
 fn marked_examples() -> Vec<Case> {
     let square = "N 4\n+ 0 1\n+ 1 2\n+ 2 3\n+ 0 3";
-    let square_sheet = "WAVES 2\nA 0 2\nB 1 3\n";
-    let path_sheet = "WAVES 2\nA 1 3\nB 0 2\n";
+    let square_sheet = "WAVES 2\nA 0 2\nB 1 3\nTOTAL 4 4\n";
+    let path_sheet = "WAVES 2\nA 1 3\nB 0 2\nTOTAL 4 3\n";
     let m8 = "N 6\n+ 0 4\n+ 0 2\n+ 2 3\n+ 1 3\n+ 1 5\n+ 2 5";
     vec![
         case("example", square, square_sheet),
@@ -46,19 +46,27 @@ fn marked_examples() -> Vec<Case> {
             format!("{square}\n"),
             square_sheet,
         ),
-        case("M1", "N 0", "WAVES 0\n"),
-        case("M1 with a last line feed", "N 0\n", "WAVES 0\n"),
-        case("M2", "N 3\n+ 1 2\n", "WAVES 2\nA 0 1\nB 2\n"),
-        case("M3", "N 3\n+ 1 2\n+ 0 1", "WAVES 2\nA 1\nB 0 2\n"),
-        case("M4", "N 3\n+ 1 2\n+ 0 1\n+ 0 2", "WAVES 3\nA 0\nB 1\nC 2\n"),
+        case("M1", "N 0", "WAVES 0\nTOTAL 0 0\n"),
+        case("M1 with a last line feed", "N 0\n", "WAVES 0\nTOTAL 0 0\n"),
+        case("M2", "N 3\n+ 1 2\n", "WAVES 2\nA 0 1\nB 2\nTOTAL 3 1\n"),
+        case(
+            "M3",
+            "N 3\n+ 1 2\n+ 0 1",
+            "WAVES 2\nA 1\nB 0 2\nTOTAL 3 2\n",
+        ),
+        case(
+            "M4",
+            "N 3\n+ 1 2\n+ 0 1\n+ 0 2",
+            "WAVES 3\nA 0\nB 1\nC 2\nTOTAL 3 3\n",
+        ),
         case("M5", "N 4\n+ 0 1\n+ 1 2\n+ 2 3\n", path_sheet),
         case("M6", square, square_sheet),
         case("M7", format!("{square}\n- 0 3"), path_sheet),
-        case("M8", m8, "WAVES 2\nA 1 2 4\nB 0 3 5\n"),
+        case("M8", m8, "WAVES 2\nA 1 2 4\nB 0 3 5\nTOTAL 6 6\n"),
         case(
             "M9",
             format!("{m8}\n- 2 5\n"),
-            "WAVES 3\nA 0 1\nB 2 4 5\nC 3\n",
+            "WAVES 3\nA 0 1\nB 2 4 5\nC 3\nTOTAL 6 5\n",
         ),
     ]
 }
@@ -66,12 +74,16 @@ fn marked_examples() -> Vec<Case> {
 fn row_1_edges() -> Vec<Case> {
     let all_banks: String = (0..1024).map(|b| format!(" {b}")).collect();
     vec![
-        case("1,024 banks", "N 1024", format!("WAVES 1\nA{all_banks}\n")),
-        case("one bank", "N 1", "WAVES 1\nA 0\n"),
+        case(
+            "1,024 banks",
+            "N 1024",
+            format!("WAVES 1\nA{all_banks}\nTOTAL 1024 0\n"),
+        ),
+        case("one bank", "N 1", "WAVES 1\nA 0\nTOTAL 1 0\n"),
         refused("1,025 banks", "N 1025", 1, 1),
         refused("9,999 banks and nonsense", "N 9999\n?", 1, 1),
         refused("10,000 banks", "N 10000", 10, 1),
-        case("padded bank count", "N 0001", "WAVES 1\nA 0\n"),
+        case("padded bank count", "N 0001", "WAVES 1\nA 0\nTOTAL 1 0\n"),
         refused("bank count padded to five digits", "N 00004", 10, 1),
         refused("empty list", "", 10, 1),
         refused("a lone line feed", "\n", 10, 1),
@@ -85,12 +97,12 @@ fn later_row_edges() -> Vec<Case> {
         case(
             "a leading zero",
             "N 9\n+ 05 1",
-            "WAVES 2\nA 0 1 2 3 4 6 7 8\nB 5\n",
+            "WAVES 2\nA 0 1 2 3 4 6 7 8\nB 5\nTOTAL 9 1\n",
         ),
         case(
             "padded to four digits",
             "N 0002\n+ 0000 0001",
-            "WAVES 2\nA 0\nB 1\n",
+            "WAVES 2\nA 0\nB 1\nTOTAL 2 1\n",
         ),
         refused("padded to five digits", "N 9\n+ 00005 1", 11, 2),
         refused("padded, and not there", "N 9\n+ 0009 0001", 4, 2),
@@ -120,11 +132,15 @@ fn later_row_edges() -> Vec<Case> {
             11,
             3,
         ),
-        case("D without clashes", "N 3\nD 1\n", "WAVES 1\nA 0 1 2\n"),
+        case(
+            "D without clashes",
+            "N 3\nD 1\n",
+            "WAVES 1\nA 0 1 2\nTOTAL 3 0\n",
+        ),
         case(
             "D and new clashes",
             "N 4\n+ 0 1\n+ 0 2\n+ 0 3\n+ 1 2\nD 0\n+ 0 3",
-            "WAVES 2\nA 0 1\nB 2 3\n",
+            "WAVES 2\nA 0 1\nB 2 3\nTOTAL 4 2\n",
         ),
     ]
 }
@@ -132,22 +148,22 @@ fn later_row_edges() -> Vec<Case> {
 /// Sheets of lists with K rows.
 fn rank_edges() -> Vec<Case> {
     let path = "+ 0 1\n+ 1 2\n+ 2 3";
-    let later_one_first = "WAVES 2\nA 0 2\nB 1 3\n";
+    let later_one_first = "WAVES 2\nA 0 2\nB 1 3\nTOTAL 4 3\n";
     vec![
         case(
             "a tie that rank decides against number",
             "N 2\nK 0 1\n+ 0 1",
-            "WAVES 2\nA 1\nB 0\n",
+            "WAVES 2\nA 1\nB 0\nTOTAL 2 1\n",
         ),
         case(
             "equal ranks go by number",
             "N 2\nK 1 7\nK 0 7\n+ 0 1",
-            "WAVES 2\nA 0\nB 1\n",
+            "WAVES 2\nA 0\nB 1\nTOTAL 2 1\n",
         ),
         case(
             "degree goes before rank",
             "N 3\nK 1 9999\n+ 0 1\n+ 1 2\n",
-            "WAVES 2\nA 1\nB 0 2\n",
+            "WAVES 2\nA 1\nB 0 2\nTOTAL 3 2\n",
         ),
         case(
             "M5 with the second bank of the path later",
@@ -162,42 +178,42 @@ fn rank_edges() -> Vec<Case> {
         case(
             "the last rank of a bank counts",
             "N 2\nK 0 0\nK 1 3\nK 0 5\n+ 0 1",
-            "WAVES 2\nA 1\nB 0\n",
+            "WAVES 2\nA 1\nB 0\nTOTAL 2 1\n",
         ),
         case(
             "and not the largest",
             "N 2\nK 0 5\nK 1 3\nK 0 0\n+ 0 1",
-            "WAVES 2\nA 0\nB 1\n",
+            "WAVES 2\nA 0\nB 1\nTOTAL 2 1\n",
         ),
         case(
             "9,998 is before 9,999",
             "N 2\nK 0 9999\nK 1 9998\n+ 0 1",
-            "WAVES 2\nA 1\nB 0\n",
+            "WAVES 2\nA 1\nB 0\nTOTAL 2 1\n",
         ),
         case(
             "ranks of 256 and 255",
             "N 2\nK 0 256\nK 1 255\n+ 0 1",
-            "WAVES 2\nA 1\nB 0\n",
+            "WAVES 2\nA 1\nB 0\nTOTAL 2 1\n",
         ),
         case(
             "padded ranks",
             "N 0002\nK 0000 0010\nK 01 009\n+ 0 1",
-            "WAVES 2\nA 1\nB 0\n",
+            "WAVES 2\nA 1\nB 0\nTOTAL 2 1\n",
         ),
         case(
             "ranks without an edit",
             "N 3\nK 1 4\nK 0 9999\n",
-            "WAVES 1\nA 0 1 2\n",
+            "WAVES 1\nA 0 1 2\nTOTAL 3 0\n",
         ),
         case(
             "ranks stay through a strike",
             "N 2\nK 0 1\n+ 0 1\n- 0 1\n+ 1 0",
-            "WAVES 2\nA 1\nB 0\n",
+            "WAVES 2\nA 1\nB 0\nTOTAL 2 1\n",
         ),
         case(
             "ranks stay through a D row",
             "N 2\nK 0 1\n+ 0 1\nD 0\n+ 1 0",
-            "WAVES 2\nA 1\nB 0\n",
+            "WAVES 2\nA 1\nB 0\nTOTAL 2 1\n",
         ),
     ]
 }
@@ -243,7 +259,7 @@ fn degree_edges() -> Vec<Case> {
         case(
             "a 23rd clash",
             star.clone(),
-            format!("WAVES 2\nA 0 24\nB{leaves}\n"),
+            format!("WAVES 2\nA 0 24\nB{leaves}\nTOTAL 25 23\n"),
         ),
         refused("a 24th clash", format!("{star}+ 0 24"), 8, 25),
         refused("a 24th clash, named last", format!("{star}+ 24 0"), 8, 25),
@@ -256,7 +272,7 @@ fn degree_edges() -> Vec<Case> {
         case(
             "all clashes of 24 banks",
             complete.clone(),
-            format!("WAVES 24\n{lines}"),
+            format!("WAVES 24\n{lines}TOTAL 24 276\n"),
         ),
         refused(
             "one more is there already",
@@ -278,7 +294,7 @@ fn length_edges() -> Vec<Case> {
     );
     let rest: String = (4..100).map(|b| format!(" {b}")).collect();
     vec![
-        case("60,000 bytes", full.clone(), "WAVES 1\nA 0 1\n"),
+        case("60,000 bytes", full.clone(), "WAVES 1\nA 0 1\nTOTAL 2 0\n"),
         refused("60,001 bytes, the last a space", format!("{full} "), 9, 0),
         refused(
             "60,001 bytes, the last a line feed",
@@ -295,12 +311,12 @@ fn length_edges() -> Vec<Case> {
         case(
             "59,999 bytes",
             clash_last.clone(),
-            format!("WAVES 2\nA 0 1 2{rest}\nB 3\n"),
+            format!("WAVES 2\nA 0 1 2{rest}\nB 3\nTOTAL 100 1\n"),
         ),
         case(
             "and a line feed",
             clash_last + "\n",
-            format!("WAVES 2\nA 0 1 2{rest}\nB 3\n"),
+            format!("WAVES 2\nA 0 1 2{rest}\nB 3\nTOTAL 100 1\n"),
         ),
         refused("60,000 bytes that are no list", "x".repeat(60_000), 10, 1),
         refused("60,001 bytes that are no list", "x".repeat(60_001), 9, 0),

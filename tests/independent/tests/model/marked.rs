@@ -43,10 +43,10 @@ fn strike(memory: &mut Memory, a: u16, b: u16, trail: &[u16], moved: &[u16]) {
 fn m1() {
     let memory = opened(0, &[]);
     shows(&memory, &[], 0);
-    let mut output = [b'?'; 10];
+    let mut output = [b'?'; 20];
     let answer = memory.write_sheet(&mut output);
-    assert_eq!((answer.number, answer.length), (0, 8));
-    assert_eq!(&output, b"WAVES 0\n??");
+    assert_eq!((answer.number, answer.length), (0, 18));
+    assert_eq!(&output, b"WAVES 0\nTOTAL 0 0\n??");
 }
 
 #[test]

@@ -279,8 +279,14 @@ fn renumbered_depots_have_corresponding_sheets() {
 fn a_building_is_sold() {
     let before = b"N 4\nK 0 10\nK 1 20\nK 2 30\nK 3 40\n+ 0 1\n+ 1 2\n+ 2 3";
     let after = b"N 4\nK 0 10\nK 3 20\nK 1 30\nK 2 40\n+ 0 3\n+ 3 1\n+ 1 2";
-    assert_eq!(program_output(before), b"WAVES 2\nA 1 3\nB 0 2\n");
-    assert_eq!(program_output(after), b"WAVES 2\nA 2 3\nB 0 1\n");
+    assert_eq!(
+        program_output(before),
+        b"WAVES 2\nA 1 3\nB 0 2\nTOTAL 4 3\n"
+    );
+    assert_eq!(program_output(after), b"WAVES 2\nA 2 3\nB 0 1\nTOTAL 4 3\n");
     let without_ranks = b"N 4\n+ 0 3\n+ 3 1\n+ 1 2";
-    assert_eq!(program_output(without_ranks), b"WAVES 2\nA 0 1\nB 2 3\n");
+    assert_eq!(
+        program_output(without_ranks),
+        b"WAVES 2\nA 0 1\nB 2 3\nTOTAL 4 3\n"
+    );
 }

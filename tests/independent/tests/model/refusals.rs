@@ -123,7 +123,7 @@ fn short_trail_or_moved() {
         strike_refused(&memory, 0, 1, 2);
         assert_eq!(memory.wave_of(1), WaveAnswer { number: 0, wave: 1 });
         assert_eq!(memory.clashes_of(1), [0]);
-        assert_eq!(memory.write_sheet(&mut [0; 20]).number, 0);
+        assert_eq!(memory.write_sheet(&mut [0; 30]).number, 0);
         assert_eq!(memory.open(3), 0);
     }
 }

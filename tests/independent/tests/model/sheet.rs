@@ -8,7 +8,7 @@ use std::io::Write;
 use std::process::{Command, Stdio};
 
 const EXAMPLE: &[u8] = b"N 4\n+ 0 1\n+ 1 2\n+ 2 3\n+ 0 3";
-const EXAMPLE_SHEET: &[u8] = b"WAVES 2\nA 0 2\nB 1 3\n";
+const EXAMPLE_SHEET: &[u8] = b"WAVES 2\nA 0 2\nB 1 3\nTOTAL 4 4\n";
 
 #[test]
 fn the_example() {
@@ -37,8 +37,8 @@ fn letters_are_a_to_z_without_i_and_o() {
 
 #[test]
 fn banks_stand_ascending_in_their_waves() {
-    let text = sheet_text(&[2, 0, 1, 0, 2, 0]);
-    assert_eq!(text, "WAVES 3\nA 1 3 5\nB 2\nC 0 4\n");
+    let text = sheet_text(&[2, 0, 1, 0, 2, 0], 9);
+    assert_eq!(text, "WAVES 3\nA 1 3 5\nB 2\nC 0 4\nTOTAL 6 9\n");
 }
 
 #[test]
@@ -64,7 +64,7 @@ fn the_plan_is_asked_before_the_output() {
     assert_eq!(memory.write_sheet(&mut []).number, 3);
 }
 
-/// The waves, read back off the sheet.
+/// The waves, the banks and the clashes, read back off the sheet.
 #[test]
 fn each_bank_stands_once_in_its_wave() {
     let mut random = Random::new(31);
@@ -73,11 +73,17 @@ fn each_bank_stands_once_in_its_wave() {
         let mut output = vec![0; 400];
         let answer = memory_of(&graph, 0).write_sheet(&mut output);
         let text = std::str::from_utf8(&output[..answer.length]).unwrap();
-        assert_eq!(waves_on(text, graph.banks()), graph.waves());
+        let (rest, clashes) = text.trim_end().rsplit_once(' ').unwrap();
+        let (above, banks) = rest.rsplit_once("TOTAL ").unwrap();
+        assert_eq!(waves_on(above, graph.banks()), graph.waves());
+        assert_eq!(banks.parse(), Ok(graph.banks()));
+        let pairs = (0..graph.banks()).flat_map(|a| (0..a).map(move |b| (a, b)));
+        let pairs = pairs.filter(|&(a, b)| graph.clash(a, b));
+        assert_eq!(clashes.parse(), Ok(pairs.count()));
     }
 }
 
-/// The waves by bank number that a sheet shows, each bank once.
+/// The waves by bank number that a sheet shows above its foot, each bank once.
 fn waves_on(text: &str, n: usize) -> Vec<usize> {
     let mut waves = vec![None; n];
     for (wave, line) in text.lines().skip(1).enumerate() {
@@ -93,7 +99,7 @@ fn waves_on(text: &str, n: usize) -> Vec<usize> {
 #[test]
 fn the_longest_sheets_fit_the_pattern() {
     let graph = Graph::of(24, (0..24).flat_map(|a| (0..a).map(move |b| (a, b))));
-    let text = sheet_text(&graph.waves());
+    let text = sheet_text(&graph.waves(), graph.clashes());
     assert!(text.starts_with("WAVES 24\nA 0\nB 1\n"));
-    assert!(text.ends_with("\nH 7\nJ 8\nK 9\nL 10\nM 11\nN 12\nP 13\nQ 14\nR 15\nS 16\nT 17\nU 18\nV 19\nW 20\nX 21\nY 22\nZ 23\n"));
+    assert!(text.ends_with("\nH 7\nJ 8\nK 9\nL 10\nM 11\nN 12\nP 13\nQ 14\nR 15\nS 16\nT 17\nU 18\nV 19\nW 20\nX 21\nY 22\nZ 23\nTOTAL 24 276\n"));
 }

@@ -9,6 +9,7 @@
 //! - `lists`, `sheets`, `posters`: reading lists, writing sheets and posters.
 //! - `journals`, `replays`: starting journals and recording edits; replaying journals.
 //! - `shelves`, `kept`: sequences of keepings and returns; shelves that are damaged or too short.
+//! - `totals`: runs of all calls with a total kept beside them.
 //! - `short`: tally, result and ranks slices that are too short.
 //! - `marked`: the paper's marked examples, ranks, a journal and a shelf, through the wrapper that owns
 //!   its memory.
@@ -31,6 +32,7 @@ mod replays;
 mod sheets;
 mod shelves;
 mod short;
+mod totals;
 
 /// Whether the tests make fewer calls.
 fn quick() -> bool {

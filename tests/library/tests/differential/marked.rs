@@ -28,7 +28,10 @@ fn reach(edit: Result<Edit, Refused>, trail: &[u16], moved: &[u16]) {
 
 #[test]
 fn m1() {
-    assert_eq!(opened(0, &[]).sheet(), Ok("WAVES 0\n".to_string()));
+    assert_eq!(
+        opened(0, &[]).sheet(),
+        Ok("WAVES 0\nTOTAL 0 0\n".to_string())
+    );
 }
 
 #[test]
@@ -71,7 +74,8 @@ fn m8_to_m9() {
 fn the_example_list() {
     let list = b"N 4\n+ 0 1\n+ 1 2\n+ 2 3\n+ 0 3";
     let mut plan = Plan::read_list(list).expect("accepted");
-    assert_eq!(plan.sheet(), Ok("WAVES 2\nA 0 2\nB 1 3\n".to_string()));
+    let sheet = "WAVES 2\nA 0 2\nB 1 3\nTOTAL 4 4\n";
+    assert_eq!(plan.sheet(), Ok(sheet.to_string()));
     assert_eq!(plan.wave_of(Bank(3)), Ok(Wave(1)));
 }
 

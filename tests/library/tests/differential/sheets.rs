@@ -25,12 +25,12 @@ fn sheets_of_random_plans() {
     }
 }
 
-/// 24 waves and 1,024 banks.
+/// 24 waves, 1,024 banks and more than 10,000 clashes.
 #[test]
 fn the_longest_sheet() {
     let mut random = Random::new(92);
     let memory = memory_of(&mut random, &blocks(1024, 24));
     let mut pair = Pair::new(memory, 92);
-    assert_eq!(pair.call(&Call::WriteSheet(4067)).results, [4067]);
-    assert_eq!(pair.call(&Call::WriteSheet(4066)).number, 12);
+    assert_eq!(pair.call(&Call::WriteSheet(4084)).results, [4084]);
+    assert_eq!(pair.call(&Call::WriteSheet(4083)).number, 12);
 }

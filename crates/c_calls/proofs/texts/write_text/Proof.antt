@@ -19,7 +19,7 @@ write-sheet-requires : tie.Need-write-sheet-requires
 write-sheet-requires c κs = search needs
 
 cast-t15 : tie.Need-cast-t15
-cast-t15 c = omega (arith, answer-most sheet _ _ _ 4067 sheet-fits _ _ (c .before .before .before .write-sheet .ensures))
+cast-t15 c = omega (arith, answer-most sheet _ _ _ 4084 sheet-fits _ _ (c .before .before .before .write-sheet .ensures))
 
 enum-told-2 : tie.Need-enum-told-2
 enum-told-2 c = search needs

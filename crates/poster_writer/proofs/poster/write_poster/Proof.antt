@@ -1,11 +1,12 @@
 -- The plan is that of the clashes which its rows name.
 use borrow.Author.Needs.{needs}
 use native.Mathlib.Omega.{arith}
-use mathlib.Core.Path.{sym, _∙_}
+use mathlib.Core.Path.{sym, ap, _∙_}
+use Prim.Native.Nat.{ℕ, _+_}
 use Rattle.wave_lines.proofs.Plans.{plan-room, plan-most, plan-few}
 use Rattle.wave_lines.proofs.Writing.{text-refused, text-short, text-done}
 use Rattle.poster_writer.specs.Poster.{poster}
-use Rattle.poster_writer.proofs.Plans.{plan-bytes, plan-text, poster-written}
+use Rattle.poster_writer.proofs.Plans.{plan-bytes, plan-text, plan-foot, foot-bytes, poster-written}
 use Rattle.poster_writer.proofs.poster.write_poster.Statement.{statement}
 use Rattle.poster_writer.proofs.poster.write_poster.Tie as tie
 
@@ -19,6 +20,9 @@ count-lines-requires : tie.Need-count-lines-requires
 count-lines-requires c κs =
     let plan = c .before .check-plan .ensures .1 (c .if1 .left) in
     (plan-most _ _ _ plan, plan-few _ _ _ plan, plan-room _ _ _ plan)
+
+add-lines : tie.Need-add-lines
+add-lines c = search needs
 
 sub-pages : tie.Need-sub-pages
 sub-pages c = search needs
@@ -47,25 +51,36 @@ put-waves-requires c κs =
       omega (arith, plan-text _ _ _ plan, c .before .before .count-lines .ensures .0, c .before .if2 .left),
     )
 
+put-foot-line-requires : tie.Need-put-foot-line-requires
+put-foot-line-requires c κs =
+    let at1 = c .before .before .before in
+    let at2 = at1 .before .before in
+    let p = at2 .before in
+    let waves = at1 .put-waves in
+    let plan = p .before .before .check-plan .ensures .1 (p .before .if1 .left) in
+    (plan-foot _ _ _ plan, omega (arith, plan-text _ _ _ plan, p .count-lines .ensures .0, at2 .if2 .left, waves .ensures .next, waves .kept .0))
+
 mul-put-blank-lines : tie.Need-mul-put-blank-lines
 mul-put-blank-lines c =
-    let p = c .before .before .before .before .before .before in
+    let p = c .before .before .before .before .before .before .before .before .before .before in
     let plan = p .before .before .check-plan .ensures .1 (p .before .if1 .left) in
     omega (arith, p .count-lines .ensures .1, plan-few _ _ _ plan)
 
 sub-put-blank-lines : tie.Need-sub-put-blank-lines
-sub-put-blank-lines c = omega (arith, c .before .before .before .before .before .before .count-lines .ensures .1)
+sub-put-blank-lines c = omega arith
 
 put-blank-lines-requires : tie.Need-put-blank-lines-requires
 put-blank-lines-requires c κs =
     let at1 = c .before .before .before in
-    let at2 = at1 .before .before in
-    let at3 = at2 .before in
-    let waves = at1 .put-waves in
-    let room = at2 .if2 .left in
-    let p = at3 in
+    let at2 = at1 .before .before .before .before in
+    let at3 = at2 .before .before in
+    let p = at3 .before in
+    let foot = at1 .put-foot-line in
+    let waves = at2 .put-waves in
+    let room = at3 .if2 .left in
     let plan = p .before .before .check-plan .ensures .1 (p .before .if1 .left) in
-    omega (arith, plan-text _ _ _ plan, p .count-lines .ensures .0, room, waves .ensures .next, waves .kept .0)
+    let next = foot-bytes _ _ _ plan in
+    omega (arith, plan-text _ _ _ plan, p .count-lines .ensures .0, room, waves .ensures .next, waves .kept .0, foot .ensures .next, foot .kept .0)
 
 same-length : tie.Need-same-length
 same-length c = search needs
@@ -73,17 +88,20 @@ same-length c = search needs
 returns-3 : tie.Need-returns-3
 returns-3 c =
     let at1 = c .before .before .before .before .before .before in
-    let at2 = at1 .before .before in
-    let at3 = at2 .before in
-    let waves = at1 .put-waves .ensures in
-    let room = at2 .if2 .left in
-    let p = at3 in
+    let at2 = at1 .before .before .before .before in
+    let at3 = at2 .before .before in
+    let p = at3 .before in
+    let foot = at1 .put-foot-line .ensures in
+    let waves = at2 .put-waves in
+    let room = at3 .if2 .left in
     let lines = p .count-lines .ensures .0 in
     let zero = p .before .if1 .left in
     let checked = p .before .before .check-plan .ensures in
     let plan = checked .1 zero in
     let bytes = plan-bytes _ _ _ plan in
-    let written = poster-written _ _ _ plan _ (omega (arith, bytes, lines, room)) _ lines _ _ _ _ waves (c .before .before .put-blank-lines .ensures) in
+    let written =
+    poster-written _ _ _ plan _ (omega (arith, bytes, lines, room)) _ (ap (λ (n : ℕ). n + 1) lines) _ _ _ _ _ _ (waves .kept .0) (waves .ensures) foot
+    (c .before .before .put-blank-lines .ensures) in
     text-done poster _ _ _ (sym zero ∙ checked .0) (omega (arith, bytes, lines, room)) _ _ (omega (arith, bytes, lines)) written
 
 pub write-poster-spec : {M : Type 1} → statement M
@@ -93,11 +111,13 @@ write-poster-spec =
     check-plan-requires
     returns
     count-lines-requires
+    add-lines
     sub-pages
     add-pages
     mul-length
     returns-2
     put-waves-requires
+    put-foot-line-requires
     mul-put-blank-lines
     sub-put-blank-lines
     put-blank-lines-requires

@@ -15,54 +15,83 @@ check-plan-requires c κs = search needs
 returns : tie.Need-returns
 returns c = text-refused sheet _ _ _ _ (c .before .check-plan .ensures .0) (c .if1 .taken)
 
-sheet-length-requires : tie.Need-sheet-length-requires
-sheet-length-requires c κs =
+waves-length-requires : tie.Need-waves-length-requires
+waves-length-requires c κs =
     let plan = c .before .check-plan .ensures .1 (c .if1 .left) in
     (plan-most _ _ _ plan, plan-few _ _ _ plan)
 
+foot-length-requires : tie.Need-foot-length-requires
+foot-length-requires c κs = search needs
+
+add-length : tie.Need-add-length
+add-length c = search needs
+
+add-length-2 : tie.Need-add-length-2
+add-length-2 c = search needs
+
 returns-2 : tie.Need-returns-2
 returns-2 c =
-    let at1 = c .before .before .before in
-    let checked = at1 .check-plan .ensures in
-    let zero = c .before .before .if1 .left in
-    text-short sheet _ _ _ (sym zero ∙ checked .0) (omega (arith, sheet-bytes _ _ _ (checked .1 zero), c .before .sheet-length .ensures, c .if2 .taken))
+    let p = c .before in
+    let q = p .before in
+    let zero = q .before .if1 .left in
+    let checked = q .before .before .check-plan .ensures in
+    let bytes = sheet-bytes _ _ _ (checked .1 zero) _ _ (q .waves-length .ensures .0) (p .foot-length .ensures .0) in
+    text-short sheet _ _ _ (sym zero ∙ checked .0) (omega (arith, bytes, c .if2 .taken))
 
 put-head-requires : tie.Need-put-head-requires
 put-head-requires c κs =
     let p = c .before .before in
-    let plan = p .before .before .check-plan .ensures .1 (p .before .if1 .left) in
-    omega (arith, sheet-parts _ _ _ plan, sheet-bytes _ _ _ plan, p .sheet-length .ensures, c .before .if2 .left)
+    let q = p .before in
+    let plan = q .before .before .check-plan .ensures .1 (q .before .if1 .left) in
+    let bytes = sheet-bytes _ _ _ plan _ _ (q .waves-length .ensures .0) (p .foot-length .ensures .0) in
+    omega (arith, sheet-parts _ _ _ plan, bytes, c .before .if2 .left)
 
 put-lines-requires : tie.Need-put-lines-requires
 put-lines-requires c κs =
     let at1 = c .before .before .before in
     let at2 = at1 .before .before in
-    let at3 = at2 .before in
+    let p = at2 .before in
+    let q = p .before in
     let head = at1 .put-head in
-    let room = at2 .if2 .left in
-    let p = at3 in
-    let plan = p .before .before .check-plan .ensures .1 (p .before .if1 .left) in (
+    let plan = q .before .before .check-plan .ensures .1 (q .before .if1 .left) in
+    let bytes = sheet-bytes _ _ _ plan _ _ (q .waves-length .ensures .0) (p .foot-length .ensures .0) in (
       plan-few _ _ _ plan,
       plan-room _ _ _ plan,
-      omega (arith, sheet-parts _ _ _ plan, sheet-bytes _ _ _ plan, p .sheet-length .ensures, room, head .ensures .next, head .kept .0),
+      omega (arith, sheet-parts _ _ _ plan, bytes, at2 .if2 .left, head .ensures .next, head .kept .0),
     )
+
+put-last-requires : tie.Need-put-last-requires
+put-last-requires c κs =
+    let at1 = c .before .before .before in
+    let at2 = at1 .before .before .before .before in
+    let at3 = at2 .before .before in
+    let p = at3 .before in
+    let q = p .before in
+    let lines = at1 .put-lines in
+    let head = at2 .put-head in
+    let plan = q .before .before .check-plan .ensures .1 (q .before .if1 .left) in
+    let bytes = sheet-bytes _ _ _ plan _ _ (q .waves-length .ensures .0) (p .foot-length .ensures .0) in
+    omega (arith, sheet-parts _ _ _ plan, bytes, at3 .if2 .left, head .ensures .next, head .kept .0, lines .ensures .next, lines .kept .0)
 
 same-length : tie.Need-same-length
 same-length c = search needs
 
 returns-3 : tie.Need-returns-3
 returns-3 c =
+    let last = c .before .before .put-last in
     let at1 = c .before .before .before .before .before .before in
-    let at2 = at1 .before .before in
-    let at3 = at2 .before in
-    let head = at1 .put-head .ensures in
-    let room = at2 .if2 .left in
-    let p = at3 in
-    let zero = p .before .if1 .left in
-    let checked = p .before .before .check-plan .ensures in
+    let at2 = at1 .before .before .before .before in
+    let at3 = at2 .before .before in
+    let p = at3 .before in
+    let q = p .before in
+    let lines = at1 .put-lines in
+    let head = at2 .put-head in
+    let room = at3 .if2 .left in
+    let zero = q .before .if1 .left in
+    let checked = q .before .before .check-plan .ensures in
     let plan = checked .1 zero in
-    let bytes = p .sheet-length .ensures ∙ sheet-bytes _ _ _ plan in
-    let written = sheet-written _ _ _ plan _ (omega (arith, bytes, room)) _ _ _ _ head (c .before .before .put-lines .ensures) in
+    let bytes = sheet-bytes _ _ _ plan _ _ (q .waves-length .ensures .0) (p .foot-length .ensures .0) in
+    let written = sheet-written _ _ _ plan _ (omega (arith, bytes, room)) _ _ _ _ _ _ (head .kept .0) (head .ensures) (lines .ensures) (last .ensures) in
     text-done sheet _ _ _ (sym zero ∙ checked .0) (omega (arith, bytes, room)) _ _ bytes written
 
 pub write-sheet-spec : {M : Type 1} → statement M
@@ -71,9 +100,13 @@ write-sheet-spec =
     (tie.spec
     check-plan-requires
     returns
-    sheet-length-requires
+    waves-length-requires
+    foot-length-requires
+    add-length
+    add-length-2
     returns-2
     put-head-requires
     put-lines-requires
+    put-last-requires
     same-length
     returns-3)

@@ -1,9 +1,9 @@
--- `sheet_length` meets its contract: the first line has 8 bytes below 10 waves, else 9.
+-- `waves_length` meets its contract: the first line has 8 bytes below 10 waves, else 9.
 use borrow.Author.Needs.{needs}
 use native.Mathlib.Omega.{arith}
 use Rattle.sheet_writer.proofs.Lengths.{head-low, head-high}
-use Rattle.sheet_writer.proofs.sheet.sheet_length.Statement.{statement}
-use Rattle.sheet_writer.proofs.sheet.sheet_length.Tie as tie
+use Rattle.sheet_writer.proofs.sheet.waves_length.Statement.{statement}
+use Rattle.sheet_writer.proofs.sheet.waves_length.Tie as tie
 
 wide-requires : tie.Need-wide-requires
 wide-requires c κs = search needs
@@ -29,8 +29,8 @@ add-result-2 c = search needs
 returns-2 : tie.Need-returns-2
 returns-2 c = omega (arith, head-high _ (c .if1 .left) (omega arith))
 
-pub sheet-length-spec : {M : Type 1} → statement M
-sheet-length-spec =
+pub waves-length-spec : {M : Type 1} → statement M
+waves-length-spec =
     tie.close
     (tie.spec
     wide-requires
