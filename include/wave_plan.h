@@ -52,6 +52,7 @@ extern "C" {
 #define WAVE_PLAN_EDIT_RESULTS 2
 #define WAVE_PLAN_WAVE_RESULTS 1
 #define WAVE_PLAN_CLASHES_RESULTS 2
+#define WAVE_PLAN_BOUND_RESULTS 1
 #define WAVE_PLAN_LIST_RESULTS 1
 #define WAVE_PLAN_SHEET_RESULTS 1
 #define WAVE_PLAN_START_RESULTS 1
@@ -93,6 +94,7 @@ extern "C" {
  *   add                           1, 2, 3, 4, 5, 6, 8
  *   strike                        1, 2, 3, 4, 5, 7
  *   wave_of, clashes_of           1, 2, 3, 4
+ *   wave_bound                    1, 2, 3
  *   read_list                     9, 10, 1, 2; then each row in turn: 11, 18, 4, 5, 6 or 7, 8
  *   write_sheet, write_poster     1, 2, 3, 12
  *   start_journal                 1, 2, 3, 15
@@ -152,6 +154,13 @@ uint16_t wave_plan_clashes_of(const uint16_t *neighbours, size_t neighbours_cell
                               const uint16_t *waves, size_t waves_cells, const uint16_t *counts, size_t counts_cells,
                               const uint16_t *ranks, size_t ranks_cells, const uint16_t *tally, size_t tally_cells,
                               uint16_t *result, size_t result_cells, uint16_t b);
+
+/* How many waves the plan has at most, from its degrees alone. result[0]: the largest over i, from 1, of the smaller of i and one plus
+ * the i-th largest degree, at most 24; 0 for a plan without banks. */
+uint16_t wave_plan_wave_bound(const uint16_t *neighbours, size_t neighbours_cells, const uint16_t *degrees, size_t degrees_cells,
+                              const uint16_t *waves, size_t waves_cells, const uint16_t *counts, size_t counts_cells,
+                              const uint16_t *ranks, size_t ranks_cells, const uint16_t *tally, size_t tally_cells,
+                              uint16_t *result, size_t result_cells);
 
 /* Reads a list: opens the plan of its first row, then sets the ranks and makes the edits of the others. result[0]: the row that was
  * refused, counted from 1; 0 if the list was accepted or is too long (9). Where a later row is refused, the plan, tally, trail and

@@ -223,6 +223,40 @@ static void of_clashes_of(void) {
     gone(p);
 }
 
+#define WAVE_BOUND() wave_plan_wave_bound(PLAN(p), TALLY_OF(p), RESULT_OF(p))
+
+static void of_wave_bound(void) {
+    Plan p = four_banks(WAVE_PLAN_BOUND_RESULTS);
+    GIVES(0, WAVE_BOUND());
+    IS(p.result[0], 3); /* four banks of degree 2, in two waves */
+    IS(p.tally[2], 2);
+    SHORT_RESULT(p, WAVE_BOUND());
+    SHORT_TALLY(p, WAVE_BOUND());
+    WRONG_RANKS(p, WAVE_BOUND());
+    p.degrees[0]++;
+    GIVES(3, WAVE_BOUND());
+    IS(p.result[0], 0);
+    p.degrees_cells--;
+    GIVES(2, WAVE_BOUND());
+    p.tally[0] = WAVE_PLAN_MOST_BANKS + 1;
+    GIVES(1, WAVE_BOUND());
+    gone(p);
+    p = opened(24, WAVE_PLAN_EDIT_RESULTS);
+    for (uint16_t b = 0; b < 24; b++) { /* all of the first b + 1 banks clash: as many waves and no more, and so many clashes */
+        for (uint16_t a = 0; a < b; a++) GIVES(0, ADD(a, b));
+        p.result[1] = 7;
+        GIVES(0, WAVE_BOUND());
+        IS(p.result[0], b + 1);
+        IS(p.result[1], 7);
+        IS(p.tally[2], b + 1);
+        IS(p.tally[1], (b + 1) * b / 2);
+    }
+    GIVES(0, wave_plan_open(PLAN(p), TALLY_OF(p), 0));
+    GIVES(0, WAVE_BOUND());
+    IS(p.result[0], 0);
+    gone(p);
+}
+
 static void of_read_list(void) {
     Plan p = memory(4, WAVE_PLAN_LIST_RESULTS);
     static const struct {
@@ -672,6 +706,7 @@ int main(void) {
                  {"wave_plan_strike", of_strike},
                  {"wave_plan_wave_of", of_wave_of},
                  {"wave_plan_clashes_of", of_clashes_of},
+                 {"wave_plan_wave_bound", of_wave_bound},
                  {"wave_plan_read_list", of_read_list},
                  {"wave_plan_write_sheet", of_write_sheet},
                  {"wave_plan_write_poster", of_write_poster},

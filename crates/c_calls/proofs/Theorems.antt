@@ -23,7 +23,7 @@ use Rattle.checkpoints.specs.Calls.{backResult}
 use Rattle.c_cells.specs.CellMemory.{tallySize, tallyIn, CellMemory, cellsOf, memoryIn, leaving, answered, done, editOutcome}
 use Rattle.c_cells.proofs.Fronts.{tally-again}
 use Rattle.c_cells.proofs.Rooms.{none-short, roomed-none}
-use Rattle.c_calls.specs.Calls.{openAnswered, openDone, BankAnswered, bankAnswered, clashesDone, clashesCall, partNamed}
+use Rattle.c_calls.specs.Calls.{openAnswered, openDone, ReadAnswered, readAnswered, clashesDone, clashesCall, partNamed}
 use Rattle.c_calls.specs.Journals.{recordAnswered, recordDone}
 use Rattle.c_calls.specs.Shelves.{backAnswered, backDone}
 use Rattle.c_calls.proofs.Answers as Answers
@@ -61,8 +61,8 @@ pub clashes-named : (b : ℕ) (s : Slices) (tally result : List ℕ) → tallySi
     → partNamed (clashesCall b s tally result .result) (s .neighbours) ≡ clashesOf b s (tallyIn tally)
 unfolding clashesCall clashesDone partNamed over
 clashes-named b s tally result long fits =
-    let call = roomed-none 2 (length tally) (length result) 0 (none-short 2 (length tally) (length result) long fits) (λ c. bankAnswered c result) _ refl in
-    ap (λ (x : BankAnswered). partNamed (x .result) (s .neighbours)) (sym call) ∙ Answers.part-at b s (tallyIn tally) _ refl
+    let call = roomed-none 2 (length tally) (length result) 0 (none-short 2 (length tally) (length result) long fits) (λ c. readAnswered c result) _ refl in
+    ap (λ (x : ReadAnswered). partNamed (x .result) (s .neighbours)) (sym call) ∙ Answers.part-at b s (tallyIn tally) _ refl
 
 pub row-part : (b : ℕ) (s : Slices) (t : Tally) → bankNumber b s t ≡ 0
     → take (length (clashesOf b s t)) (drop (23 * b) (s .neighbours)) ≡ clashesOf b s t

@@ -10,6 +10,7 @@ mod texts;
 pub use editing::edit_in;
 pub use plan::clashes_of_in;
 pub use plan::open_in;
+pub use plan::wave_bound_in;
 pub use plan::wave_of_in;
 pub use recording::record_in;
 pub use shelves::come_back_in;

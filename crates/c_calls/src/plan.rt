@@ -1,4 +1,4 @@
-// Opening a plan, and reading one bank of it.
+// Opening a plan, and reading one bank of it, or how many waves it has at most.
 use c_cells::put_front;
 use c_cells::put_tally;
 use c_cells::room;
@@ -9,14 +9,17 @@ use planner::wave_of;
 use rule::Bank;
 use rule::ROW_CELLS;
 use rule::wide;
+use wave_bounds::wave_bound;
 ghost use mathlib.Core.Path.{_≡_};
 ghost use Prim.Native.Nat.{_<_};
 ghost use Rattle.memory.specs.Lent.{slicesBefore, slicesAfter};
-ghost use Rattle.c_calls.specs.Calls.{openAnswered, openCall, bankAnswered, waveCall, rowStart, clashesCall};
+ghost use Rattle.c_calls.specs.Calls.{openAnswered, openCall, readAnswered, waveCall, rowStart, clashesCall, boundCall};
 
 const WAVE_RESULTS: usize = 1;
 
 const CLASHES_RESULTS: usize = 2;
+
+const BOUND_RESULTS: usize = 1;
 
 // Opens a plan of `banks` banks with no clash.
 pub fn open_in(
@@ -52,7 +55,7 @@ pub fn wave_of_in(
     result: &mut [u16],
     b: u16,
 ) -> u16
-    ensures { λ r. ⌜ bankAnswered r (now (result .exit))
+    ensures { λ r. ⌜ readAnswered r (now (result .exit))
         ≡ waveCall b (slicesBefore neighbours degrees waves counts ranks) (now (tally .entry)) (now (result .entry)) ⌝ }
 {
     let short = room(tally.len(), result.len(), WAVE_RESULTS);
@@ -88,7 +91,7 @@ pub fn clashes_of_in(
     result: &mut [u16],
     b: u16,
 ) -> u16
-    ensures { λ r. ⌜ bankAnswered r (now (result .exit))
+    ensures { λ r. ⌜ readAnswered r (now (result .exit))
         ≡ clashesCall b (slicesBefore neighbours degrees waves counts ranks) (now (tally .entry)) (now (result .entry)) ⌝ }
 {
     let short = room(tally.len(), result.len(), CLASHES_RESULTS);
@@ -100,5 +103,28 @@ pub fn clashes_of_in(
     let part = clashes_of(neighbours, degrees, waves, counts, ranks, t, Bank(b));
     let start = row_start(r.number, b);
     put_front(result, &[start, part.len() as u16]);
+    r.number
+}
+
+// How many waves the plan has at most: the result.
+pub fn wave_bound_in(
+    neighbours: &[u16],
+    degrees: &[u16],
+    waves: &[u16],
+    counts: &[u16],
+    ranks: &[u16],
+    tally: &[u16],
+    result: &mut [u16],
+) -> u16
+    ensures { λ r. ⌜ readAnswered r (now (result .exit))
+        ≡ boundCall (slicesBefore neighbours degrees waves counts ranks) (now (tally .entry)) (now (result .entry)) ⌝ }
+{
+    let short = room(tally.len(), result.len(), BOUND_RESULTS);
+    if short != 0 {
+        return short;
+    }
+    let t = tally_in(tally);
+    let r = wave_bound(neighbours, degrees, waves, counts, ranks, t);
+    put_front(result, &[r.bound]);
     r.number
 }

@@ -72,9 +72,13 @@ module _ (G : Graph) (good : Clashes G) where
         sum-upto below n,
       )
 
+  pub degrees-pairs : foldr (λ b m. degree G b + m) 0 (upto (G .banks)) ≡ 2 * length (pairs G)
+  unfolding degree neighbours pairs
+  degrees-pairs = omega (arith, twice (G .banks) (omega arith), length-pairs (clashesBelow G) (upto (G .banks)))
+
   pub clash-count-pairs : clashCount G ≡ length (pairs G)
-  unfolding clashCount degree neighbours pairs
-  clash-count-pairs = omega (arith, twice (G .banks) (omega arith), length-pairs (clashesBelow G) (upto (G .banks)))
+  unfolding clashCount
+  clash-count-pairs = omega (arith, degrees-pairs)
 
 -- how often a stands among the numbers below n
 none-above : (a n : ℕ) → n ≤ a → length (filter (λ x. eqb x a) (upto n)) ≡ 0

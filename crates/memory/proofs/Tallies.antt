@@ -34,6 +34,26 @@ pub count-none : {row : List ℕ} (ds rs ws : List ℕ) (b : ℕ) → Tallied ro
 unfolding standing filter
 count-none ds rs ws b t = record { long = t .long; counts = t .counts }
 
+-- one more bank is counted, by its wave w
+pub one-counted : (f : ℕ → ℕ) (xs : List ℕ) {row : List ℕ} → Tallied row (λ c. standing f c xs) → (v : ℕ) {w : ℕ} → w ≡ f v → w < 24
+    → Tallied (grown row w) (λ c. standing f c (xs ++ (v ∷ [])))
+one-counted f xs {row} tl v {w} is small = record {
+  long = length-set row w (getD row w 0 + 1) ∙ tl .long;
+  counts = λ c h. cell c h (ℕ-discrete c w);
+}
+  where
+    cell : (c : ℕ) → c < 24 → Dec (c ≡ w) → getD (grown row w) c 0 ≡ standing f c (xs ++ (v ∷ []))
+    cell c h (yes q) =
+        rw q (omega (
+          arith,
+          getD-set-same row w (getD row w 0 + 1) 0 (omega (arith, tl .long)),
+          tl .counts w small,
+          standing-snoc f w xs v,
+          bit-yes (f v) w (sym is),
+        ))
+    cell c h (no q) =
+        omega (arith, getD-set-other row w c (getD row w 0 + 1) 0 q, tl .counts c h, standing-snoc f c xs v, bit-no (f v) c (λ p. q (sym p ∙ sym is)))
+
 -- the bank v in cell i of b's row
 module _ {ns ds rs ws : List ℕ} {n b i : ℕ} (ct : Countable ns ds rs ws n b) (lt : i < getD ds b 0) where
   abbrev xs : List ℕ
@@ -72,28 +92,12 @@ module _ {ns ds rs ws : List ℕ} {n b i : ℕ} (ct : Countable ns ds rs ws n b)
     }
 
     pub counted : byCells ds rs v b ≡ true → {w : ℕ} → w ≡ getD ws v 0 → Tallied (set row w (getD row w 0 + 1)) (countIn ds rs ws b (take (i + 1) xs))
-    counted e {w} is = record {
-      long = length-set row w (getD row w 0 + 1) ∙ tl .long;
-      counts = λ c h. cell c h (ℕ-discrete c w) ∙ ap (standing wave-of c) (sym (ap (filter sooner) next ∙ filter-kept sooner (take i xs) v (T-along (sym e) tt)));
-    }
-      where
-        cell : (c : ℕ) → c < 24 → Dec (c ≡ w) → getD (set row w (getD row w 0 + 1)) c 0 ≡ standing wave-of c (filter sooner (take i xs) ++ (v ∷ []))
-        cell c h (yes q) =
-            rw q (omega (
-              arith,
-              getD-set-same row w (getD row w 0 + 1) 0 (omega (arith, tl .long, v-small)),
-              tl .counts w (omega (arith, v-small)),
-              standing-snoc wave-of w (filter sooner (take i xs)) v,
-              bit-yes (wave-of v) w (sym is),
-            ))
-        cell c h (no q) =
-            omega (
-              arith,
-              getD-set-other row w c (getD row w 0 + 1) 0 q,
-              tl .counts c h,
-              standing-snoc wave-of c (filter sooner (take i xs)) v,
-              bit-no (wave-of v) c (λ p. q (sym p ∙ sym is)),
-            )
+    counted e {w} is =
+        let one = one-counted wave-of (filter sooner (take i xs)) tl v is (omega (arith, v-small)) in
+        record {
+          long = one .long;
+          counts = λ c h. one .counts c h ∙ ap (standing wave-of c) (sym (ap (filter sooner) next ∙ filter-kept sooner (take i xs) v (T-along (sym e) tt)));
+        }
 
 -- of two banks, one is earlier
 pub cells-flip : (ds rs : List ℕ) (p q : ℕ) → p ≢ q → byCells ds rs p q ≡ not (byCells ds rs q p)

@@ -2,12 +2,15 @@
 use mathlib.Core.Bool.{true}
 use mathlib.Core.List.{List}
 use mathlib.Core.Logic.{_↔_}
-use mathlib.Core.Path.{_≡_, refl}
-use Prim.Native.Nat.{ℕ, _*_, _≤_, _<_}
+use mathlib.Core.Path.{_≡_, refl, ap}
+use native.Mathlib.Omega.{arith}
+use Prim.Native.Nat.{ℕ, _+_, _*_, _-_, _/_, _≤_, _<_}
 use lib.Dec.{T}
 use lib.ListN.{length, getD, take, drop}
 use Rattle.rule.specs.Graph.{Graph, earlier, earlierNeighbours, empty, Same}
 use Rattle.rule.specs.Wave.{wave, waves, waveCount}
+use Rattle.rule.specs.Bounds.{waveBound, largestDegree}
+use Rattle.rule.proofs.Theorems.{wave-bound, wave-degrees, wave-most, wave-count-small}
 use Rattle.memory.specs.declared.Tally.{Tally}
 use Rattle.memory.specs.Plan.{Slices, longEnough, neighbourCells, degreeCells, countCells, rankCells, tallyOf, planIn, graphIn, clashCount, holds, Clashes}
 use Rattle.memory.specs.Plan.{PlanOf}
@@ -122,3 +125,34 @@ wave-count-is = Sums.wave-count-is
 -- 7. the tally's clashes are the number of pairs a < b that clash
 pub clash-count-pairs : (G : Graph) → Clashes G → clashCount G ≡ length (pairs G)
 clash-count-pairs = ClashPairs.clash-count-pairs
+
+-- 8. how many waves k at most: k (k - 1) / 2 is at most the number of clashes. As pairs,
+pub wave-pairs : (G : Graph) → Clashes G → waveCount G * (waveCount G - 1) ≤ 2 * length (pairs G)
+wave-pairs G good = omega (arith, wave-degrees G, ClashPairs.degrees-pairs G good)
+
+-- as the tally counts them,
+pub wave-clashes : (G : Graph) → waveCount G * (waveCount G - 1) / 2 ≤ clashCount G
+unfolding clashCount
+wave-clashes G = omega (arith, wave-degrees G)
+
+-- and in the tally itself, where memory holds a plan; its k is at most the bound of Welsh and Powell, one plus the largest degree, and 24
+module _ {G : Graph} {s : Slices} {t : Tally} (plan : PlanOf G s t) where
+  waves-are : t .waves ≡ waveCount G
+  unfolding tallyOf
+  waves-are = ap (λ (u : Tally). u .waves) (plan .tally)
+
+  clashes-are : t .clashes ≡ clashCount G
+  unfolding tallyOf
+  clashes-are = ap (λ (u : Tally). u .clashes) (plan .tally)
+
+  pub tally-clashes : t .waves * (t .waves - 1) / 2 ≤ t .clashes
+  tally-clashes = rw (waves-are, clashes-are) (wave-clashes G)
+
+  pub tally-bound : t .waves ≤ waveBound G
+  tally-bound = omega (arith, waves-are, wave-bound G)
+
+  pub tally-most : t .waves ≤ 1 + largestDegree G
+  tally-most = omega (arith, waves-are, wave-most G)
+
+  pub tally-waves : t .waves ≤ 24
+  tally-waves = omega (arith, waves-are, wave-count-small G (plan .clashes .few))

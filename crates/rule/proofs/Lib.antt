@@ -17,4 +17,5 @@ pub mod Reaches
 pub mod Strike
 pub mod Fixed
 pub mod Renumbering
+pub mod Bounds
 pub mod Theorems

@@ -116,14 +116,14 @@ module _ {G H : Graph} {to from : ℕ → ℕ} (r : Renumbered G H to from) wher
     unfolding waveCount
     renumbered-count =
         let low : waveCount H ≤ waveCount G =
-        most-below (λ b. suc (wave H b)) (upto (H .banks)) (waveCount G) (λ y m.
+        most-below _ (upto (H .banks)) (waveCount G) (λ y m.
         let h : y < G .banks = omega (arith, upto-below (H .banks) y m, r .banks) in
         let hv = r .fromBank y h in
         let is : wave H y ≡ wave G (from y) = ap (wave H) (sym (r .forth y h)) ∙ renumbered-waves (from y) hv in
-        rw is (most-above (λ b. suc (wave G b)) (upto (G .banks)) (from y) (in-upto (G .banks) (from y) hv))) in
+        rw is (most-above _ (upto (G .banks)) (from y) (in-upto (G .banks) (from y) hv))) in
         let high : waveCount G ≤ waveCount H =
-        most-below (λ b. suc (wave G b)) (upto (G .banks)) (waveCount H) (λ x m.
+        most-below _ (upto (G .banks)) (waveCount H) (λ x m.
         let h = upto-below (G .banks) x m in
         let hu : to x < H .banks = omega (arith, r .toBank x h, r .banks) in
-        rw (← renumbered-waves x h) (most-above (λ b. suc (wave H b)) (upto (H .banks)) (to x) (in-upto (H .banks) (to x) hu))) in
+        rw (← renumbered-waves x h) (most-above _ (upto (H .banks)) (to x) (in-upto (H .banks) (to x) hu))) in
         omega arith

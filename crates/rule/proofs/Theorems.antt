@@ -1,17 +1,18 @@
 -- The theorems to cite, each restated. Their proofs are in the files beside this one.
 use mathlib.Core.Bool.{Bool, true, false, cond, _&&_, _||_, not}
-use mathlib.Core.List.{List, map}
-use mathlib.Core.Logic.{_≢_}
+use mathlib.Core.List.{List, map, foldr}
+use mathlib.Core.Logic.{_↔_, _≢_}
 use mathlib.Core.Path.{_≡_, refl, sym, _∙_}
 use native.Mathlib.Omega.{arith}
-use Prim.Native.Nat.{ℕ, _≤_, _<_}
+use Prim.Native.Nat.{ℕ, _+_, _*_, _-_, _≤_, _<_}
 use lib.Dec.{T, ltb, eqb}
 use lib.ListN.{length}
-use Rattle.rule.specs.Lists.{memb, insertBy, Sorted, Once, Strict}
+use Rattle.rule.specs.Lists.{upto, memb, insertBy, Sorted, Once, Strict}
 use Rattle.rule.specs.Graph.{Graph, degree, earlier, earlierNeighbours, order, Same}
 use Rattle.rule.specs.Wave.{lowestFree, wave, waveCount}
 use Rattle.rule.specs.Reach.{edited, changed, isTurned, onTrail, trail, moved, around}
 use Rattle.rule.specs.Renumbering.{Renumbered, RanksDiffer}
+use Rattle.rule.specs.Bounds.{waveBound, largestDegree, banksFrom}
 use Rattle.rule.specs.declared.Kind.{Kind}
 use Rattle.rule.specs.WorkList.{OneEdit, Allowed, turned, seed, isTaken, taken, WorkList, Next}
 use Rattle.rule.proofs.Free
@@ -26,6 +27,7 @@ use Rattle.rule.proofs.Turned
 use Rattle.rule.proofs.Reaches
 use Rattle.rule.proofs.Fixed
 use Rattle.rule.proofs.Renumbering
+use Rattle.rule.proofs.Bounds
 use Rattle.rule.proofs.Booleans.{T-along, and-l, and-r, both}
 use Rattle.rule.proofs.Lists.{filter-true}
 
@@ -222,3 +224,40 @@ module _ {G H : Graph} {to from : ℕ → ℕ} where
 
   pub renumbered-count : Renumbered G H to from → RanksDiffer G → waveCount H ≡ waveCount G
   renumbered-count = Renumbering.renumbered-count
+
+-- 10. how many waves at most (Welsh and Powell): of all clashes, whether or not they go both ways; the bound is above d exactly if more than d
+-- banks have degree d or more, so it takes the degrees alone
+module _ (G : Graph) where
+  pub wave-bound : waveCount G ≤ waveBound G
+  wave-bound = Bounds.count-bound G
+
+  pub bound-counts : (d : ℕ) → (d < waveBound G) ↔ (d < banksFrom G d)
+  bound-counts = Bounds.bound-counts G
+
+  -- k banks have k - 1 clashes or more, so the degrees come to k (k - 1) or more
+  pub wave-degrees : waveCount G * (waveCount G - 1) ≤ foldr (λ b m. degree G b + m) 0 (upto (G .banks))
+  wave-degrees = Bounds.count-degrees G
+
+  -- one plus the largest degree
+  pub wave-most : waveCount G ≤ 1 + largestDegree G
+  wave-most = omega (arith, Bounds.count-bound G, Bounds.bound-small G (largestDegree G) (Bounds.degree-largest G))
+
+  pub degree-largest : (x : ℕ) → x < G .banks → degree G x ≤ largestDegree G
+  degree-largest = Bounds.degree-largest G
+
+  -- 24, where degrees are at most 23
+  pub wave-count-small : ((x : ℕ) → x < G .banks → degree G x ≤ 23) → waveCount G ≤ 24
+  wave-count-small few = omega (arith, Bounds.count-bound G, Bounds.bound-small G 23 few)
+
+  -- the bound itself is at most these, and at most the number of banks
+  pub bound-most : waveBound G ≤ 1 + largestDegree G
+  bound-most = omega (arith, Bounds.bound-small G (largestDegree G) (Bounds.degree-largest G))
+
+  pub bound-small : ((x : ℕ) → x < G .banks → degree G x ≤ 23) → waveBound G ≤ 24
+  bound-small = Bounds.bound-small G 23
+
+  pub bound-banks : waveBound G ≤ G .banks
+  bound-banks = Bounds.bound-banks G
+
+pub bound-agree : {G H : Graph} → Same G H → waveBound G ≡ waveBound H
+bound-agree = Bounds.bound-agree

@@ -1,10 +1,11 @@
-// Opening a plan, and reading one bank of it.
+// Opening a plan, and reading one bank of it, or how many waves it has at most.
 use c_calls::clashes_of_in;
 use c_calls::open_in;
+use c_calls::wave_bound_in;
 use c_calls::wave_of_in;
 ghost use mathlib.Core.Path.{_≡_};
 ghost use Rattle.memory.specs.Lent.{slicesBefore, slicesAfter};
-ghost use Rattle.c_calls.specs.Calls.{openAnswered, openCall, bankAnswered, waveCall, clashesCall};
+ghost use Rattle.c_calls.specs.Calls.{openAnswered, openCall, readAnswered, waveCall, clashesCall, boundCall};
 
 // Opens a plan of `banks` banks with no clash.
 #[no_mangle]
@@ -35,7 +36,7 @@ pub extern "C" fn wave_plan_wave_of(
     result: &mut [u16],
     b: u16,
 ) -> u16
-    ensures { λ r. ⌜ bankAnswered r (now (result .exit))
+    ensures { λ r. ⌜ readAnswered r (now (result .exit))
         ≡ waveCall b (slicesBefore neighbours degrees waves counts ranks) (now (tally .entry)) (now (result .entry)) ⌝ }
 {
     wave_of_in(neighbours, degrees, waves, counts, ranks, tally, result, b)
@@ -54,8 +55,25 @@ pub extern "C" fn wave_plan_clashes_of(
     result: &mut [u16],
     b: u16,
 ) -> u16
-    ensures { λ r. ⌜ bankAnswered r (now (result .exit))
+    ensures { λ r. ⌜ readAnswered r (now (result .exit))
         ≡ clashesCall b (slicesBefore neighbours degrees waves counts ranks) (now (tally .entry)) (now (result .entry)) ⌝ }
 {
     clashes_of_in(neighbours, degrees, waves, counts, ranks, tally, result, b)
+}
+
+// How many waves the plan has at most: the result.
+#[no_mangle]
+pub extern "C" fn wave_plan_wave_bound(
+    neighbours: &[u16],
+    degrees: &[u16],
+    waves: &[u16],
+    counts: &[u16],
+    ranks: &[u16],
+    tally: &[u16],
+    result: &mut [u16],
+) -> u16
+    ensures { λ r. ⌜ readAnswered r (now (result .exit))
+        ≡ boundCall (slicesBefore neighbours degrees waves counts ranks) (now (tally .entry)) (now (result .entry)) ⌝ }
+{
+    wave_bound_in(neighbours, degrees, waves, counts, ranks, tally, result)
 }

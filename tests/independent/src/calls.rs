@@ -1,5 +1,5 @@
-//! The planner's calls: open, add, strike, wave of a bank, clashes of a bank. Each asks its
-//! questions in the paper's order, and a refused call writes nothing.
+//! The planner's calls: open, add, strike, wave of a bank, clashes of a bank, and how many waves at
+//! most. Each asks its questions in the paper's order, and a refused call writes nothing.
 
 use crate::graph::{Bank, Graph};
 use crate::memory::Memory;
@@ -20,6 +20,13 @@ pub struct EditAnswer {
 pub struct WaveAnswer {
     pub number: u16,
     pub wave: u16,
+}
+
+/// The answer to how many waves at most: the number and the bound.
+#[derive(Clone, Copy, Debug, PartialEq, Eq)]
+pub struct BoundAnswer {
+    pub number: u16,
+    pub bound: usize,
 }
 
 impl Memory {
@@ -109,6 +116,17 @@ impl Memory {
                 &self.neighbours[MAX_DEGREE * b..][..graph.degree(b)]
             }
             Err(_) => &[],
+        }
+    }
+
+    /// How many waves at most, by the clashes.
+    pub fn wave_bound(&self) -> BoundAnswer {
+        match self.plan_questions() {
+            Ok(graph) => BoundAnswer {
+                number: ACCEPTED,
+                bound: graph.wave_bound(),
+            },
+            Err(number) => BoundAnswer { number, bound: 0 },
         }
     }
 

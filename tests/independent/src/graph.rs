@@ -140,6 +140,20 @@ impl Graph {
         let given = |wave: Option<Wave>| wave.expect("the order has each bank");
         waves.into_iter().map(given).collect()
     }
+
+    /// The largest degree, or 0 without banks.
+    pub fn largest_degree(&self) -> usize {
+        let degrees = (0..self.banks()).map(|b| self.degree(b));
+        degrees.max().unwrap_or(0)
+    }
+
+    /// How many waves at most (Welsh and Powell): the largest over i, from 1, of the smaller of i and
+    /// one plus the degree of the i-th bank in the rule order; 0 without banks.
+    pub fn wave_bound(&self) -> usize {
+        let order = self.order().into_iter();
+        let smaller = order.zip(1..).map(|(b, i)| i.min(1 + self.degree(b)));
+        smaller.max().unwrap_or(0)
+    }
 }
 
 /// The smallest number from 0 that is not held.

@@ -67,6 +67,12 @@ impl Lent<'_> {
             self.neighbours, self.degrees, self.waves, self.counts, self.ranks, self.tally, self.result; b))
     }
 
+    /// How many waves the plan has at most: the result.
+    pub fn wave_bound(&mut self) -> u16 {
+        call!(wave_plan_wave_bound(
+            self.neighbours, self.degrees, self.waves, self.counts, self.ranks, self.tally, self.result;))
+    }
+
     /// Read a list. Result: the row of a refusal.
     pub fn read_list(&mut self, list: &[u8]) -> u16 {
         call!(wave_plan_read_list(

@@ -156,6 +156,12 @@ impl Plan {
         Ok(banks(&self.neighbours[start..start + length]))
     }
 
+    /// How many waves the plan has at most, from its degrees alone.
+    pub fn wave_bound(&mut self) -> Result<u16, Refused> {
+        answer(self.lent().wave_bound())?;
+        Ok(self.result[0])
+    }
+
     /// The ranks by bank number, as the K rows of its list or the K fields of its journal set them.
     pub fn ranks(&self) -> &[u16] {
         &self.ranks[..usize::from(self.tally[0])]

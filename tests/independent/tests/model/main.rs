@@ -1,5 +1,6 @@
 //! Tests of the model: the papers' examples, and the rule and demand 3 on random graphs.
 
+mod bounds;
 mod journal;
 mod journal_ranks;
 mod marked;

@@ -19,6 +19,7 @@ pub enum Call {
     Strike(u16, u16),
     WaveOf(u16),
     ClashesOf(u16),
+    WaveBound,
     ReadList(Vec<u8>),
     WriteSheet(usize),
     WritePoster(usize),
@@ -39,6 +40,7 @@ impl fmt::Display for Call {
             Call::Strike(a, b) => write!(f, "strike {a} {b}"),
             Call::WaveOf(b) => write!(f, "wave of {b}"),
             Call::ClashesOf(b) => write!(f, "clashes of {b}"),
+            Call::WaveBound => write!(f, "wave bound"),
             Call::ReadList(list) => {
                 let front = &list[..list.len().min(80)];
                 write!(f, "list of {} bytes, {}", list.len(), front.escape_ascii())
@@ -103,6 +105,10 @@ impl Call {
                 let start = if accepted { 23 * usize::from(*b) } else { 0 };
                 (number, vec![start, model.clashes_of(*b).len()])
             }
+            Call::WaveBound => {
+                let answer = model.wave_bound();
+                (answer.number, vec![answer.bound])
+            }
             Call::ReadList(list) => {
                 let answer = model.read_list(list);
                 (answer.number, vec![answer.row])
@@ -151,6 +157,7 @@ impl Call {
             Call::Strike(a, b) => lent.strike(*a, *b),
             Call::WaveOf(b) => lent.wave_of(*b),
             Call::ClashesOf(b) => lent.clashes_of(*b),
+            Call::WaveBound => lent.wave_bound(),
             Call::ReadList(list) => lent.read_list(list),
             Call::WriteSheet(_) => lent.write_sheet(output),
             Call::WritePoster(_) => lent.write_poster(output),

@@ -221,6 +221,7 @@ fn either(random: &mut Random, a: u16, b: u16) -> Call {
 fn question(random: &mut Random, pair: &mut Pair) {
     let n = usize::from(pair.model.tally.banks);
     let b = random.below(n + 2) as u16;
+    pair.call(&Call::WaveBound);
     let call = match random.below(3) {
         0 => Call::WaveOf(b),
         1 => Call::ClashesOf(b),

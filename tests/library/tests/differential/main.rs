@@ -5,6 +5,7 @@
 //! - `pair`: the library's memory and the model's, and a call made on both.
 //! - `plans`: random plans of all sizes, degrees and ranks.
 //! - `edits`: sequences of edits, accepted and refused.
+//! - `bounds`: how many waves at most.
 //! - `damage`, `damaged`: memory that holds no plan or is too short, and the calls on it.
 //! - `lists`, `sheets`, `posters`: reading lists, writing sheets and posters.
 //! - `journals`, `replays`: starting journals and recording edits; replaying journals.
@@ -16,6 +17,7 @@
 //!
 //! With WAVE_PLAN_QUICK set, each test makes fewer calls, for a run under a memory checker.
 
+mod bounds;
 mod call;
 mod damage;
 mod damaged;
