@@ -153,7 +153,7 @@ fn colour_rows(list: &[u8], every_row: bool) -> Vec<u8> {
         }
     }
     colouring.by_counting_sort(&depot.clashes.neighbours, &depot.clashes.degrees);
-    sheet_of(&colouring)
+    sheet_of(&colouring, &depot.clashes)
 }
 
 /// The sheet of a list with K rows.
@@ -163,7 +163,7 @@ fn colour_ranked(list: &[u8]) -> Vec<u8> {
     let Depot { clashes, ranks } = depot;
     let mut colouring = Colouring::new();
     colouring.by_ranks(&clashes.neighbours, &clashes.degrees, &ranks);
-    sheet_of(&colouring)
+    sheet_of(&colouring, &clashes)
 }
 
 /// The rows after the first one of an accepted list of 1,024 banks.
@@ -173,9 +173,10 @@ fn later_rows(list: &[u8]) -> impl Iterator<Item = Row> + '_ {
     rows.map(|row| later_row(row).expect("an accepted list"))
 }
 
-fn sheet_of(colouring: &Colouring) -> Vec<u8> {
+fn sheet_of(colouring: &Colouring, clashes: &Clashes) -> Vec<u8> {
     let waves: Vec<usize> = colouring.waves.iter().map(|&w| usize::from(w)).collect();
-    sheet_text(&waves).into_bytes()
+    let ends: usize = clashes.degrees.iter().map(|&d| usize::from(d)).sum();
+    sheet_text(&waves, ends / 2).into_bytes()
 }
 
 /// The clashes and the ranks that a list leads to.
