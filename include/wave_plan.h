@@ -7,10 +7,10 @@
  * null and aligned, also where the number is 0. A slice that is not const must not overlap any other slice of the same call; const
  * slices may overlap each other. Slices may be longer than asked: cells beyond the stated number are never changed.
  *
- * tally    three cells: banks, clashes, waves. The caller keeps them with the plan and changes them only through these calls.
+ * tally    four cells: banks, clashes, waves, cap. The caller keeps them with the plan and changes them only through these calls.
  * result   the further answers of a call, from the front. Where the call is refused they are 0, but for a list and a replay, whose
  *          result[0] is then the row or the field that was refused.
- * A tally slice of fewer than three cells, or a result slice shorter than the call's, gets 2 first of all, and nothing is changed.
+ * A tally slice of fewer than four cells, or a result slice shorter than the call's, gets 2 first of all, and nothing is changed.
  * Apart from its result cells a refused call changes nothing (see wave_plan_read_list and wave_plan_replay for the rows or fields
  * before the one refused).
  *
@@ -40,13 +40,17 @@ extern "C" {
  *   trail        n cells. After an accepted edit its front holds the banks that were taken up, in the new order.
  *   moved        n cells. After an accepted edit its front holds the banks whose wave changed, in the new order. After a return to a
  *                kept plan (wave_plan_come_back) it holds them ascending.
+ *
+ * The cap, a number from 1 to 24 and not below the plan's waves, is the most waves that an edit may lead to. It is 24 after opening, a
+ * list and a replay, and then no edit passes it. It is set by wave_plan_set_cap and by the return to a kept plan, and by no edit.
  */
 #define WAVE_PLAN_MOST_BANKS 1024
 #define WAVE_PLAN_MOST_RANK 9999
+#define WAVE_PLAN_MOST_CAP 24
 #define WAVE_PLAN_ROW_CELLS 23
 #define WAVE_PLAN_COUNT_CELLS 24
 #define WAVE_PLAN_UNUSED 65535
-#define WAVE_PLAN_TALLY_CELLS 3
+#define WAVE_PLAN_TALLY_CELLS 4
 
 /* The cells of the result slice of each call. */
 #define WAVE_PLAN_EDIT_RESULTS 2
@@ -79,52 +83,55 @@ extern "C" {
 
 /* A shelf keeps up to three plans of n banks, n being the bank count of the present plan. It is one slice of 16-bit cells: three
  * places, in the order of the names below. A place is a used cell, 0 or 1; then the cells of the plan, neighbours, degrees, waves and
- * counts; then its tally, banks, clashes and waves; then its ranks. A place whose used cell is 0 may hold anything; a used cell
- * above 1 gets 3.
+ * counts; then of its tally banks, clashes and waves; then its ranks; then its cap. A place whose used cell is 0 may hold anything; a
+ * used cell above 1 gets 3.
  * The places are laid out by n: use a shelf for one bank count, and open it again for another, since a keeping of another count can
  * overwrite what is kept.
  * A name is eight bytes, padded with spaces: "MORNING ", "NOON    " or "CLOSE   ". There are no others. */
 #define WAVE_PLAN_PLACES 3
-#define WAVE_PLAN_PLACE_CELLS(n) (50 * (size_t)(n) + 4)
+#define WAVE_PLAN_PLACE_CELLS(n) (50 * (size_t)(n) + 5)
 #define WAVE_PLAN_SHELF_CELLS(n) (WAVE_PLAN_PLACES * WAVE_PLAN_PLACE_CELLS(n))
 #define WAVE_PLAN_NAME_BYTES 8
 
 /* What a call returns: 0, or the number of the first question that is answered no. The questions of each call, in their order:
  *   open, open_shelf              1, 2
- *   add                           1, 2, 3, 4, 5, 6, 8
- *   strike                        1, 2, 3, 4, 5, 7
+ *   add                           1, 2, 3, 4, 5, 6, 8, 20
+ *   strike                        1, 2, 3, 4, 5, 7, 20
+ *   set_cap                       1, 2, 3, 19, 20
  *   wave_of, clashes_of           1, 2, 3, 4
  *   wave_bound                    1, 2, 3
  *   read_list                     9, 10, 1, 2; then each row in turn: 11, 18, 4, 5, 6 or 7, 8
  *   write_sheet, write_poster     1, 2, 3, 12
  *   start_journal                 1, 2, 3, 15
- *   add_recorded                  9, 13, 1, 2, 3; each field so far in turn: 14, 18; then 4, 5, 6, 8, 15
- *   strike_recorded               9, 13, 1, 2, 3; each field so far in turn: 14, 18; then 4, 5, 7, 15
+ *   add_recorded                  9, 13, 1, 2, 3; each field so far in turn: 14, 18; then 4, 5, 6, 8, 20, 15
+ *   strike_recorded               9, 13, 1, 2, 3; each field so far in turn: 14, 18; then 4, 5, 7, 20, 15
  *   replay                        9, 13, 1, 2; then each field in turn: 14, 18, 4, 5, 6 or 7, 8
  *   keep                          1, 2, 3, 16
  *   come_back                     1, 2, 3, 16, 17
  */
 #define WAVE_PLAN_ACCEPTED 0
-#define WAVE_PLAN_TOO_MANY_BANKS 1  /* Is the bank count at most 1024? */
-#define WAVE_PLAN_SHORT_SLICE 2     /* Is each plan, trail, moved and shelf slice that is lent long enough? Tally and result too. */
-#define WAVE_PLAN_NO_PLAN 3         /* Does the memory hold a plan, and each used place of a shelf one of as many banks? */
-#define WAVE_PLAN_NO_SUCH_BANK 4    /* Is each named bank below the bank count? */
-#define WAVE_PLAN_SAME_BANK 5       /* Are the two banks different? */
-#define WAVE_PLAN_CLASH_THERE 6     /* (add) Are they free of a clash so far? */
-#define WAVE_PLAN_NO_CLASH 7        /* (strike) Do they clash? */
-#define WAVE_PLAN_ROW_FULL 8        /* (add) Have both fewer than 23 clashes? */
-#define WAVE_PLAN_LONG_LIST 9       /* (list, journal) Has it at most 60000 bytes? */
-#define WAVE_PLAN_NO_FIRST_ROW 10   /* (list) Is row 1 an N row of the stated form? */
-#define WAVE_PLAN_UNREADABLE_ROW 11 /* (list, each further row in turn) Is it one of the four forms? */
-#define WAVE_PLAN_SHORT_OUTPUT 12   /* (sheet, poster) Is the output at least as long as it? */
-#define WAVE_PLAN_NO_FIRST_FIELD 13 /* (journal) Is it within the slice, and its first field whole and of the stated form? */
-#define WAVE_PLAN_WRONG_FIELD 14    /* (journal, each further field in turn) Are tag and length right, and a rank at most 9999? */
-#define WAVE_PLAN_NO_SPACE 15       /* (start, record) Is there space in the slice, and in 60000 bytes, for what is to be written? */
-#define WAVE_PLAN_UNKNOWN_NAME 16   /* (keep, come back) Is the name one of the three? */
-#define WAVE_PLAN_NOTHING_KEPT 17   /* (come back) Is a plan kept under the name? */
-#define WAVE_PLAN_LATE_RANK 18      /* (list, journal, each K row or K field in turn) Does it come before the first edit? */
+#define WAVE_PLAN_TOO_MANY_BANKS 1   /* Is the bank count at most 1024? */
+#define WAVE_PLAN_SHORT_SLICE 2      /* Is each plan, trail, moved and shelf slice that is lent long enough? Tally and result too. */
+#define WAVE_PLAN_NO_PLAN 3          /* Does the memory hold a plan, and each used place of a shelf one of as many banks? */
+#define WAVE_PLAN_NO_SUCH_BANK 4     /* Is each named bank below the bank count? */
+#define WAVE_PLAN_SAME_BANK 5        /* Are the two banks different? */
+#define WAVE_PLAN_CLASH_THERE 6      /* (add) Are they free of a clash so far? */
+#define WAVE_PLAN_NO_CLASH 7         /* (strike) Do they clash? */
+#define WAVE_PLAN_ROW_FULL 8         /* (add) Have both fewer than 23 clashes? */
+#define WAVE_PLAN_LONG_LIST 9        /* (list, journal) Has it at most 60000 bytes? */
+#define WAVE_PLAN_NO_FIRST_ROW 10    /* (list) Is row 1 an N row of the stated form? */
+#define WAVE_PLAN_UNREADABLE_ROW 11  /* (list, each further row in turn) Is it one of the four forms? */
+#define WAVE_PLAN_SHORT_OUTPUT 12    /* (sheet, poster) Is the output at least as long as it? */
+#define WAVE_PLAN_NO_FIRST_FIELD 13  /* (journal) Is it within the slice, and its first field whole and of the stated form? */
+#define WAVE_PLAN_WRONG_FIELD 14     /* (journal, each further field in turn) Are tag and length right, and a rank at most 9999? */
+#define WAVE_PLAN_NO_SPACE 15        /* (start, record) Is there space in the slice, and in 60000 bytes, for what is to be written? */
+#define WAVE_PLAN_UNKNOWN_NAME 16    /* (keep, come back) Is the name one of the three? */
+#define WAVE_PLAN_NOTHING_KEPT 17    /* (come back) Is a plan kept under the name? */
+#define WAVE_PLAN_LATE_RANK 18       /* (list, journal, each K row or K field in turn) Does it come before the first edit? */
+#define WAVE_PLAN_CAP_OUT_OF_SPAN 19 /* (set the cap) Is the cap from 1 to 24? */
+#define WAVE_PLAN_CAP_PASSED 20      /* Is the cap not below the waves: (set the cap) those in use, (edit) those that it would need? */
 
-/* Opens a plan of `banks` banks with no clash, all waves and ranks 0. */
+/* Opens a plan of `banks` banks with no clash, all waves and ranks 0, the cap 24. */
 uint16_t wave_plan_open(uint16_t *neighbours, size_t neighbours_cells, uint16_t *degrees, size_t degrees_cells,
                         uint16_t *waves, size_t waves_cells, uint16_t *counts, size_t counts_cells,
                         uint16_t *ranks, size_t ranks_cells, uint16_t *tally, size_t tally_cells, uint16_t banks);
@@ -142,6 +149,12 @@ uint16_t wave_plan_strike(uint16_t *neighbours, size_t neighbours_cells, uint16_
                           const uint16_t *ranks, size_t ranks_cells, uint16_t *trail, size_t trail_cells,
                           uint16_t *moved, size_t moved_cells, uint16_t *tally, size_t tally_cells,
                           uint16_t *result, size_t result_cells, uint16_t a, uint16_t b);
+
+/* Sets the cap: from now on an edit, add or strike, after which the plan would need more waves than that gets 20. Only the tally's
+ * cap changes. */
+uint16_t wave_plan_set_cap(const uint16_t *neighbours, size_t neighbours_cells, const uint16_t *degrees, size_t degrees_cells,
+                           const uint16_t *waves, size_t waves_cells, const uint16_t *counts, size_t counts_cells,
+                           const uint16_t *ranks, size_t ranks_cells, uint16_t *tally, size_t tally_cells, uint16_t cap);
 
 /* The wave of bank b. result[0]: the wave. */
 uint16_t wave_plan_wave_of(const uint16_t *neighbours, size_t neighbours_cells, const uint16_t *degrees, size_t degrees_cells,

@@ -1,5 +1,6 @@
 //! The measurements on one plan of 1,024 banks: core edits, checked edits, question 5, with all ranks 0
-//! and with random ranks, and colourings from scratch, in turn, repeat by repeat.
+//! and with random ranks, checked edits under caps, and colourings from scratch, in turn, repeat by
+//! repeat.
 
 use crate::clashes::{Clashes, Edit};
 use crate::clock::processor_time;
@@ -19,6 +20,13 @@ pub const EDITS: usize = 1000;
 /// The question-5 tests of one batch, and the colourings of one batch.
 const TESTS: usize = 200;
 
+/// The cap that no plan passes.
+const MOST_CAP: u16 = 24;
+
+/// How many edits that pass the plan's waves are looked for, and among how many random ones at most.
+const PASSING: usize = 100;
+const TRIES: usize = 100_000;
+
 /// What was measured on one plan, with all ranks 0 and with random ranks. Times are processor times of
 /// one call, in seconds, by repeat.
 pub struct Measured {
@@ -28,6 +36,7 @@ pub struct Measured {
     pub times: Times,
     pub ranked_reach: Reach,
     pub ranked: Times,
+    pub caps: Caps,
     pub counting_sort: Vec<f64>,
     pub standard_sort: Vec<f64>,
     pub whole_plan: Vec<f64>,
@@ -38,6 +47,8 @@ pub struct Reach {
     pub average_trail: f64,
     pub average_moved: f64,
     pub longest_trail: u16,
+    /// The most waves before, between and after them.
+    pub most_waves: u16,
 }
 
 /// The times of the library's calls.
@@ -46,6 +57,25 @@ pub struct Times {
     pub core: Vec<f64>,
     pub checked: Vec<f64>,
     pub question: Vec<f64>,
+}
+
+/// Checked edits under caps. Refused are edits that lead to more waves than the plan has; they are
+/// compared with the same edits at cap 24, each followed by its inverse.
+pub struct Caps {
+    /// The cap of the accepted edits: the most waves of a batch.
+    pub cap: u16,
+    pub accepted: Vec<f64>,
+    passing: Vec<Edit>,
+    pub average_trail: f64,
+    pub refused: Vec<f64>,
+    pub same_made: Vec<f64>,
+}
+
+impl Caps {
+    /// How many edits are refused in turn.
+    pub fn passing(&self) -> usize {
+        self.passing.len()
+    }
 }
 
 impl Measured {
@@ -65,6 +95,7 @@ pub fn measure(clashes: usize) -> Measured {
         .collect();
     let mut plan = Subject::new(&drawn, &[0; BANKS], &edits);
     let mut ranked = Subject::new(&drawn, &ranks, &edits);
+    let mut caps = Caps::new(&mut random, &drawn, &mut plan);
     let mut colouring = Colouring::new();
     let [mut counting_sort, mut standard_sort, mut whole_plan] = [(); 3].map(|()| Vec::new());
     for _ in 0..REPEATS {
@@ -75,8 +106,9 @@ pub fn measure(clashes: usize) -> Measured {
         counting_sort.push(scratch(Colouring::by_counting_sort));
         standard_sort.push(scratch(Colouring::by_standard_sort));
         whole_plan.push(scratch(Colouring::whole_plan));
-        assert!(colouring.counts == memory.counts && colouring.tally == memory.tally[1..]);
+        assert!(colouring.counts == memory.counts && colouring.tally == memory.tally[1..3]);
         plan.time_checked(&edits);
+        caps.time(&mut plan, &edits);
         ranked.time_checked(&edits);
     }
     colouring.by_ranks(&drawn.neighbours, &drawn.degrees, &ranks);
@@ -88,6 +120,7 @@ pub fn measure(clashes: usize) -> Measured {
         times: plan.times,
         ranked_reach: ranked.reach,
         ranked: ranked.times,
+        caps,
         counting_sort,
         standard_sort,
         whole_plan,
@@ -146,6 +179,80 @@ impl Subject {
     }
 }
 
+impl Caps {
+    /// The cap of a batch, and edits from the plan that is there between batches.
+    fn new(random: &mut Random, clashes: &Clashes, plan: &mut Subject) -> Caps {
+        let cap = plan.reach.most_waves;
+        assert!(cap < MOST_CAP, "a cap that is asked about");
+        let (passing, average_trail) = passing(random, clashes, &mut plan.memory);
+        plan.is_back();
+        Caps {
+            cap,
+            accepted: Vec::new(),
+            passing,
+            average_trail,
+            refused: Vec::new(),
+            same_made: Vec::new(),
+        }
+    }
+
+    fn time(&mut self, plan: &mut Subject, edits: &[Edit]) {
+        let memory = &mut plan.memory;
+        memory.set_cap(self.cap);
+        let accepted = timed(EDITS, || make_all(memory, edits, CHECKED));
+        self.accepted.push(accepted);
+        if !self.passing.is_empty() {
+            memory.set_cap(memory.tally[2]);
+            let again = || self.passing.iter().copied().cycle();
+            let refused = timed(EDITS, || {
+                again().take(EDITS).for_each(|edit| refuse(memory, edit));
+            });
+            memory.set_cap(MOST_CAP);
+            let made = timed(EDITS, || {
+                for edit in again().take(EDITS / 2) {
+                    make(memory, edit, CHECKED);
+                    make(memory, edit.inverse(), CHECKED);
+                }
+            });
+            self.refused.push(refused);
+            self.same_made.push(made);
+        }
+        memory.set_cap(MOST_CAP);
+        plan.is_back();
+    }
+}
+
+/// Edits after which the plan has more waves, and their average trail. Tried are random edits, then adds
+/// of two banks of the highest wave. The memory ends as it was, but for trail and moved.
+fn passing(random: &mut Random, clashes: &Clashes, memory: &mut Memory) -> (Vec<Edit>, f64) {
+    let highest = memory.tally[2] - 1;
+    let top: Vec<u16> = (0..BANKS as u16)
+        .filter(|&b| memory.waves[usize::from(b)] == highest)
+        .filter(|&b| clashes.row(b).len() < 23)
+        .collect();
+    let pairs = (0..top.len()).flat_map(|i| (0..i).map(move |j| (i, j)));
+    let within: Vec<Edit> = pairs.map(|(i, j)| Edit::Add(top[i], top[j])).collect();
+    let mut drawn = || match random.below(2) {
+        0 => clashes.random_add(random),
+        _ => clashes.random_strike(random),
+    };
+    let drawn = std::iter::from_fn(|| Some(drawn())).take(TRIES);
+    let (mut passing, mut trail) = (Vec::new(), 0);
+    for edit in drawn.chain(within) {
+        make(memory, edit, CORE);
+        if memory.tally[2] > highest + 1 {
+            passing.push(edit);
+            trail += usize::from(memory.result[1]);
+        }
+        make(memory, edit.inverse(), CORE);
+        if passing.len() == PASSING {
+            break;
+        }
+    }
+    let average = trail as f64 / passing.len().max(1) as f64;
+    (passing, average)
+}
+
 /// The edits of a batch. The clashes end as they were.
 fn batch(random: &mut Random, clashes: &mut Clashes) -> Vec<Edit> {
     let mut edits = Vec::with_capacity(EDITS);
@@ -178,10 +285,18 @@ fn make(memory: &mut Memory, edit: Edit, calls: EditCalls) {
     }
 }
 
+fn refuse(memory: &mut Memory, edit: Edit) {
+    match edit {
+        Edit::Add(a, b) => memory.refused_edit(CHECKED.add, a, b),
+        Edit::Strike(a, b) => memory.refused_edit(CHECKED.strike, a, b),
+    }
+}
+
 /// Makes the edits once, untimed, core and checked side by side, and notes their reach.
 fn reach_of(memory: &mut Memory, edits: &[Edit]) -> Reach {
     let mut checked = memory.clone();
     let (mut trail, mut moved, mut longest_trail) = (0, 0, 0);
+    let mut most_waves = memory.tally[2];
     for &edit in edits {
         make(memory, edit, CORE);
         make(&mut checked, edit, CHECKED);
@@ -189,11 +304,13 @@ fn reach_of(memory: &mut Memory, edits: &[Edit]) -> Reach {
         moved += usize::from(memory.result[0]);
         trail += usize::from(memory.result[1]);
         longest_trail = longest_trail.max(memory.result[1]);
+        most_waves = most_waves.max(memory.tally[2]);
     }
     Reach {
         average_trail: trail as f64 / edits.len() as f64,
         average_moved: moved as f64 / edits.len() as f64,
         longest_trail,
+        most_waves,
     }
 }
 

@@ -1,6 +1,8 @@
 //! Plan memory, and the calls of the static libraries that are timed.
 
-use crate::raw::{wave_plan_add, wave_plan_open, wave_plan_strike, wave_plan_wave_of};
+use crate::raw::{
+    wave_plan_add, wave_plan_open, wave_plan_set_cap, wave_plan_strike, wave_plan_wave_of,
+};
 use crate::BANKS;
 
 /// An edit by the C interface: seven slices, tally, result, and the two banks.
@@ -88,7 +90,8 @@ pub struct Memory {
     pub ranks: Vec<u16>,
     pub trail: Vec<u16>,
     pub moved: Vec<u16>,
-    pub tally: [u16; 3],
+    /// Banks, clashes, waves, cap.
+    pub tally: [u16; 4],
     /// Moved count and trail count, or the wave.
     pub result: [u16; 2],
 }
@@ -104,7 +107,7 @@ impl Memory {
             ranks: vec![0; BANKS],
             trail: vec![0; BANKS],
             moved: vec![0; BANKS],
-            tally: [0; 3],
+            tally: [0; 4],
             result: [0; 2],
         };
         // Sound: each slice is valid for its length, and no two overlap.
@@ -132,8 +135,17 @@ impl Memory {
 
     /// An edit, which must be accepted. The memory holds a plan, as the core edits require.
     pub fn edit(&mut self, call: EditCall, a: u16, b: u16) {
+        assert_eq!(self.number_of(call, a, b), 0);
+    }
+
+    /// An edit that must be refused for the cap.
+    pub fn refused_edit(&mut self, call: EditCall, a: u16, b: u16) {
+        assert_eq!(self.number_of(call, a, b), 20);
+    }
+
+    fn number_of(&mut self, call: EditCall, a: u16, b: u16) -> u16 {
         // Sound: each slice is valid for its length, and no two overlap.
-        let number = unsafe {
+        unsafe {
             call(
                 self.neighbours.as_mut_ptr(),
                 self.neighbours.len(),
@@ -155,6 +167,28 @@ impl Memory {
                 self.result.len(),
                 a,
                 b,
+            )
+        }
+    }
+
+    /// Sets the cap, which must be accepted.
+    pub fn set_cap(&mut self, cap: u16) {
+        // Sound: each slice is valid for its length, and no two overlap.
+        let number = unsafe {
+            wave_plan_set_cap(
+                self.neighbours.as_ptr(),
+                self.neighbours.len(),
+                self.degrees.as_ptr(),
+                self.degrees.len(),
+                self.waves.as_ptr(),
+                self.waves.len(),
+                self.counts.as_ptr(),
+                self.counts.len(),
+                self.ranks.as_ptr(),
+                self.ranks.len(),
+                self.tally.as_mut_ptr(),
+                self.tally.len(),
+                cap,
             )
         };
         assert_eq!(number, 0);

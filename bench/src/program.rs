@@ -173,6 +173,7 @@ fn later_rows(list: &[u8]) -> impl Iterator<Item = Row> + '_ {
     rows.map(|row| later_row(row).expect("an accepted list"))
 }
 
+/// The sheet of a colouring of these clashes.
 fn sheet_of(colouring: &Colouring, clashes: &Clashes) -> Vec<u8> {
     let waves: Vec<usize> = colouring.waves.iter().map(|&w| usize::from(w)).collect();
     let ends: usize = clashes.degrees.iter().map(|&d| usize::from(d)).sum();

@@ -34,6 +34,12 @@ With random ranks from 0 to 9,999, the same clashes and the same edits, a call t
 better). Another order of equal degrees gives other waves, so that the trails are not the same:
 ";
 
+const CAPS: &str = "\
+Under a cap, checked edits against checked edits at cap 24 (lower is better). The accepted ones are those of a repeat, at a cap of the most
+waves that they lead to. The refused ones (20) are edits that would lead to more waves than the plan has, at a cap of its waves; they are
+compared with the same edits, and their inverses, at cap 24. A core edit asks about no cap:
+";
+
 pub fn document(plans: &[Measured], programs: &Programs) -> String {
     let repeats = format!(
         "A repeat times {EDITS} edits, adds and strikes in turn and then their inverses, so that \
@@ -55,6 +61,8 @@ pub fn document(plans: &[Measured], programs: &Programs) -> String {
         ratio_table(plans, question),
         RANKS.to_string(),
         rank_table(plans),
+        CAPS.to_string(),
+        cap_table(plans),
         "![Times relative to a colouring from scratch](benchmarks.svg)\n".to_string(),
         goals(plans),
         program_part(programs),
@@ -141,6 +149,36 @@ fn rank_table(plans: &[Measured]) -> String {
     )
 }
 
+fn cap_table(plans: &[Measured]) -> String {
+    let row = |plan: &Measured| {
+        let caps = &plan.caps;
+        let refused = if caps.passing() == 0 {
+            ["none found".to_string(), "-".to_string(), "-".to_string()]
+        } else {
+            [
+                caps.passing().to_string(),
+                figure(caps.average_trail),
+                Spread::ratio(&caps.refused, &caps.same_made).to_string(),
+            ]
+        };
+        let accepted = Spread::ratio(&caps.accepted, &plan.times.checked).to_string();
+        let front = [plan.clashes.to_string(), caps.cap.to_string(), accepted];
+        [&front[..], &refused].concat()
+    };
+    let rows: Vec<Vec<String>> = plans.iter().map(row).collect();
+    table(
+        &[
+            "clashes",
+            "cap of the accepted",
+            "accepted edit",
+            "refused edits",
+            "their average trail",
+            "refused edit",
+        ],
+        &rows,
+    )
+}
+
 /// The goals, against each base, and whether the medians meet them.
 fn goals(plans: &[Measured]) -> String {
     let distance = |plan: &Measured| (plan.reach.average_trail - 40.0).abs();
@@ -177,6 +215,16 @@ fn goals(plans: &[Measured]) -> String {
         let taken = Spread::ratio(ranked, times);
         let goal = format!("with random ranks {call} takes at most 1.5 times as long");
         rows.push(row(&goal, "ranks 0", taken, taken.median <= 1.5));
+    }
+    let caps = &plan.caps;
+    let taken = Spread::ratio(&caps.accepted, &times.checked);
+    let goal = "under a cap an accepted checked edit takes at most 1.1 times as long";
+    rows.push(row(goal, "cap 24", taken, taken.median <= 1.1));
+    if caps.passing() > 0 {
+        let taken = Spread::ratio(&caps.refused, &caps.same_made);
+        let goal = "a checked edit refused for its cap takes at most 2.5 times as long";
+        let base = "the same edits at cap 24";
+        rows.push(row(goal, base, taken, taken.median <= 2.5));
     }
     format!(
         "## Goals\n\nOn the plan of {} clashes, whose edits have an average trail of {}:\n\n{}",

@@ -6,7 +6,7 @@
 
 #include "wave_plan.h"
 
-enum { ROW = WAVE_PLAN_ROW_CELLS, COUNT = WAVE_PLAN_COUNT_CELLS, TALLY = WAVE_PLAN_TALLY_CELLS, NUMBERS = 19 };
+enum { ROW = WAVE_PLAN_ROW_CELLS, COUNT = WAVE_PLAN_COUNT_CELLS, TALLY = WAVE_PLAN_TALLY_CELLS, CAP = 3, NUMBERS = 21 };
 
 /* A plan's slices: a caller may lend them shorter than they are, by the numbers of cells. */
 typedef struct {
@@ -58,6 +58,38 @@ static void gone(Plan p) {
     for (size_t i = 0; i < sizeof slices / sizeof *slices; i++) free(slices[i]);
 }
 
+/* The slices but the results, and how many bytes they have in memory for so many banks as there are degrees. */
+enum { SLICES = 8 };
+static void slices_of(Plan p, uint16_t *slices[SLICES], size_t bytes[SLICES]) {
+    uint16_t *all[SLICES] = {p.neighbours, p.degrees, p.waves, p.counts, p.ranks, p.trail, p.moved, p.tally};
+    size_t n = p.degrees_cells, counts[SLICES] = {ROW * n, n, n, COUNT * n, n, n, n, TALLY};
+    for (int i = 0; i < SLICES; i++) slices[i] = all[i], bytes[i] = counts[i] * sizeof **all;
+}
+
+/* A copy of memory, in pieces of its own. Trail and moved are all 7 first, so that a call that writes them shows. */
+static Plan copy_of(Plan p) {
+    Plan q = memory(p.degrees_cells, p.result_cells);
+    for (size_t i = 0; i < p.degrees_cells; i++) p.trail[i] = p.moved[i] = 7;
+    uint16_t *from[SLICES], *to[SLICES];
+    size_t bytes[SLICES];
+    slices_of(p, from, bytes);
+    slices_of(q, to, bytes);
+    for (int i = 0; i < SLICES; i++) memcpy(to[i], from[i], bytes[i]);
+    return q;
+}
+
+/* Whether memory is as the copy, but for the results. The copy is gone. */
+static int as_copied(Plan p, Plan q) {
+    uint16_t *now[SLICES], *then[SLICES];
+    size_t bytes[SLICES];
+    int same = 1;
+    slices_of(p, now, bytes);
+    slices_of(q, then, bytes);
+    for (int i = 0; i < SLICES; i++) same = same && !memcmp(now[i], then[i], bytes[i]);
+    gone(q);
+    return same;
+}
+
 /* A plan of n banks without a clash. */
 static Plan opened(uint16_t n, size_t results) {
     Plan p = memory(n, results);
@@ -73,6 +105,14 @@ static uint16_t read_list(Plan p, const char *list) {
 static Plan four_banks(size_t results) {
     Plan p = memory(4, results);
     GIVES(0, read_list(p, four));
+    return p;
+}
+
+/* The six banks of the paper's M8: two waves, and a third if 2 and 5 are struck. */
+static const char six[] = "N 6\n+ 0 4\n+ 0 2\n+ 2 3\n+ 1 3\n+ 1 5\n+ 2 5";
+static Plan six_banks(size_t results) {
+    Plan p = memory(6, results);
+    GIVES(0, read_list(p, six));
     return p;
 }
 
@@ -98,16 +138,20 @@ static void of_open(void) {
     IS(p.tally[0], 4);
     IS(p.tally[1], 0);
     IS(p.tally[2], 1);
+    IS(p.tally[CAP], WAVE_PLAN_MOST_CAP);
     for (int i = 0; i < ROW * 4; i++) IS(p.neighbours[i], WAVE_PLAN_UNUSED);
     for (int i = 0; i < COUNT * 4; i++) IS(p.counts[i], 0);
     for (int b = 0; b < 4; b++) IS(p.degrees[b] + p.waves[b] + p.ranks[b], 0);
+    p.tally[CAP] = 1;
     GIVES(0, wave_plan_open(PLAN(p), TALLY_OF(p), 0));
     IS(p.tally[2], 0);
+    IS(p.tally[CAP], WAVE_PLAN_MOST_CAP);
     gone(p);
 }
 
 #define ADD(a, b) wave_plan_add(PLAN(p), LISTS(p), TALLY_OF(p), RESULT_OF(p), a, b)
 #define STRIKE(a, b) wave_plan_strike(PLAN(p), LISTS(p), TALLY_OF(p), RESULT_OF(p), a, b)
+#define SET_CAP(cap) wave_plan_set_cap(PLAN(p), TALLY_OF(p), cap)
 
 static void of_add(void) {
     Plan p = opened(4, WAVE_PLAN_EDIT_RESULTS);
@@ -139,6 +183,17 @@ static void of_add(void) {
     for (uint16_t b = 1; b <= ROW; b++) GIVES(0, ADD(0, b));
     GIVES(8, ADD(24, 0));
     IS(p.degrees[0], 23);
+    GIVES(0, ADD(1, 24));
+    GIVES(0, SET_CAP(2));
+    Plan before = copy_of(p);
+    GIVES(8, ADD(24, 0)); /* 0, 1 and 24 would need a third wave, and so would 0, 1 and 2 */
+    GIVES(20, ADD(1, 2));
+    IS(p.result[0] + p.result[1], 0);
+    IS(as_copied(p, before), 1);
+    GIVES(0, SET_CAP(3));
+    GIVES(0, ADD(1, 2));
+    IS(p.tally[2], 3);
+    IS(p.tally[CAP], 3);
     gone(p);
     p = opened(3, WAVE_PLAN_EDIT_RESULTS);
     p.ranks[1] = WAVE_PLAN_MOST_RANK; /* bank 2 is now earlier than bank 1 */
@@ -181,6 +236,53 @@ static void of_strike(void) {
     WRONG_RANKS(p, STRIKE(0, 1));
     p.counts[0]++;
     GIVES(3, STRIKE(0, 1));
+    gone(p);
+    p = six_banks(WAVE_PLAN_EDIT_RESULTS);
+    GIVES(0, SET_CAP(2));
+    Plan before = copy_of(p);
+    GIVES(20, STRIKE(2, 5));
+    IS(p.result[0] + p.result[1], 0);
+    IS(as_copied(p, before), 1);
+    GIVES(0, SET_CAP(3));
+    GIVES(0, STRIKE(2, 5));
+    IS(p.result[0], 4);
+    IS(p.result[1], 5);
+    IS(p.tally[2], 3);
+    IS(p.tally[CAP], 3);
+    gone(p);
+}
+
+static void of_set_cap(void) {
+    Plan p = four_banks(WAVE_PLAN_LIST_RESULTS);
+    GIVES(19, SET_CAP(0));
+    GIVES(19, SET_CAP(WAVE_PLAN_MOST_CAP + 1));
+    GIVES(19, SET_CAP(256 + 3));
+    GIVES(20, SET_CAP(1)); /* two waves are in use */
+    SHORT_TALLY(p, SET_CAP(2));
+    WRONG_RANKS(p, SET_CAP(2));
+    IS(p.tally[CAP], WAVE_PLAN_MOST_CAP);
+    for (uint16_t cap = 2; cap <= WAVE_PLAN_MOST_CAP; cap++) {
+        Plan before = copy_of(p);
+        GIVES(0, SET_CAP(cap));
+        IS(p.tally[CAP], cap);
+        before.tally[CAP] = cap;
+        IS(as_copied(p, before), 1);
+    }
+    static const uint16_t wrong[] = {0, 1, WAVE_PLAN_MOST_CAP + 1};
+    for (int i = 0; i < 3; i++) { /* with such a cap the memory holds no plan */
+        p.tally[CAP] = wrong[i];
+        GIVES(3, SET_CAP(5));
+        GIVES(3, SET_CAP(0));
+        IS(p.tally[CAP], wrong[i]);
+    }
+    p.counts_cells--;
+    GIVES(2, SET_CAP(0));
+    p.tally[0] = WAVE_PLAN_MOST_BANKS + 1;
+    GIVES(1, SET_CAP(0));
+    gone(p);
+    p = opened(0, 0);
+    GIVES(0, SET_CAP(1));
+    IS(p.tally[CAP], 1);
     gone(p);
 }
 
@@ -271,7 +373,15 @@ static void of_read_list(void) {
         IS(p.result[0], refused[i].row);
     }
     IS(p.tally[1], 1); /* the rows before the one refused */
+    IS(p.tally[CAP], WAVE_PLAN_MOST_CAP);
     for (int b = 0; b < 4; b++) IS(p.ranks[b], b == 3 ? 5 : 0);
+    GIVES(0, SET_CAP(2));
+    GIVES(10, read_list(p, ""));
+    IS(p.tally[CAP], 2);
+    GIVES(6, read_list(p, "N 4\n+ 0 1\n+ 0 2\n+ 1 2\n+ 0 1")); /* three waves: a list goes by no cap */
+    IS(p.tally[2], 3);
+    IS(p.tally[CAP], WAVE_PLAN_MOST_CAP);
+    GIVES(0, SET_CAP(3));
     SHORT_RESULT(p, read_list(p, four));
     SHORT_TALLY(p, read_list(p, four));
     SHORT_RANKS(p, read_list(p, four));
@@ -294,6 +404,7 @@ static void of_read_list(void) {
     IS(p.result[0], 0);
     IS(p.tally[1], 4);
     IS(p.tally[2], 2);
+    IS(p.tally[CAP], WAVE_PLAN_MOST_CAP);
     for (int b = 0; b < 4; b++) IS(p.ranks[b], 0);
     gone(p);
 }
@@ -450,7 +561,18 @@ static void of_add_recorded(void) {
     size_t size = ALL + ENTRY;
     uint8_t *bytes = copy(size);
     GIVES(6, wave_plan_add_recorded(PLAN(p), LISTS(p), TALLY_OF(p), bytes, size, RESULT_OF(p), 0, 1, ALL));
+    GIVES(0, SET_CAP(2));
+    Plan before = copy_of(p);
+    GIVES(20, RECORD(2, 0, size, ALL));
+    GIVES(20, RECORD(2, 0, size - 1, ALL)); /* before the space is asked about */
+    GIVES(14, RECORD(2, 0, size, ALL - 1));
+    IS(p.result[0] + p.result[1] + p.result[2], 0);
+    IS(as_copied(p, before), 1);
+    IS(memcmp(bytes, journal, ALL) || bytes[ALL], 0);
+    GIVES(0, SET_CAP(3));
+    GIVES(15, RECORD(2, 0, size - 1, ALL));
     GIVES(0, RECORD(2, 0, size, ALL));
+    IS(p.tally[CAP], 3);
     IS(p.result[0], 3);
     IS(p.result[1], 4);
     IS(p.result[2], size);
@@ -472,6 +594,23 @@ static void of_strike_recorded(void) {
     IS(p.result[2], size);
     entry(bytes, WAVE_PLAN_STRIKE_TAG, 3, 0);
     gone(p);
+    p = six_banks(WAVE_PLAN_RECORD_RESULTS); /* in the journal that stands there, of four banks */
+    GIVES(0, SET_CAP(2));
+    uint8_t *old = calloc(size, 1);
+    if (!old) exit(2);
+    memcpy(old, bytes, size);
+    Plan before = copy_of(p);
+    GIVES(20, RECORD(5, 2, size, ALL));
+    GIVES(20, RECORD(5, 2, size, size)); /* before the space is asked about */
+    IS(as_copied(p, before), 1);
+    IS(memcmp(bytes, old, size), 0);
+    GIVES(0, SET_CAP(3));
+    GIVES(15, RECORD(5, 2, size, size));
+    GIVES(0, RECORD(5, 2, size, ALL));
+    IS(p.result[2], size);
+    entry(bytes, WAVE_PLAN_STRIKE_TAG, 5, 2);
+    gone(p);
+    free(old);
     free(bytes);
 }
 
@@ -481,8 +620,11 @@ static void of_replay(void) {
     IS(p.result[0] + p.result[1], 0);
     IS(p.tally[1], 4);
     for (int b = 0; b < 4; b++) IS(p.waves[b], b % 2);
+    IS(p.tally[CAP], WAVE_PLAN_MOST_CAP);
+    GIVES(0, SET_CAP(2));
     GIVES(0, REPLAY(journal, ALL + 1));
     IS(p.result[1], 1);
+    IS(p.tally[CAP], WAVE_PLAN_MOST_CAP);
     GIVES(0, REPLAY(journal, ALL - 1));
     IS(p.result[0], 0);
     IS(p.result[1], ENTRY - 1);
@@ -537,8 +679,8 @@ static void of_replay(void) {
 
 enum { PLACE = WAVE_PLAN_PLACE_CELLS(4), SHELF = WAVE_PLAN_SHELF_CELLS(4) };
 
-/* Where a place has its tally and its ranks. */
-enum { BANKS = 1 + ROW * 4 + 4 + 4 + COUNT * 4, RANKS = BANKS + TALLY };
+/* Where a place has banks, clashes and waves, its ranks, and its cap. */
+enum { BANKS = 1 + ROW * 4 + 4 + 4 + COUNT * 4, RANKS = BANKS + 3, KEPT_CAP = RANKS + 4 };
 
 /* An open shelf for four banks; its other cells are 7. */
 static uint16_t *open_shelf(void) {
@@ -597,6 +739,7 @@ static void of_keep(void) {
     p.counts_cells++;
     WRONG_RANKS(p, keep(p, shelf, SHELF, "NOON    "));
     p.ranks[3] = 5; /* the last of all still */
+    GIVES(0, SET_CAP(9));
     for (int i = 0; i < SHELF; i++) IS(shelf[i], i % PLACE ? 7 : 0);
     GIVES(0, keep(p, shelf, SHELF, "NOON    "));
     for (int i = 0; i < SHELF; i++)
@@ -612,6 +755,8 @@ static void of_keep(void) {
     IS(place[BANKS + 1], 4);
     IS(place[BANKS + 2], 2);
     for (int b = 0; b < 4; b++) IS(place[RANKS + b], b == 3 ? 5 : 0);
+    IS(KEPT_CAP, PLACE - 1);
+    IS(place[KEPT_CAP], 9);
     GIVES(0, keep(p, shelf, SHELF, "MORNING "));
     GIVES(0, keep(p, shelf, SHELF, "CLOSE   "));
     for (int i = 0; i < PLACE; i++) IS(shelf[i] == place[i] && place[PLACE + i] == place[i], 1);
@@ -619,6 +764,7 @@ static void of_keep(void) {
     GIVES(0, keep(p, shelf, SHELF, "NOON    ")); /* kept again */
     IS(place[BANKS + 1], 1);
     IS(place[RANKS + 3], 0);
+    IS(place[KEPT_CAP], WAVE_PLAN_MOST_CAP);
     IS(shelf[BANKS + 1] + place[PLACE + BANKS + 1], 8);
     place[0] = 2;
     GIVES(3, keep(p, shelf, SHELF, "CLOSE   "));
@@ -626,6 +772,12 @@ static void of_keep(void) {
     place[RANKS + 3] = WAVE_PLAN_MOST_RANK + 1;
     GIVES(3, keep(p, shelf, SHELF, "CLOSE   "));
     place[RANKS + 3] = 0;
+    static const uint16_t wrong[] = {0, 1, WAVE_PLAN_MOST_CAP + 1};
+    for (int i = 0; i < 3; i++) { /* out of span, or below the two waves */
+        place[KEPT_CAP] = wrong[i];
+        GIVES(3, keep(p, shelf, SHELF, "CLOSE   "));
+    }
+    place[KEPT_CAP] = 2;
     place[BANKS] = 3; /* the clash is one of three banks as well */
     GIVES(3, keep(p, shelf, SHELF, "NOON    ")); /* the place to be replaced is asked about too */
     GIVES(3, keep(p, shelf, SHELF, ""));
@@ -646,10 +798,12 @@ static void of_come_back(void) {
     GIVES(17, come_back(p, shelf, SHELF, "NOON    "));
     IS(p.result[0], 0);
     p.ranks[3] = 5;
+    GIVES(0, SET_CAP(2));
     GIVES(0, keep(p, shelf, SHELF, "NOON    "));
     uint16_t *copy_of_shelf = cells(SHELF);
     memcpy(copy_of_shelf, shelf, SHELF * sizeof *shelf);
     GIVES(0, read_list(p, "N 4\n+ 0 1\n+ 1 2\n+ 2 3\n+ 0 3\n+ 0 2")); /* waves 0 2 1 2 */
+    GIVES(0, SET_CAP(8));
     p.moved[3] = 7;
     p.trail[0] = 7;
     for (int i = 0; i < UNKNOWN; i++) GIVES(16, come_back(p, shelf, SHELF, unknown[i]));
@@ -677,6 +831,7 @@ static void of_come_back(void) {
     IS(p.trail[0], 7);
     IS(p.tally[1], 4);
     IS(p.tally[2], 2);
+    IS(p.tally[CAP], 2); /* that of the plan kept */
     IS(memcmp(shelf, copy_of_shelf, SHELF * sizeof *shelf), 0);
     GIVES(0, keep(p, shelf, SHELF, "NOON    "));
     IS(memcmp(shelf, copy_of_shelf, SHELF * sizeof *shelf), 0); /* the same plan, cell by cell */
@@ -687,6 +842,11 @@ static void of_come_back(void) {
     shelf[PLACE + RANKS] = 6; /* bank 0 is then later than bank 1 */
     GIVES(3, come_back(p, shelf, SHELF, "NOON    "));
     shelf[PLACE + RANKS] = 0;
+    shelf[PLACE + KEPT_CAP] = 1;
+    GIVES(3, come_back(p, shelf, SHELF, "NOON    "));
+    shelf[PLACE + KEPT_CAP] = WAVE_PLAN_MOST_CAP;
+    GIVES(0, come_back(p, shelf, SHELF, "NOON    "));
+    IS(p.tally[CAP], WAVE_PLAN_MOST_CAP);
     p.counts[0]++;
     GIVES(3, come_back(p, shelf, SHELF, "NOON    "));
     p.tally[0] = WAVE_PLAN_MOST_BANKS + 1;
@@ -704,6 +864,7 @@ int main(void) {
     } calls[] = {{"wave_plan_open", of_open},
                  {"wave_plan_add", of_add},
                  {"wave_plan_strike", of_strike},
+                 {"wave_plan_set_cap", of_set_cap},
                  {"wave_plan_wave_of", of_wave_of},
                  {"wave_plan_clashes_of", of_clashes_of},
                  {"wave_plan_wave_bound", of_wave_bound},

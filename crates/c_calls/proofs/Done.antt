@@ -9,6 +9,7 @@ use Rattle.memory.specs.Cells.{over}
 use Rattle.memory.specs.Plan.{Slices}
 use Rattle.memory.specs.Memory.{Memory, memoryOf}
 use Rattle.planner.specs.Calls.{OpenResult, opened, planNumber, bankNumber, waveOf, clashesOf}
+use Rattle.edit_calls.specs.Calls.{CapResult, setCap}
 use Rattle.wave_bounds.specs.Calls.{boundOf}
 use Rattle.journal.specs.Calls.{RecordResult, recorded}
 use Rattle.checkpoints.specs.Calls.{ShelfResult, shelfResult, keep, BackResult, comeBack}
@@ -18,7 +19,7 @@ use Rattle.c_cells.proofs.Calls.{on-memory, put-as, refused, called}
 use Rattle.c_calls.specs.declared.sources.Source.{Source}
 use Rattle.c_calls.specs.declared.sources.Source.the-variants.{FromList, FromJournal}
 use Rattle.c_calls.specs.declared.sources.Made.{Made}
-use Rattle.c_calls.specs.Calls.{openAnswered, openDone, openCall, listOutcome, listCall, readAnswered, waveDone, waveCall, boundDone, boundCall}
+use Rattle.c_calls.specs.Calls.{openAnswered, openDone, openCall, capAnswered, capDone, capCall, listOutcome, listCall, readAnswered, waveDone, waveCall, boundDone, boundCall}
 use Rattle.c_calls.specs.Calls.{rowStart, clashesDone, clashesCall, TextOutcome, textAnswered, textDone, textCall}
 use Rattle.c_calls.specs.Journals.{recordAnswered, recordDone, recordCall, replayOutcome, replayCall}
 use Rattle.c_calls.specs.Shelves.{keepCall, backAnswered, backDone, comeBackCall}
@@ -37,6 +38,18 @@ module _ (s : Slices) (tally : List ℕ) (short : ℕ) (is : short ≡ shortNumb
       ap (openAnswered (o .number) (o .slices)) put
       ∙ ap (λ (x : OpenResult). openDone x tally) (made ∙ ap (opened n s) at)
       ∙ roomed-none 0 (length tally) 0 short is (λ c. openAnswered c s tally) _ none
+
+  pub cap-done : (cap : ℕ) (t : Tally) (o : CapResult) (tally′ : List ℕ)
+      → short ≡ 0
+      → t ≡ tallyIn tally
+      → o ≡ setCap cap s t
+      → tally′ ≡ over (tallyCells (o .tally)) tally
+      → capAnswered (o .number) tally′ ≡ capCall cap s tally
+  unfolding capCall capDone
+  cap-done cap t o tally′ none at made put =
+      ap (capAnswered (o .number)) put
+      ∙ ap (λ (x : CapResult). capDone x tally) (made ∙ ap (setCap cap s) at)
+      ∙ roomed-none 0 (length tally) 0 short is (λ c. capAnswered c tally) _ none
 
 -- a call whose only result is one number
 module _ (tally result : List ℕ) (short : ℕ) (t : Tally) (at : t ≡ tallyIn tally) (none : short ≡ 0) where

@@ -6,7 +6,8 @@ use Rattle.rule.specs.declared.Kind.{Kind}
 use Rattle.memory.specs.declared.Tally.{Tally}
 use Rattle.memory.specs.Cells.{over}
 use Rattle.memory.specs.Plan.{Slices}
-use Rattle.planner.specs.Calls.{OpenResult, opened, edit, planNumber, bankNumber, waveOf, clashesOf}
+use Rattle.planner.specs.Calls.{OpenResult, opened, planNumber, bankNumber, waveOf, clashesOf}
+use Rattle.edit_calls.specs.Calls.{edit, CapResult, setCap}
 use Rattle.wave_bounds.specs.Calls.{boundOf}
 use Rattle.list_reader.specs.Pass.{ListResult, readList}
 use Rattle.wave_lines.specs.Calls.{TextResult}
@@ -34,6 +35,22 @@ openCall n s tally = roomed (shortNumber 0 (length tally) 0) (λ c. openAnswered
 -- wave_plan_add and wave_plan_strike
 unfoldable pub editCall : Kind → ℕ → ℕ → CellMemory → Answered
 editCall k a b l = onCells 2 (λ m. editOutcome (edit k a b m)) l
+
+-- what set_cap answers and leaves
+pub record CapAnswered : Type 0 where
+  pub number : ℕ
+  pub tally : List ℕ
+
+abbrev pub capAnswered : ℕ → List ℕ → CapAnswered
+capAnswered number tally = record { number = number; tally = tally }
+
+-- the tally is put into its cells
+unfoldable pub capDone : CapResult → List ℕ → CapAnswered
+capDone o tally = capAnswered (o .number) (over (tallyCells (o .tally)) tally)
+
+-- wave_plan_set_cap
+unfoldable pub capCall : ℕ → Slices → List ℕ → CapAnswered
+capCall cap s tally = roomed (shortNumber 0 (length tally) 0) (λ c. capAnswered c tally) (capDone (setCap cap s (tallyIn tally)) tally)
 
 -- the result of a list: the row
 abbrev pub listOutcome : ListResult → Outcome

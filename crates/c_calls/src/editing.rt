@@ -1,14 +1,17 @@
-// The edits of one clash. Their results are the moved count and the trail count.
+// The edits of one clash, whose results are the moved count and the trail count; and the cap.
 use c_cells::put_answer;
+use c_cells::put_tally;
 use c_cells::room;
 use c_cells::tally_in;
-use planner::edit_core;
+use edit_calls::edit_core;
+use edit_calls::set_cap_core;
 use rule::Bank;
 use rule::Kind;
 ghost use mathlib.Core.Path.{_≡_};
 ghost use Rattle.c_cells.specs.CellMemory.{answered};
 ghost use Rattle.c_cells.specs.Lent.{cellsBefore, cellsAfter};
-ghost use Rattle.c_calls.specs.Calls.{editCall};
+ghost use Rattle.memory.specs.Lent.{slicesBefore};
+ghost use Rattle.c_calls.specs.Calls.{editCall, capAnswered, capCall};
 
 const EDIT_RESULTS: usize = 2;
 
@@ -50,4 +53,27 @@ pub fn edit_in(
     );
     put_answer(tally, result, r.tally, &[r.answer.moved, r.answer.trail]);
     r.answer.number
+}
+
+// Sets the cap of the plan.
+pub fn set_cap_in(
+    neighbours: &[u16],
+    degrees: &[u16],
+    waves: &[u16],
+    counts: &[u16],
+    ranks: &[u16],
+    tally: &mut [u16],
+    cap: u16,
+) -> u16
+    ensures { λ r. ⌜ capAnswered r (now (tally .exit))
+        ≡ capCall cap (slicesBefore neighbours degrees waves counts ranks) (now (tally .entry)) ⌝ }
+{
+    let short = room(tally.len(), 0, 0);
+    if short != 0 {
+        return short;
+    }
+    let t = tally_in(tally);
+    let r = set_cap_core(neighbours, degrees, waves, counts, ranks, t, cap);
+    put_tally(tally, r.tally);
+    r.number
 }

@@ -8,6 +8,7 @@ mod sources;
 mod texts;
 
 pub use editing::edit_in;
+pub use editing::set_cap_in;
 pub use plan::clashes_of_in;
 pub use plan::open_in;
 pub use plan::wave_bound_in;

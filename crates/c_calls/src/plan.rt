@@ -1,8 +1,8 @@
 // Opening a plan, and reading one bank of it, or how many waves it has at most.
-use c_cells::put_front;
 use c_cells::put_tally;
 use c_cells::room;
 use c_cells::tally_in;
+use memory::put_front;
 use planner::clashes_of;
 use planner::open_core;
 use planner::wave_of;

@@ -1,9 +1,9 @@
 // The calls that write bytes of the plan to the front of a slice. The result is how many they are.
-use c_cells::put_front;
 use c_cells::room;
 use c_cells::tally_in;
 use journal::start_journal;
 use memory::Tally;
+use memory::put_front;
 use poster_writer::write_poster;
 use sheet_writer::write_sheet;
 ghost use mathlib.Core.Path.{_≡_};

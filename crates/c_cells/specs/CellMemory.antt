@@ -12,15 +12,15 @@ use Rattle.planner.specs.Calls.{EditResult}
 
 -- the cells of a tally slice
 abbrev pub tallySize : ℕ
-tallySize = 3
+tallySize = 4
 
 -- the tally that the front cells of its slice give
 unfoldable pub tallyIn : List ℕ → Tally
-tallyIn cells = record { banks = getD cells 0 0; clashes = getD cells 1 0; waves = getD cells 2 0 }
+tallyIn cells = record { banks = getD cells 0 0; clashes = getD cells 1 0; waves = getD cells 2 0; cap = getD cells 3 0 }
 
 -- the cells of a tally
 unfoldable pub tallyCells : Tally → List ℕ
-tallyCells t = t .banks ∷ t .clashes ∷ t .waves ∷ []
+tallyCells t = t .banks ∷ t .clashes ∷ t .waves ∷ t .cap ∷ []
 
 -- 2 if a tally slice of so many cells is short, or a result slice of so many has fewer than the call needs; else 0
 unfoldable pub shortNumber : ℕ → ℕ → ℕ → ℕ

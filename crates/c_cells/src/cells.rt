@@ -1,5 +1,6 @@
 // Reading a tally from its cells, and putting tallies and results into theirs.
 use memory::Tally;
+use memory::put_front;
 ghost use mathlib.Core.Path.{_≡_};
 ghost use Prim.Native.Nat.{_≤_};
 ghost use lib.ListN.{length};
@@ -7,8 +8,8 @@ ghost use Rattle.memory.specs.Cells.{over};
 ghost use Rattle.c_cells.specs.CellMemory.{tallySize, tallyIn, tallyCells, shortNumber};
 ghost use Rattle.c_cells.specs.inner.Enough.{Enough};
 
-// The cells of a tally slice: banks, clashes, waves.
-const TALLY_CELLS: usize = 3;
+// The cells of a tally slice: banks, clashes, waves, cap.
+const TALLY_CELLS: usize = 4;
 
 // 2 if a tally slice of so many cells is short, or a result slice of so many has fewer than the call needs; else 0.
 pub fn room(tally: usize, result: usize, needed: usize) -> u16
@@ -33,18 +34,7 @@ pub fn tally_in(cells: &[u16]) -> Tally
         banks: cells[0],
         clashes: cells[1],
         waves: cells[2],
-    }
-}
-
-// Puts these cells at the front of a slice.
-pub fn put_front(slice: &mut [u16], cells: &[u16])
-    requires { ⌜ length (now cells) ≤ length (now slice) ⌝ }
-    ensures { λ r. ⌜ now (slice .exit) ≡ over (now (cells .entry)) (now (slice .entry)) ⌝ }
-{
-    let mut i = 0;
-    while i < cells.len() {
-        slice[i] = cells[i];
-        i += 1;
+        cap: cells[3],
     }
 }
 
@@ -53,7 +43,7 @@ pub fn put_tally(cells: &mut [u16], tally: Tally)
     requires { ⌜ tallySize ≤ length (now cells) ⌝ }
     ensures { λ r. ⌜ now (cells .exit) ≡ over (tallyCells tally) (now (cells .entry)) ⌝ }
 {
-    put_front(cells, &[tally.banks, tally.clashes, tally.waves]);
+    put_front(cells, &[tally.banks, tally.clashes, tally.waves, tally.cap]);
 }
 
 // Puts the tally and the results that a call leaves at the fronts of their slices.

@@ -2,7 +2,6 @@
 mod cells;
 
 pub use cells::put_answer;
-pub use cells::put_front;
 pub use cells::put_tally;
 pub use cells::room;
 pub use cells::tally_in;

@@ -71,9 +71,15 @@ module _ (s : Slices) (t : Tally) (l : Long (t .banks) s) where
   abbrev pub ranks : List ℕ
   ranks = take n (s .ranks)
 
+  abbrev pub cap : List ℕ
+  cap = t .cap ∷ []
+
   -- what is left to put
+  abbrev pub from-ranks : List ℕ
+  from-ranks = ranks ++ cap
+
   abbrev pub from-tally : List ℕ
-  from-tally = tally ++ ranks
+  from-tally = tally ++ from-ranks
 
   abbrev pub from-counts : List ℕ
   from-counts = counts ++ from-tally
@@ -102,8 +108,11 @@ module _ (s : Slices) (t : Tally) (l : Long (t .banks) s) where
   pub length-ranks : length ranks ≡ n
   length-ranks = length-take-le n (s .ranks) (l .ranks)
 
+  pub length-from-ranks : ranksAt n + length from-ranks ≡ placeSize n
+  length-from-ranks = omega (arith, length-ranks, length-append ranks cap)
+
   pub length-from-tally : tallyAt n + length from-tally ≡ placeSize n
-  length-from-tally = omega (arith, length-ranks, length-append tally ranks)
+  length-from-tally = omega (arith, length-from-ranks, length-append tally from-ranks)
 
   pub length-from-counts : countsAt n + length from-counts ≡ placeSize n
   length-from-counts = omega (arith, length-counts, length-from-tally, length-append counts from-tally)
@@ -121,13 +130,13 @@ module _ (s : Slices) (t : Tally) (l : Long (t .banks) s) where
   unfolding placeCells
   length-placeCells = omega (arith, length-from-rows, length-append (1 ∷ []) from-rows)
 
-  pub plan-put : (at : ℕ) (shelf : List ℕ) → at + placeSize n ≤ length shelf → (rs ds cs r₀ r₁ r₂ r₃ r₄ r₅ r₆ : ℕ) (s₀ s₁ s₂ s₃ s₄ s₅ s₆ : List ℕ)
+  pub plan-put : (at : ℕ) (shelf : List ℕ) → at + placeSize n ≤ length shelf → (rs ds cs r₀ r₁ r₂ r₃ r₄ r₅ r₆ r₇ : ℕ) (s₀ s₁ s₂ s₃ s₄ s₅ s₆ s₇ : List ℕ)
       → rs ≡ 23 * n → ds ≡ n → cs ≡ 24 * n
       → Copied (1 ∷ []) 1 at shelf r₀ s₀ → Copied (s .neighbours) rs r₀ s₀ r₁ s₁ → Copied (s .degrees) ds r₁ s₁ r₂ s₂
       → Copied (s .waves) ds r₂ s₂ r₃ s₃ → Copied (s .counts) cs r₃ s₃ r₄ s₄ → Copied tally 3 r₄ s₄ r₅ s₅ → Copied (s .ranks) ds r₅ s₅ r₆ s₆
-      → s₆ ≡ put (placeCells s t) at shelf
+      → Copied cap 1 r₆ s₆ r₇ s₇ → s₇ ≡ put (placeCells s t) at shelf
   unfolding placeCells
-  plan-put at shelf room rs ds cs r₀ r₁ r₂ r₃ r₄ r₅ r₆ s₀ s₁ s₂ s₃ s₄ s₅ s₆ er ed ec c₀ c₁ c₂ c₃ c₄ c₅ c₆ =
+  plan-put at shelf room rs ds cs r₀ r₁ r₂ r₃ r₄ r₅ r₆ r₇ s₀ s₁ s₂ s₃ s₄ s₅ s₆ s₇ er ed ec c₀ c₁ c₂ c₃ c₄ c₅ c₆ c₇ =
       let p₀ : Puts (1 ∷ []) at shelf r₀ s₀ = copied-puts (1 ∷ []) 1 at shelf r₀ s₀ (omega arith) c₀ in
       let p₁ : Puts rows r₀ s₀ r₁ s₁ = copied-puts (s .neighbours) (23 * n) r₀ s₀ r₁ s₁ (l .neighbours) (rw er at c₁) in
       let p₂ : Puts degrees r₁ s₁ r₂ s₂ = copied-puts (s .degrees) n r₁ s₁ r₂ s₂ (l .degrees) (rw ed at c₂) in
@@ -135,6 +144,7 @@ module _ (s : Slices) (t : Tally) (l : Long (t .banks) s) where
       let p₄ : Puts counts r₃ s₃ r₄ s₄ = copied-puts (s .counts) (24 * n) r₃ s₃ r₄ s₄ (l .counts) (rw ec at c₄) in
       let p₅ : Puts tally r₄ s₄ r₅ s₅ = copied-puts tally 3 r₄ s₄ r₅ s₅ (omega arith) c₅ in
       let p₆ : Puts ranks r₅ s₅ r₆ s₆ = copied-puts (s .ranks) n r₅ s₅ r₆ s₆ (l .ranks) (rw ed at c₆) in
+      let p₇ : Puts cap r₆ s₆ r₇ s₇ = copied-puts cap 1 r₆ s₆ r₇ s₇ (omega arith) c₇ in
       let e₀ : length s₀ ≡ length shelf = puts-long (1 ∷ []) at shelf r₀ s₀ p₀ (omega arith) in
       let n₀ : r₀ ≡ at + 1 = c₀ .next in
       let e₁ : length s₁ ≡ length shelf = puts-long rows r₀ s₀ r₁ s₁ p₁ (omega (arith, length-rows)) ∙ e₀ in
@@ -145,12 +155,15 @@ module _ (s : Slices) (t : Tally) (l : Long (t .banks) s) where
       let n₃ : r₃ ≡ at + countsAt n = omega (arith, c₃ .next) in
       let e₄ : length s₄ ≡ length shelf = puts-long counts r₃ s₃ r₄ s₄ p₄ (omega (arith, length-counts)) ∙ e₃ in
       let n₄ : r₄ ≡ at + tallyAt n = omega (arith, c₄ .next) in
-      let q₅ = puts-more tally r₄ s₄ r₅ s₅ p₅ ranks r₆ s₆ (omega (arith, length-from-tally)) p₆ in
-      let q₄ = puts-more counts r₃ s₃ r₄ s₄ p₄ from-tally r₆ s₆ (omega (arith, length-from-counts)) q₅ in
-      let q₃ = puts-more waves r₂ s₂ r₃ s₃ p₃ from-counts r₆ s₆ (omega (arith, length-from-waves)) q₄ in
-      let q₂ = puts-more degrees r₁ s₁ r₂ s₂ p₂ from-waves r₆ s₆ (omega (arith, length-from-degrees)) q₃ in
-      let q₁ = puts-more rows r₀ s₀ r₁ s₁ p₁ from-degrees r₆ s₆ (omega (arith, length-from-rows)) q₂ in
-      puts-more (1 ∷ []) at shelf r₀ s₀ p₀ from-rows r₆ s₆ (omega (arith, length-from-rows, length-append (1 ∷ []) from-rows)) q₁ .left
+      let e₅ : length s₅ ≡ length shelf = puts-long tally r₄ s₄ r₅ s₅ p₅ (omega arith) ∙ e₄ in
+      let n₅ : r₅ ≡ at + ranksAt n = omega (arith, c₅ .next) in
+      let q₆ = puts-more ranks r₅ s₅ r₆ s₆ p₆ cap r₇ s₇ (omega (arith, length-from-ranks)) p₇ in
+      let q₅ = puts-more tally r₄ s₄ r₅ s₅ p₅ from-ranks r₇ s₇ (omega (arith, length-from-tally)) q₆ in
+      let q₄ = puts-more counts r₃ s₃ r₄ s₄ p₄ from-tally r₇ s₇ (omega (arith, length-from-counts)) q₅ in
+      let q₃ = puts-more waves r₂ s₂ r₃ s₃ p₃ from-counts r₇ s₇ (omega (arith, length-from-waves)) q₄ in
+      let q₂ = puts-more degrees r₁ s₁ r₂ s₂ p₂ from-waves r₇ s₇ (omega (arith, length-from-degrees)) q₃ in
+      let q₁ = puts-more rows r₀ s₀ r₁ s₁ p₁ from-degrees r₇ s₇ (omega (arith, length-from-rows)) q₂ in
+      puts-more (1 ∷ []) at shelf r₀ s₀ p₀ from-rows r₇ s₇ (omega (arith, length-from-rows, length-append (1 ∷ []) from-rows)) q₁ .left
 
 -- coming back
 module _ (n : ℕ) (cells : List ℕ) (s : Slices) where

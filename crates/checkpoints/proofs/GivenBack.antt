@@ -1,15 +1,16 @@
--- Coming back to a plan that is kept gives it back.
+-- Coming back to a plan that is kept gives it back, with its cap.
 use mathlib.Core.Bool.{true}
 use mathlib.Core.List.{List}
 use mathlib.Core.Path.{_≡_, refl, _∙_}
 use Prim.Native.Nat.{ℕ, _*_, _≤_, _<_}
 use native.Mathlib.Omega.{arith}
+use lib.Dec.{T}
 use lib.ListN.{length, take, drop}
 use lib.Seq.{length-take-le}
 use Rattle.rule.specs.Graph.{Graph}
 use Rattle.memory.specs.declared.Tally.{Tally}
 use Rattle.memory.specs.Cells.{over}
-use Rattle.memory.specs.Plan.{Slices, longEnough, PlanOf}
+use Rattle.memory.specs.Plan.{Slices, longEnough, capFits, PlanOf}
 use Rattle.memory.proofs.Views.{tally-banks}
 use Rattle.memory.proofs.Theorems.{long}
 use Rattle.planner.proofs.Numbers.{held-number}
@@ -29,7 +30,7 @@ over-front k xs ys h = first (take k xs) (drop (length (take k xs)) ys) k (lengt
 
 -- coming back to a plan that is kept
 module _ (name : List ℕ) (near : placeOf name < 3) (s : Slices) (t : Tally) (enough : longEnough (t .banks) s ≡ true) (shelf : List ℕ)
-    (kept : KeptOn name s t shelf) (G : Graph) (s′ : Slices) (t′ : Tally) (plan : PlanOf G s′ t′) (same : t′ .banks ≡ t .banks)
+    (kept : KeptOn name s t shelf) (G : Graph) (s′ : Slices) (t′ : Tally) (plan : PlanOf G s′ t′) (fits : T (capFits t′)) (same : t′ .banks ≡ t .banks)
     (moved : List ℕ) (room : t .banks ≤ length moved) where
   abbrev n : ℕ
   n = t .banks
@@ -39,7 +40,7 @@ module _ (name : List ℕ) (near : placeOf name < 3) (s : Slices) (t : Tally) (e
 
   can-keep : keepNumber s′ t′ name shelf ≡ 0
   can-keep =
-      keep-fine s′ t′ name shelf (shelf-fine (t′ .banks) shelf few (rw same (kept .room))) (held-number G s′ t′ plan)
+      keep-fine s′ t′ name shelf (shelf-fine (t′ .banks) shelf few (rw same (kept .room))) (held-number G s′ t′ plan fits)
       (rw same (kept .right)) near
 
   here-used : used (place n (placeOf name) shelf) ≡ true

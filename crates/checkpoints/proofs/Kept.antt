@@ -5,7 +5,7 @@ use Prim.Native.Nat.{ℕ, _+_, _*_}
 use native.Mathlib.Nat.{add-zero}
 use native.Mathlib.Omega.{arith}
 use lib.ListN.{length, getD, take, drop}
-use lib.Seq.{drop-length, take-all, getD-drop}
+use lib.Seq.{drop-length, getD-drop}
 use Rattle.rule.specs.Graph.{Graph}
 use Rattle.rule.specs.Wave.{waves}
 use Rattle.memory.specs.declared.Tally.{Tally}
@@ -15,7 +15,7 @@ use Rattle.memory.specs.inner.View.{Long}
 use Rattle.memory.proofs.Views.{tally-banks}
 use Rattle.memory.proofs.Theorems.{long, long-enough, length-neighbourCells, length-degreeCells, length-waves, length-countCells}
 use Rattle.memory.proofs.Theorems.{length-rankCells}
-use Rattle.shelf.specs.Shelf.{degreesAt, wavesAt, countsAt, tallyAt, ranksAt, part, place, slicesIn, tallyIn, placeCells}
+use Rattle.shelf.specs.Shelf.{degreesAt, wavesAt, countsAt, tallyAt, ranksAt, capAt, part, place, slicesIn, tallyIn, placeCells}
 use Rattle.checkpoints.specs.Calls.{overAll}
 use Rattle.shelf.proofs.Putting.{skip, first}
 use Rattle.checkpoints.proofs.Calls as cells
@@ -55,8 +55,15 @@ module _ (s : Slices) (t : Tally) (l : Long (t .banks) s) where
       let e : tallyAt n + m ≡ countsAt n + (24 * n + m) = omega arith in
       rw e (past-waves (24 * n + m)) ∙ skip (cells.counts s t l) (cells.from-tally s t l) (24 * n + m) m (omega (arith, cells.length-counts s t l))
 
-  past-tally : drop (ranksAt n) (placeCells s t) ≡ cells.ranks s t l
-  past-tally = let e : ranksAt n ≡ tallyAt n + 3 = omega arith in rw e (past-counts 3)
+  past-tally : (m : ℕ) → drop (ranksAt n + m) (placeCells s t) ≡ drop m (cells.from-ranks s t l)
+  past-tally m =
+      let e : ranksAt n + m ≡ tallyAt n + (3 + m) = omega arith in
+      rw e (past-counts (3 + m)) ∙ skip (cells.tally s t l) (cells.from-ranks s t l) (3 + m) m (omega arith)
+
+  past-ranks : drop (capAt n) (placeCells s t) ≡ cells.cap s t l
+  past-ranks =
+      let e : capAt n ≡ ranksAt n + n = omega arith in
+      rw e (past-tally n) ∙ skip (cells.ranks s t l) (cells.cap s t l) n 0 (omega (arith, cells.length-ranks s t l))
 
   part-rows : part 1 (23 * n) (placeCells s t) ≡ cells.rows s t l
   unfolding placeCells
@@ -74,7 +81,7 @@ module _ (s : Slices) (t : Tally) (l : Long (t .banks) s) where
       ∙ first (cells.counts s t l) (cells.from-tally s t l) (24 * n) (cells.length-counts s t l)
 
   part-ranks : part (ranksAt n) n (placeCells s t) ≡ cells.ranks s t l
-  part-ranks = ap (take n) past-tally ∙ take-all n (cells.ranks s t l) (omega (arith, cells.length-ranks s t l))
+  part-ranks = ap (take n) (rw (add-zero (ranksAt n)) at (past-tally 0)) ∙ first (cells.ranks s t l) (cells.cap s t l) n (cells.length-ranks s t l)
 
   pub kept-slices : slicesIn n (placeCells s t) ≡ fronts n s
   unfolding slicesIn
@@ -87,9 +94,13 @@ module _ (s : Slices) (t : Tally) (l : Long (t .banks) s) where
       ∙ ap (λ (x : List ℕ). getD x 0 0) (past-counts j)
       ∙ rw (add-zero j) at (getD-drop j (cells.from-tally s t l) 0 0)
 
+  -- and of its cap
+  cap-cell : getD (placeCells s t) (capAt n) 0 ≡ t .cap
+  cap-cell = rw (add-zero (capAt n)) at (sym (getD-drop (capAt n) (placeCells s t) 0 0)) ∙ ap (λ (x : List ℕ). getD x 0 0) past-ranks
+
   pub kept-tally : tallyIn n (placeCells s t) ≡ t
   unfolding tallyIn
-  kept-tally = rw (rw (add-zero (tallyAt n)) at (tally-cell 0), tally-cell 1, tally-cell 2) refl
+  kept-tally = rw (rw (add-zero (tallyAt n)) at (tally-cell 0), tally-cell 1, tally-cell 2, cap-cell) refl
 
 -- a slice that starts with these cells
 front-is : (front xs : List ℕ) (k : ℕ) → length front ≡ k → over front xs ≡ xs → take k xs ≡ front

@@ -1,5 +1,5 @@
 -- What an accepted coming back leaves.
-use mathlib.Core.Bool.{Bool, true, _&&_, _||_, not}
+use mathlib.Core.Bool.{Bool, true, _&&_, not}
 use mathlib.Core.List.{List}
 use mathlib.Core.Logic.{_↔_}
 use mathlib.Core.Path.{_≡_, refl, sym, ap, _∙_, subst}
@@ -17,16 +17,16 @@ use Rattle.rule.proofs.Lists.{in-filter, filter-in, in-upto, filter-cong, upto-
 use Rattle.rule.proofs.Sorting.{sorted-filter, sorted-upto}
 use Rattle.memory.specs.declared.Tally.{Tally}
 use Rattle.memory.specs.Cells.{over}
-use Rattle.memory.specs.Plan.{Slices, longEnough, planIn, graphIn, holds, PlanOf}
+use Rattle.memory.specs.Plan.{Slices, longEnough, planIn, graphIn, capFits, holds, PlanOf}
 use Rattle.memory.proofs.Theorems.{long, holds-plan, plan-again, long-again, held-of}
 use Rattle.planner.proofs.Numbers.{none}
 use Rattle.shelf.specs.Names.{placeOf, known}
-use Rattle.shelf.specs.Shelf.{degreesAt, wavesAt, countsAt, ranksAt, placeSize, part, place, used, slicesIn, tallyIn, holdsIn, placeRight, shelfRight}
+use Rattle.shelf.specs.Shelf.{degreesAt, wavesAt, countsAt, ranksAt, placeSize, part, place, used, slicesIn, tallyIn, holdsIn, shelfRight}
 use Rattle.checkpoints.specs.Calls.{shelfLong, backNumber, differing, overAll, cameBack, backBy, comeBack, backResult}
 use Rattle.checkpoints.specs.Between.{clashesKept}
 use Rattle.shelf.proofs.Putting.{first}
 use Rattle.checkpoints.proofs.Kept.{fronts, exactly, fronts-exactly, over-exactly}
-use Rattle.checkpoints.proofs.Shelves.{each-right}
+use Rattle.checkpoints.proofs.Shelves.{used-holds, used-plan, used-cap}
 
 -- an accepted coming back, to whatever is kept
 module _ (name : List ℕ) (s : Slices) (t : Tally) (moved shelf : List ℕ) where
@@ -80,11 +80,7 @@ module _ (name : List ℕ) (s : Slices) (t : Tally) (moved shelf : List ℕ) whe
 
     -- the place holds a plan of as many banks
     place-holds : holdsIn banks cells ≡ true
-    unfolding placeRight used
-    place-holds = go (getD cells 0 0) (ok .is-used) (each-right banks shelf (ok .right) (placeOf name) (ok .near))
-      where
-        go : (c : ℕ) → eqb c 1 ≡ true → (eqb c 0 || (eqb c 1 && holdsIn banks cells)) ≡ true → holdsIn banks cells ≡ true
-        go c u r = let h : c ≡ 1 = eqb→eq c 1 (T-along (sym u) tt) in rw h at r
+    place-holds = used-holds banks shelf (ok .right) (placeOf name) (ok .near) (ok .is-used)
 
     kept-banks : tallyIn banks cells .banks ≡ banks
     unfolding holdsIn
@@ -92,13 +88,14 @@ module _ (name : List ℕ) (s : Slices) (t : Tally) (moved shelf : List ℕ) whe
         eqb→eq (tallyIn banks cells .banks) banks
         (T-along (sym (both-true (eqb (tallyIn banks cells .banks) banks) (holds (slicesIn banks cells) (tallyIn banks cells)) place-holds .0)) tt)
 
+    kept-holds : T (holds (slicesIn banks cells) (tallyIn banks cells))
+    kept-holds = used-plan banks shelf (ok .right) (placeOf name) (ok .near) (ok .is-used)
+
     -- of the clashes that its rows name
     kept-plan : PlanOf (clashesKept banks name shelf) (slicesIn banks cells) (tallyIn banks cells)
-    unfolding holdsIn
     kept-plan =
-        let held = both-true (eqb (tallyIn banks cells .banks) banks) (holds (slicesIn banks cells) (tallyIn banks cells)) place-holds .1 in
         subst (λ (m : ℕ). PlanOf (graphIn m (slicesIn banks cells)) (slicesIn banks cells) (tallyIn banks cells)) kept-banks
-        (holds-plan (slicesIn banks cells) (tallyIn banks cells) (omega (arith, kept-banks, ok .few)) (T-along (sym held) tt))
+        (holds-plan (slicesIn banks cells) (tallyIn banks cells) (omega (arith, kept-banks, ok .few)) kept-holds)
 
     -- its parts have just the plan's cells
     fronts-whole : fronts banks (slicesIn banks cells) ≡ slicesIn banks cells
@@ -136,6 +133,10 @@ module _ (name : List ℕ) (s : Slices) (t : Tally) (moved shelf : List ℕ) whe
     pub back-tally : comeBack name s t moved shelf .tally ≡ tallyIn banks cells
     unfolding cameBack
     back-tally = rw came refl
+
+    -- the kept cap fits it
+    pub back-cap : T (capFits (comeBack name s t moved shelf .tally))
+    back-cap = rw back-tally (used-cap banks shelf (ok .right) (placeOf name) (ok .near) (ok .is-used))
 
     -- memory holds the plan of the clashes of the state returned to,
     pub back-plan : PlanOf G (comeBack name s t moved shelf .slices) (comeBack name s t moved shelf .tally)

@@ -6,12 +6,12 @@ use Prim.Native.Nat.{ℕ, zero, suc, _*_, _≤_, _<_}
 use native.Mathlib.Omega.{arith}
 use native.Mathlib.Decide.{ℕ-discrete}
 use borrow.Author.Tests.{leb-true}
-use lib.Dec.{leb, ltb, ltb→lt}
+use lib.Dec.{T, leb, ltb, ltb→lt}
 use lib.ListN.{length, drop}
 use Rattle.rule.proofs.Booleans.{both-true, T-along}
 use Rattle.memory.specs.declared.Tally.{Tally}
-use Rattle.memory.specs.Plan.{Slices, longEnough, graphIn, holds, PlanOf}
-use Rattle.memory.proofs.Theorems.{long, holds-plan}
+use Rattle.memory.specs.Plan.{Slices, longEnough, graphIn, capFits, holds, PlanOf}
+use Rattle.memory.proofs.Theorems.{long, holds-plan, holds-cap}
 use Rattle.planner.proofs.Numbers.{none, held-number}
 use Rattle.text.specs.Places.{put}
 use Rattle.shelf.specs.Names.{placeOf, known}
@@ -30,6 +30,7 @@ pub record Keepable (s : Slices) (t : Tally) (name shelf : List ℕ) : Type 0 wh
   pub long : longEnough (t .banks) s ≡ true
   pub room : 3 * placeSize (t .banks) ≤ length shelf
   pub plan : PlanOf (graphIn (t .banks) s) s t
+  pub cap : T (capFits t)
   pub right : shelfRight (t .banks) shelf ≡ true
   pub near : placeOf name < 3
 
@@ -52,6 +53,7 @@ module _ (s : Slices) (t : Tally) (name shelf : List ℕ) where
         long = rooms .0;
         room = leb-true (3 * placeSize n) (length shelf) (rooms .1);
         plan = holds-plan s t few (T-along (sym (plans .0)) tt);
+        cap = holds-cap s t (T-along (sym (plans .0)) tt);
         right = plans .1;
         near = ltb→lt (placeOf name) 3 (T-along (sym (fourth .0)) tt);
       }
@@ -91,7 +93,7 @@ module _ (s : Slices) (t : Tally) (name shelf : List ℕ) where
         each i h = go (ℕ-discrete i (placeOf name))
           where
             go : Dec (i ≡ placeOf name) → placeRight n (place n i (keep name s t shelf .shelf)) ≡ true
-            go (yes e) = rw (e, kept-here) (kept-right (graphIn n s) s t (can .plan))
+            go (yes e) = rw (e, kept-here) (kept-right (graphIn n s) s t (can .plan) (can .cap))
             go (no d) = rw (kept-other i h d) (each-right n shelf (can .right) i h)
 
   -- the call's number
@@ -118,7 +120,7 @@ pub accepted-before : (s : Slices) (t : Tally) (name shelf : List ℕ) → keepN
 accepted-before s t name shelf z s′ t′ e y =
     let can = keepable s t name shelf z in
     let can′ = keepable s′ t′ name (keep name s t shelf .shelf) y in
-    keep-fine s′ t′ name shelf (shelf-fine (t′ .banks) shelf (can′ .few) (rw e (can .room))) (held-number (graphIn (t′ .banks) s′) s′ t′ (can′ .plan))
+    keep-fine s′ t′ name shelf (shelf-fine (t′ .banks) shelf (can′ .few) (rw e (can .room))) (held-number (graphIn (t′ .banks) s′) s′ t′ (can′ .plan) (can′ .cap))
     (rw e (can .right)) (can .near)
 
 -- and replaces it

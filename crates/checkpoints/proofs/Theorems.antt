@@ -4,18 +4,19 @@ use mathlib.Core.List.{List}
 use mathlib.Core.Logic.{_↔_}
 use mathlib.Core.Path.{_≡_, sym, _∙_}
 use Prim.Native.Nat.{ℕ, _≤_, _<_}
-use lib.Dec.{ltb, eqb}
+use lib.Dec.{T, ltb, eqb}
 use lib.ListN.{length, getD, take, drop}
 use Rattle.rule.specs.Graph.{Graph}
 use Rattle.rule.specs.Lists.{memb, Sorted}
 use Rattle.rule.specs.Wave.{wave}
 use Rattle.memory.specs.declared.Tally.{Tally}
-use Rattle.memory.specs.Plan.{Slices, PlanOf}
+use Rattle.memory.specs.Plan.{Slices, capFits, PlanOf}
 use Rattle.shelf.specs.Names.{morning, noon, close, placeOf}
-use Rattle.shelf.specs.Shelf.{shelfSize, place, used, shelfRight, placeCells}
+use Rattle.shelf.specs.Shelf.{shelfSize, place, used, tallyIn, shelfRight, placeCells}
 use Rattle.checkpoints.specs.Calls.{keepNumber, openShelf, keep, backResult, differing, comeBack}
 use Rattle.checkpoints.specs.Between.{Keeping, afterKeepings, Others, GivesBack, clashesKept}
 use Rattle.shelf.proofs.Bytes as Bytes
+use Rattle.checkpoints.proofs.Shelves as Shelves
 use Rattle.checkpoints.proofs.Opened as Opened
 use Rattle.checkpoints.proofs.Returns as Returns
 use Rattle.checkpoints.proofs.GivenBack as GivenBack
@@ -38,6 +39,11 @@ module _ (n : ℕ) (shelf : List ℕ) (accepted : openShelf n shelf .number ≡ 
 
   pub opened-right : shelfRight n (openShelf n shelf .shelf) ≡ true
   opened-right = Opened.opened-right n shelf (sym (Opened.open-number n shelf) ∙ accepted)
+
+-- on any shelf that question 5 takes, each used place's cap is from 1 to 24 and not below its waves: any other gets 3
+pub used-cap : (n : ℕ) (shelf : List ℕ) → shelfRight n shelf ≡ true → (i : ℕ) → i < 3 → used (place n i shelf) ≡ true
+    → T (capFits (tallyIn n (place n i shelf)))
+used-cap = Shelves.used-cap
 
 -- 3. an accepted keeping
 module _ (name : List ℕ) (s : Slices) (t : Tally) (shelf : List ℕ) (accepted : keep name s t shelf .number ≡ 0) where
@@ -65,23 +71,31 @@ module _ (name : List ℕ) (s : Slices) (t : Tally) (shelf : List ℕ) (accepted
   kept-again s′ t′ e again =
       Returns.kept-again s t name shelf yes s′ t′ e (sym (Returns.keep-number s′ t′ name (keep name s t shelf .shelf)) ∙ again)
 
--- 4. keeping and coming back: the plan cells, ranks included, and the tally of the moment of keeping, whatever memory s′, t′ and moved the calls between left,
--- if it holds a plan of as many banks, and whatever keepings were made, if those accepted are of as many banks and under other names
+-- 4. keeping and coming back: the plan cells, ranks included, and the tally of the moment of keeping, cap included, whatever memory s′, t′ and moved the calls
+-- between left, if it holds a plan of as many banks, under any cap that fits it, and whatever keepings were made, if those accepted are of as many banks and under
+-- other names
 pub come-back-kept : (name : List ℕ) (s : Slices) (t : Tally) (shelf : List ℕ) → keep name s t shelf .number ≡ 0
     → (ks : List Keeping) → Others (t .banks) name ks (keep name s t shelf .shelf)
-    → (G : Graph) (s′ : Slices) (t′ : Tally) → PlanOf G s′ t′ → t′ .banks ≡ t .banks → (moved : List ℕ) → t .banks ≤ length moved
+    → (G : Graph) (s′ : Slices) (t′ : Tally) → PlanOf G s′ t′ → T (capFits t′) → t′ .banks ≡ t .banks → (moved : List ℕ) → t .banks ≤ length moved
     → GivesBack (t .banks) s t (comeBack name s′ t′ moved (afterKeepings ks (keep name s t shelf .shelf)))
-come-back-kept name s t shelf accepted ks o G s′ t′ plan same moved room =
+come-back-kept name s t shelf accepted ks o G s′ t′ plan fits same moved room =
     let z = sym (Returns.keep-number s t name shelf) ∙ accepted in
     let can = Returns.keepable s t name shelf z in
     GivenBack.gives-back name (can .near) s t (can .long) (afterKeepings ks (keep name s t shelf .shelf))
-    (Returns.keepings-leave name (can .near) s t ks (keep name s t shelf .shelf) o (Returns.kept-on name s t shelf z)) G s′ t′ plan same moved room
+    (Returns.keepings-leave name (can .near) s t ks (keep name s t shelf .shelf) o (Returns.kept-on name s t shelf z)) G s′ t′ plan fits same moved room
 
 -- 5. after an accepted coming back
 module _ (name : List ℕ) (s : Slices) (t : Tally) (moved shelf : List ℕ) (accepted : comeBack name s t moved shelf .number ≡ 0) where
   -- memory holds the plan of the clashes and ranks of the state returned to,
   pub back-plan : PlanOf (clashesKept (t .banks) name shelf) (comeBack name s t moved shelf .slices) (comeBack name s t moved shelf .tally)
   back-plan = Restored.back-plan name s t moved shelf accepted
+
+  -- its tally is the kept one, cap included, and that cap fits it,
+  pub back-tally : comeBack name s t moved shelf .tally ≡ tallyIn (t .banks) (place (t .banks) (placeOf name) shelf)
+  back-tally = Restored.back-tally name s t moved shelf accepted
+
+  pub back-cap : T (capFits (comeBack name s t moved shelf .tally))
+  back-cap = Restored.back-cap name s t moved shelf accepted
 
   -- its waves are the rule's on them,
   pub back-waves : (x : ℕ) → x < t .banks → getD (comeBack name s t moved shelf .slices .waves) x 0 ≡ wave (clashesKept (t .banks) name shelf) x

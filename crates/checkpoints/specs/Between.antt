@@ -32,7 +32,7 @@ Others n name (k ∷ ks) shelf =
     let r = keep (k .name) (k .slices) (k .tally) shelf in
     (r .number ≡ 0 → Other n name k) × Others n name ks (r .shelf)
 
--- a call of come_back was accepted, and gave back the plan cells of n banks in s and the tally t
+-- a call of come_back was accepted, and gave back the plan cells of n banks in s and the tally t, its cap included
 pub record GivesBack (n : ℕ) (s : Slices) (t : Tally) (r : BackResult) : Type 0 where
   pub number : r .number ≡ 0
   pub cells : planCells n (r .slices) ≡ planCells n s

@@ -1,4 +1,4 @@
--- What the calls on the shelf answer and leave, of what they are lent (02, N5).
+-- What the calls on the shelf answer and leave, of what they are lent (02, N5; N9: the cap).
 use mathlib.Core.Bool.{Bool, _&&_, not}
 use mathlib.Core.List.{List, [], _∷_}
 use Prim.Native.Nat.{ℕ, zero, suc, _+_, _*_}
@@ -65,7 +65,7 @@ openShelfBy (suc c) n shelf = shelfResult (suc c) shelf
 unfoldable pub openShelf : ℕ → List ℕ → ShelfResult
 openShelf n shelf = openShelfBy (openShelfNumber n shelf) n shelf
 
--- the shelf with the plan kept under the name: its place is used and holds the plan's cells and tally, all else stays
+-- the shelf with the plan kept under the name: its place is used and holds the plan's cells and tally, its cap included, all else stays
 unfoldable pub keptUnder : List ℕ → Slices → Tally → List ℕ → List ℕ
 keptUnder name s t shelf = put (placeCells s t) (placeOf name * placeSize (t .banks)) shelf
 
@@ -103,7 +103,7 @@ overAll cells s = record {
   ranks = over (cells .ranks) (s .ranks);
 }
 
--- plan memory of n banks becomes what the place holds; the banks whose wave differs are listed and counted
+-- plan memory and tally of n banks become what the place holds, the kept cap included; the banks whose wave differs are listed and counted
 unfoldable pub cameBack : ℕ → List ℕ → Slices → List ℕ → BackResult
 cameBack n cells s moved =
     let kept = slicesIn n cells in

@@ -127,7 +127,8 @@ fn bring_back(
     put_part(ranks, place, rank, n);
 }
 
-// Plan memory and tally become what the place holds, and the banks whose wave differs are listed.
+// Plan memory and tally, its cap included, become what the place holds, and the banks whose wave differs are listed. The
+// tally that is lent is that of the state left.
 fn return_to(
     neighbours: &mut [u16],
     degrees: &mut [u16],
@@ -135,25 +136,26 @@ fn return_to(
     counts: &mut [u16],
     ranks: &mut [u16],
     moved: &mut [u16],
-    banks: u16,
+    tally: Tally,
     place: &[u16],
 ) -> CameBack
-    requires { ⌜ (banks ≤ 1024) × (length (now place) ≡ placeSize banks) × (banks ≤ length (now moved)) ⌝ }
-    requires { ⌜ longEnough banks (slicesGiven neighbours degrees waves counts ranks) ≡ true ⌝ }
+    requires { ⌜ (tally .banks ≤ 1024) × (length (now place) ≡ placeSize (tally .banks)) × (tally .banks ≤ length (now moved)) ⌝ }
+    requires { ⌜ longEnough (tally .banks) (slicesGiven neighbours degrees waves counts ranks) ≡ true ⌝ }
     ensures { λ r. ⌜ backResult (r .answer .number) (r .answer .moved) (slicesAfter neighbours degrees waves counts ranks) (r .tally) (now (moved .exit))
-        ≡ cameBack banks (now (place .entry)) (slicesBefore neighbours degrees waves counts ranks) (now (moved .entry)) ⌝ }
+        ≡ cameBack (tally .banks) (now (place .entry)) (slicesBefore neighbours degrees waves counts ranks) (now (moved .entry)) ⌝ }
 {
-    let n = wide(banks);
+    let n = wide(tally.banks);
     let wave = 1 + n * (ROW_CELLS + 1);
     let count = wave + n;
-    let differing = list_moved(waves, &place[wave..count], moved, banks);
+    let differing = list_moved(waves, &place[wave..count], moved, tally.banks);
     bring_back(neighbours, degrees, waves, counts, ranks, place, n);
+    let kept = tally_in(place, n);
     CameBack {
         answer: Returned {
             number: 0,
             moved: differing,
         },
-        tally: tally_in(place, n),
+        tally: kept,
     }
 }
 
@@ -202,7 +204,7 @@ pub fn come_back_core(
         counts,
         ranks,
         moved,
-        tally.banks,
+        tally,
         &shelf[at..end],
     )
 }

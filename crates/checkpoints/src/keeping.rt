@@ -83,7 +83,7 @@ pub fn check_keep(
     0
 }
 
-// Puts the plan's cells and tally into the place at `at`, and marks it used.
+// Puts the plan's cells and tally, its cap last, into the place at `at`, and marks it used.
 fn put_plan(
     shelf: &mut [u16],
     at: usize,
@@ -110,7 +110,8 @@ fn put_plan(
         &[tally.banks, tally.clashes, tally.waves],
         TALLY_CELLS,
     );
-    put_cells(shelf, rank, ranks, n);
+    let cap = put_cells(shelf, rank, ranks, n);
+    put_cells(shelf, cap, &[tally.cap], 1);
 }
 
 // Keeps the plan under a name. Answers 0, or changes nothing and answers the number of the first no.

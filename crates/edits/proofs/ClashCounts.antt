@@ -87,7 +87,7 @@ few-clashes : (G : Graph) → G .banks ≤ 1024 → ((x : ℕ) → x < G .banks 
 unfolding clashCount
 few-clashes G l h = omega (arith, sum-is (degree G) (G .banks), sum-le (degree G) (G .banks) h)
 
-tally-clashes : (G : Graph) {t : Tally} → t ≡ tallyOf G → t .clashes ≡ clashCount G
+tally-clashes : (G : Graph) {t : Tally} → t ≡ tallyOf (t .cap) G → t .clashes ≡ clashCount G
 unfolding tallyOf
 tally-clashes G e = ap (λ (u : Tally). u .clashes) e
 

@@ -86,9 +86,12 @@ filter-none : (p : ℕ → Bool) → [] ≡ filter p []
 unfolding filter
 filter-none p = refl
 
-module _ {e : Edit} {m : Memory} {before : Degrees} {n clashes : ℕ} (ch : RowsChanged e m before n clashes) where
+module _ {e : Edit} {m : Memory} {before : Degrees} {t : Tally} (ch : RowsChanged e m before t) where
   abbrev G : Graph
   G = new e
+
+  abbrev n : ℕ
+  n = t .banks
 
   edit : OneEdit (e .old) G (e .a) (e .b)
   edit = edited-one (e .old) (ch .held .rowed .symmetric) (e .a) (e .b) (ch .acceptable .bankA) (ch .acceptable .bankB) (ch .acceptable .differ) (e .kind)
@@ -181,7 +184,7 @@ module _ {e : Edit} {m : Memory} {before : Degrees} {n clashes : ℕ} (ch : Rows
       (st : Settled e (memoryOf (slicesOf (m .slices .neighbours) (m .slices .degrees) ws cs (m .slices .ranks)) tr mv (m .tally)) p) where
     -- the tally, with k waves
     abbrev tallied : ℕ → Tally
-    tallied k = record { banks = n; clashes = clashes; waves = k }
+    tallied k = record { banks = n; clashes = t .clashes; waves = k; cap = t .cap }
 
     pub count-in : n ≤ length ws
     count-in = omega (arith, st .wide-waves, banks)
@@ -194,19 +197,19 @@ module _ {e : Edit} {m : Memory} {before : Degrees} {n clashes : ℕ} (ch : Rows
     pub few-taken : p .taken ≤ 1024
     few-taken = omega (arith, st .few, ch .rewritten .rowed .few)
 
-    tally-is : (k : ℕ) → k ≡ mostOf ws n → tallied k ≡ tallyOf G
+    tally-is : (k : ℕ) → k ≡ mostOf ws n → tallied k ≡ tallyOf (t .cap) G
     unfolding tallyOf
     tally-is k most =
         let number : k ≡ waveCount G = most ∙ ap (mostOf ws) banks ∙ wave-count-is G ws (st .stored) in
-        λ i. record { banks = banks i; clashes = ch .number i; waves = number i }
+        λ i. record { banks = banks i; clashes = ch .number i; waves = number i; cap = t .cap }
 
-    pub outcome : (k : ℕ) → k ≡ mostOf ws n → let t = tallied k in
-        Outcome (e .kind) (e .old) (new e) (e .a) (e .b) (e .was) (memoryOf (slicesOf (m .slices .neighbours) (m .slices .degrees) ws cs (m .slices .ranks)) tr mv t)
-        (record { moved = p .moved; trail = p .taken; tally = t })
+    pub outcome : (k : ℕ) → k ≡ mostOf ws n → let u = tallied k in
+        Outcome (e .kind) (e .old) (new e) (e .a) (e .b) (e .was) (memoryOf (slicesOf (m .slices .neighbours) (m .slices .degrees) ws cs (m .slices .ranks)) tr mv u)
+        (record { moved = p .moved; trail = p .taken; tally = u })
     unfolding planIn
     outcome k most = record {
       slices = λ i. record { neighbours = rows i; degrees = ds i; waves = st .rightWaves i; counts = st .rightCounts i; ranks = rs i };
-      tally = tally-is k most;
+      tally = tally-is k most ∙ ap (λ (c : ℕ). tallyOf c G) (ch .cap);
       trail = trail-is;
       moved = st .rightMoved;
       trailCount = rw bridge (st .trailCount);
@@ -265,10 +268,14 @@ originOf k G m = record { kind = k; graph = G; memory = m }
 pub rowed-before : {k : Kind} {G : Graph} {m : Memory} {a b : ℕ} → Editable k G m a b → Rowed G (m .slices .neighbours) (m .slices .degrees)
 rowed-before {G = G} {m = m} ed = held-of G (m .slices) (m .tally) (ed .ready .plan) .rowed
 
+-- the tally with another number of clashes
+abbrev pub withClashes : Tally → ℕ → Tally
+withClashes t clashes = record { banks = t .banks; clashes = clashes; waves = t .waves; cap = t .cap }
+
 pub changed-from : {k : Kind} {G : Graph} {m : Memory} {a b : ℕ} {ns ds : List ℕ} {before : Degrees} {clashes : ℕ}
     → Editable k G m a b → Rewritten k G a b (m .slices .neighbours) (m .slices .degrees) ns ds before → clashes ≡ clashCount (edited k G a b)
     → RowsChanged (editAt (originOf k G m) a b) (memoryOf (slicesOf ns ds (m .slices .waves) (m .slices .counts) (m .slices .ranks)) (m .trail) (m .moved) (m .tally))
-    before (m .tally .banks) clashes
+    before (withClashes (m .tally) clashes)
 changed-from {G = G} {m = m} ed rewritten number =
     let held = held-of G (m .slices) (m .tally) (ed .ready .plan) in
     record {
@@ -283,4 +290,5 @@ changed-from {G = G} {m = m} ed rewritten number =
       wide-trail = omega (arith, held .banks, ed .ready .trailRoom);
       wide-moved = omega (arith, held .banks, ed .ready .movedRoom);
       number = number;
+      cap = refl;
     }

@@ -16,11 +16,11 @@ pub record Editable (k : Kind) (G : Graph) (m : Memory) (a b : ℕ) : Type 0 whe
   pub acceptable : Acceptable k G a b
   pub ready : Ready G m
 
--- memory went from the plan of G, in `was`, to that of H, in `is`; the trail and the moved list stand at the fronts of their slices, and the answer
--- is their lengths
+-- memory went from the plan of G, in `was`, to that of H, in `is`; the cap stays; the trail and the moved list stand at the fronts of their slices, and
+-- the answer is their lengths
 pub record Outcome (k : Kind) (G H : Graph) (a b : ℕ) (was is : Memory) (r : Accepted) : Type 0 where
   pub slices : is .slices ≡ planIn H (was .slices)
-  pub tally : is .tally ≡ tallyOf H
+  pub tally : is .tally ≡ tallyOf (was .tally .cap) H
   pub trail : is .trail ≡ over (trailOf k G H a b) (was .trail)
   pub moved : is .moved ≡ over (movedOf G H) (was .moved)
   pub trailCount : r .trail ≡ length (trailOf k G H a b)

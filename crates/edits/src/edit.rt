@@ -22,8 +22,8 @@ pub struct Accepted {
     pub tally: Tally,
 }
 
-// Brings waves and Counts up to date, once rows and degrees are, and writes the trail and the moved list. `clashes` is their new number; a and
-// b had the degrees `old`.
+// Brings waves and Counts up to date, once rows and degrees are, and writes the trail and the moved list. The tally has the new number of clashes;
+// a and b had the degrees `old`.
 fn propagate(
     neighbours: &[u16],
     degrees: &[u16],
@@ -32,18 +32,18 @@ fn propagate(
     ranks: &[u16],
     trail: &mut [u16],
     moved: &mut [u16],
-    banks: u16,
-    clashes: u16,
+    tally: Tally,
     a: Bank,
     b: Bank,
     old: Degrees,
 ) -> Accepted
     requires { ⌜ ((o : Origin)
-        × RowsChanged (editAt o (a .0) (b .0)) (given neighbours degrees waves counts ranks trail moved (o .memory .tally)) old banks clashes) ⌝ }
+        × RowsChanged (editAt o (a .0) (b .0)) (given neighbours degrees waves counts ranks trail moved (o .memory .tally)) old tally) ⌝ }
     ensures { λ r. ⌜ ((o : Origin)
-        → RowsChanged (editAt o (a .0) (b .0)) (before neighbours degrees waves counts ranks trail moved (o .memory .tally)) old banks clashes
+        → RowsChanged (editAt o (a .0) (b .0)) (before neighbours degrees waves counts ranks trail moved (o .memory .tally)) old tally
         → Result (o .kind) (o .graph) (a .0) (b .0) (o .memory) (after neighbours degrees waves counts ranks trail moved (r .tally)) r) ⌝ }
 {
+    let banks = tally.banks;
     let mut queue = [0u64; WORDS];
     queue_seeds(
         neighbours,
@@ -72,8 +72,9 @@ fn propagate(
     let most = wave_count(waves, banks);
     let after = Tally {
         banks: banks,
-        clashes: clashes,
+        clashes: tally.clashes,
         waves: most,
+        cap: tally.cap,
     };
     Accepted {
         moved: done.moved as u16,
@@ -113,9 +114,14 @@ pub fn make_edit(
         → Result kind G (a .0) (b .0) (before neighbours degrees waves counts ranks trail moved tally)
         (after neighbours degrees waves counts ranks trail moved (r .tally)) r) ⌝ }
 {
-    let banks = tally.banks;
     let clashes = count_after(kind, tally.clashes);
     let old = change_clash(kind, neighbours, degrees, a, b);
+    let start = Tally {
+        banks: tally.banks,
+        clashes: clashes,
+        waves: tally.waves,
+        cap: tally.cap,
+    };
     propagate(
         neighbours,
         degrees,
@@ -124,8 +130,7 @@ pub fn make_edit(
         ranks,
         trail,
         moved,
-        banks,
-        clashes,
+        start,
         a,
         b,
         old,

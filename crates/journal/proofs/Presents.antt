@@ -6,13 +6,14 @@ use Prim.Native.Nat.{ℕ}
 use Rattle.rule.specs.Graph.{Graph, empty, Same}
 use Rattle.memory.specs.declared.Tally.{Tally}
 use Rattle.memory.specs.Cells.{over}
-use Rattle.memory.specs.Plan.{Slices, PlanOf}
+use Rattle.memory.specs.Plan.{Slices, tallyOf, PlanOf}
 use Rattle.memory.specs.PlanCells.{planCells}
 use Rattle.memory.proofs.Theorems.{same-cells, planIn-agree, tally-agree}
 use Rattle.memory.proofs.Views.{tally-banks}
 use Rattle.memory.specs.Memory.{Memory}
 use Rattle.planner.specs.States.{begin, beginNumber}
 use Rattle.rule.specs.declared.Entry.{Entry}
+use Rattle.edit_calls.specs.Calls.{withCap}
 use Rattle.journal_replay.specs.Ends.{afterEntries}
 use Rattle.journal_replay.specs.Replay.{ReplayResult, replayed}
 use Rattle.journal_fields.proofs.Entries.{whole}
@@ -32,9 +33,14 @@ ends-same {H} {G} {first} q e = record {
   answer = e .answer;
   over = record {
     slices = e .over .slices ∙ planIn-agree q first;
-    tally = e .over .tally ∙ tally-agree q;
+    tally = e .over .tally ∙ tally-agree q 24;
   };
 }
+
+-- the tally of a plan, with a cap of 24
+recap : (G : Graph) (t : Tally) → t ≡ tallyOf (t .cap) G → withCap 24 t ≡ tallyOf 24 G
+unfolding tallyOf
+recap G t e = ap (withCap 24) e
 
 pub ends-replay : {G : Graph} {bytes : List ℕ} {m : Memory} {s : Slices} {t : Tally} {more : ℕ} → PlanOf G s t → Ends (m .slices) G more (replayed bytes m) → ReplaysTo bytes m s t
 ends-replay {G} {m = m} {s = s} {t = t} p e = record {
@@ -43,5 +49,5 @@ ends-replay {G} {m = m} {s = s} {t = t} p e = record {
       let itself : Same G G = record { banks = refl; clash = λ x y hx hy. refl; rank = λ x hx. refl } in
       rw (tally-banks t G (p .tally), e .over .slices)
       (same-cells itself (m .slices) s ∙ ap (planCells (G .banks)) (p .cells));
-  tally = e .over .tally ∙ sym (p .tally);
+  tally = e .over .tally ∙ sym (recap G t (p .tally));
 }

@@ -20,13 +20,16 @@ use Rattle.memory.specs.PlanCells.{PlanCells, planCells}
 use Rattle.memory.proofs.Theorems.{cells-give, long}
 use Rattle.memory.proofs.Views.{tally-banks}
 use Rattle.memory.specs.Memory.{Memory, Ready}
-use Rattle.planner.specs.Calls.{editResult, memoryNumber, editNumber, accepted, editBy, editOf, checkedBy, edit}
+use Rattle.planner.specs.Calls.{editResult, memoryNumber, editNumber, accepted, editBy}
 use Rattle.planner.specs.States.{begin, beginNumber}
 use Rattle.planner.specs.inner.Held.{ReadyIn}
 use Rattle.planner.proofs.Numbers.{memory-passed, number-ready}
 use Rattle.planner.proofs.Outcomes.{acceptable}
 use Rattle.planner.proofs.After.{plan-in, after-plan}
-use Rattle.planner.proofs.EditCalls.{number-agree, edited-same}
+use Rattle.edit_calls.specs.Calls.{cappedNumber, cappedOf, checkedBy, edit, withCap}
+use Rattle.edit_calls.proofs.Calls.{recapped}
+use Rattle.edit_calls.proofs.EditCalls.{number-agree, edited-same}
+use Rattle.edit_calls.proofs.Theorems.{capped-due}
 use Rattle.planner.proofs.Made.{begin-passed}
 use Rattle.text.specs.Places.{put}
 use Rattle.journal_fields.specs.Fields.{firstSize, entrySize, entryBytes, entriesBytes, hasFirst, banksIn, rankFits, Fields, fields, areWhole}
@@ -141,14 +144,14 @@ module _ {bytes : List ℕ} {n : ℕ} {es : List Entry} (r : Reads bytes n (whol
   ends-before : Ends (m₀ .slices) H 0 (replayed bytes m₀)
   ends-before = reads-ends m₀ r opened passed
 
-  plan-before : PlanOf H (replayed bytes m₀ .memory .slices) (m .tally)
+  plan-before : PlanOf H (replayed bytes m₀ .memory .slices) (withCap 24 (m .tally))
   plan-before =
       let o = begin-passed n m₀ opened in
       rw (ends-before .over .slices, ← (before .tally), ends-before .over .tally)
-      (plan-in H (m₀ .slices) (after-clashes false es (empty n) fit passed (no-clashes n (o .0))) (rw (after-banks es (empty n)) (o .1)))
+      (plan-in 24 H (m₀ .slices) (after-clashes false es (empty n) fit passed (no-clashes n (o .0))) (rw (after-banks es (empty n)) (o .1)))
 
   same-before : Same H G
-  same-before = plans-same H G (replayed bytes m₀ .memory .slices) (m .slices) (m .tally) plan-before (ready .plan) (before .cells)
+  same-before = plans-same H G (replayed bytes m₀ .memory .slices) (m .slices) (withCap 24 (m .tally)) plan-before (recapped G (m .slices) (m .tally) 24 (ready .plan)) (before .cells)
 
   abbrev e : Entry
   e = entryFor k a b
@@ -171,7 +174,7 @@ pub record Passes (k : Kind) (a b : ℕ) (m : Memory) (size : ℕ) (journal : Li
   pub whole-fields : areWhole (fields (drop firstSize (take size journal))) ≡ true
   pub memory : memoryNumber m ≡ 0
   pub ready : ReadyIn m
-  pub due : editNumber k (clashesIn m) a b ≡ 0
+  pub due : cappedNumber (m .tally .cap) k (clashesIn m) a b ≡ 0
   pub space : size + entrySize ≤ 60000
 
 module _ (k : Kind) (a b : ℕ) (m : Memory) (size : ℕ) (journal : List ℕ) where
@@ -188,7 +191,7 @@ module _ (k : Kind) (a b : ℕ) (m : Memory) (size : ℕ) (journal : List ℕ) w
       let p = first-zero (headNumber size journal) _ z in
       let q = first-zero (memoryNumber m) _ (p .1) in
       let r = first-zero (fieldsNumber size journal) _ (q .1) in
-      let u = first-zero (editNumber k (clashesIn m) a b) _ (r .1) in
+      let u = first-zero (cappedNumber (m .tally .cap) k (clashesIn m) a b) _ (r .1) in
       let v = first-zero (spaceNumber (size + entrySize) journal) [] (u .1) in
       record {
         inside = size-inside size journal (p .0);
@@ -216,8 +219,8 @@ module _ (k : Kind) (a b : ℕ) (m : Memory) (size : ℕ) (journal : List ℕ) w
       ∙ ap (λ (l : List ℕ). take size journal ++ l) (take-at (entryBytes e) rest entrySize (length-entry e))
 
   -- the edit of the call, of a plan that memory holds
-  edit-is : memoryNumber m ≡ 0 → editNumber k (clashesIn m) a b ≡ 0 → edit k a b m ≡ accepted k (clashesIn m) a b m
-  unfolding edit checkedBy editOf editBy
+  edit-is : memoryNumber m ≡ 0 → cappedNumber (m .tally .cap) k (clashesIn m) a b ≡ 0 → edit k a b m ≡ accepted k (clashesIn m) a b m
+  unfolding edit checkedBy cappedOf editBy
   edit-is z d = rw (z, d)
 
   -- an edit that is recorded
@@ -247,6 +250,9 @@ module _ (k : Kind) (a b : ℕ) (m : Memory) (size : ℕ) (journal : List ℕ) w
     unfolding recordedAs
     is-bytes = rw is-as (put-bytes (entryFor k a b) (passes .inside))
 
+    first-due : editNumber k (clashesIn m) a b ≡ 0
+    first-due = capped-due (m .tally .cap) k (clashesIn m) a b (passes .due) .0
+
     -- a journal that replayed to the present plan
     module _ (m₀ : Memory) (before : ReplaysTo (take size journal) m₀ (m .slices) (m .tally)) where
       recorded-ends : Ends (m₀ .slices) (edited k (clashesIn m) a b) 0 (replayed bytes m₀)
@@ -255,11 +261,11 @@ module _ (k : Kind) (a b : ℕ) (m : Memory) (size : ℕ) (journal : List ℕ) w
           let f = fields (drop firstSize (take size journal)) in
           let reads : Reads (take size journal) (banksIn (take size journal)) (whole (f .entries)) =
           record { within = omega (arith, passes .space); first = passes .first; banks = refl; fields-are = are-whole f (passes .whole-fields) } in
-          rw is-bytes (entry-ends reads (omega (arith, passes .space)) k (clashesIn m) a b m m₀ (passes .ready) (passes .due) before)
+          rw is-bytes (entry-ends reads (omega (arith, passes .space)) k (clashesIn m) a b m m₀ (passes .ready) first-due before)
 
       pub recorded-answer : replayed bytes m₀ .answer ≡ replayAnswer 0 0 0
       recorded-answer = recorded-ends .answer
 
       pub recorded-replays : ReplaysTo bytes m₀ (after .memory .slices) (after .memory .tally)
       unfolding recordedAs
-      recorded-replays = ends-replay (rw is-as (after-plan k (clashesIn m) a b m (passes .ready) (passes .due))) recorded-ends
+      recorded-replays = ends-replay (rw is-as (after-plan k (clashesIn m) a b m (passes .ready) first-due)) recorded-ends

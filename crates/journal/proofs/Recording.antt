@@ -4,20 +4,22 @@ use mathlib.Core.Path.{_≡_, refl, sym, ap, _∙_}
 use Prim.Native.Nat.{ℕ, zero, suc, _+_, _-_}
 use native.Mathlib.Omega.{arith}
 use lib.ListN.{length, take, drop}
-use Rattle.rule.specs.Graph.{Graph}
 use Rattle.rule.specs.declared.Kind.{Kind}
 use Rattle.planner.specs.declared.Answer.{Answer}
-use Rattle.planner.specs.declared.Edited.{Edited}
-use Rattle.memory.specs.Memory.{Memory, Ready}
-use Rattle.planner.specs.Calls.{EditResult, memoryNumber, editNumber, accepted, editBy, editOf}
-use Rattle.planner.specs.inner.Held.{ReadyIn, EditMade}
+use Rattle.memory.specs.declared.Tally.{Tally}
+use Rattle.memory.specs.Memory.{Memory, memoryOf}
+use Rattle.planner.specs.Calls.{EditResult, refused, memoryNumber}
+use Rattle.edit_calls.specs.Calls.{cappedNumber}
+use Rattle.edit_calls.specs.inner.Within.{orLast, withinNumber, withinOf}
+use Rattle.edit_calls.proofs.Unmade.{within-number, within-accepted, within-refused}
+use Rattle.planner.specs.inner.Held.{ReadyIn}
 use Rattle.text.specs.Places.{put, Puts}
 use Rattle.rule.specs.declared.Entry.{Entry}
 use Rattle.journal.specs.declared.record.Recorded.{Recorded}
 use Rattle.journal_fields.specs.Fields.{firstSize, entrySize, fields, entryBytes}
 use Rattle.journal_fields.specs.Numbers.{firstOf, spaceNumber, headNumber, laterNumber, fieldsNumber}
 use Rattle.journal.specs.Calls.{clashesIn, recordNumber, recordResult, noRecord, entryFor, recordedAs, recordedBy, recorded}
-use Rattle.journal.specs.inner.Recording.{Checked, Accepts, RecordedOf}
+use Rattle.journal.specs.inner.Recording.{Checked, RecordedOf}
 use Rattle.journal_fields.proofs.Reading.{drop-take}
 use Rattle.journal_fields.proofs.Entries.{length-entry}
 use Rattle.journal_fields.proofs.Numbers.{first-none, first-some, first-last, size-few, size-inside, size-first-field}
@@ -68,75 +70,72 @@ module _ (m : Memory) (size : ℕ) (journal : List ℕ) where
 
   -- then those of the edit, and the space
   module _ (k : Kind) (a b : ℕ) where
-    first-parts : (x y z u v : ℕ) → firstOf (x ∷ y ∷ z ∷ u ∷ v ∷ []) ≡ firstOf (firstOf (x ∷ y ∷ z ∷ []) ∷ u ∷ v ∷ [])
-    unfolding firstOf
-    first-parts zero zero zero u v = refl
+    abbrev last : ℕ
+    last = spaceNumber (size + entrySize) journal
+
+    first-parts : (x y z u v : ℕ) → firstOf (x ∷ y ∷ z ∷ u ∷ v ∷ []) ≡ orLast (firstOf (x ∷ y ∷ z ∷ [])) (orLast u v)
+    unfolding firstOf orLast
+    first-parts zero zero zero zero zero = refl
+    first-parts zero zero zero zero (suc v) = refl
+    first-parts zero zero zero (suc u) v = refl
     first-parts zero zero (suc z) u v = refl
     first-parts zero (suc y) z u v = refl
     first-parts (suc x) y z u v = refl
 
-    as-parts : (c : ℕ) → Checked m size journal c → recordNumber k a b m size journal ≡ firstOf (c ∷ editNumber k (clashesIn m) a b ∷ spaceNumber (size + entrySize) journal ∷ [])
+    as-parts : (c : ℕ) → Checked m size journal c → recordNumber k a b m size journal ≡ orLast c (withinNumber (m .tally .cap) k (clashesIn m) a b last)
     unfolding recordNumber
     as-parts c d =
-        first-parts (headNumber size journal) (memoryNumber m) (fieldsNumber size journal) _ _
-        ∙ ap (λ (n : ℕ). firstOf (n ∷ editNumber k (clashesIn m) a b ∷ spaceNumber (size + entrySize) journal ∷ [])) (sym (d .number))
-
-    pub accepts-checked : (c : ℕ) → Checked m size journal c → (c ≡ 0 → ⊥) → Accepts k a b m size journal c
-    accepts-checked c d z = record {
-      number = sym (as-parts c d ∙ first-some c _ z);
-      ready = λ q. absurd (z q);
-      due = λ q. absurd (z q);
-      space = λ q. absurd (z q);
-    }
-
-    module _ (c : ℕ) (d : Checked m size journal c) (none : c ≡ 0) where
-      pub accepts-edit : (r : ℕ) → r ≡ editNumber k (clashesIn m) a b → (r ≡ 0 → ⊥) → Accepts k a b m size journal r
-      accepts-edit r e z = record {
-        number = e ∙ sym (as-parts c d ∙ first-second c (editNumber k (clashesIn m) a b) _ none (λ q. z (e ∙ q)));
-        ready = λ q. absurd (z q);
-        due = λ q. absurd (z q);
-        space = λ q. absurd (z q);
-      }
-
-      pub accepts-space : (n : ℕ) → n ≡ editNumber k (clashesIn m) a b → n ≡ 0 → (r : ℕ) → r ≡ spaceNumber (size + entrySize) journal → Accepts k a b m size journal r
-      accepts-space n f z r e = record {
-        number = e ∙ sym (as-parts c d ∙ first-rest c (editNumber k (clashesIn m) a b) _ none (sym f ∙ z) ∙ first-last (spaceNumber (size + entrySize) journal));
-        ready = λ q. d .ready none;
-        due = λ q. sym f ∙ z;
-        space = λ q. sym e ∙ q;
-      }
+        first-parts (headNumber size journal) (memoryNumber m) (fieldsNumber size journal) (cappedNumber (m .tally .cap) k (clashesIn m) a b) last
+        ∙ ap (λ (n : ℕ). orLast n (withinNumber (m .tally .cap) k (clashesIn m) a b last)) (sym (d .number))
 
     -- the whole call, by the number
-    by-some : (c : ℕ) → (c ≡ 0 → ⊥) → recordResult (noRecord c) m journal ≡ recordedBy c k a b m size journal
-    unfolding recordedBy
-    by-some zero z = absurd (z refl)
-    by-some (suc c) z = refl
-
-    by-none : (c : ℕ) → c ≡ 0 → recordedAs k a b m size journal ≡ recordedBy c k a b m size journal
-    unfolding recordedBy
-    by-none zero z = refl
-    by-none (suc c) z = absurd (omega arith)
-
-    pub record-refused : (c : ℕ) → Accepts k a b m size journal c → (c ≡ 0 → ⊥) → recordResult (noRecord c) m journal ≡ recorded k a b m size journal
+    by-some : (c : ℕ) → recordNumber k a b m size journal ≡ suc c → recordResult (noRecord (suc c)) m journal ≡ recorded k a b m size journal
     unfolding recorded
-    record-refused c d z = by-some c z ∙ ap (λ (n : ℕ). recordedBy n k a b m size journal) (d .number)
+    by-some c e = sym (ap (λ (n : ℕ). recordedBy n k a b m size journal) e ∙ unfold recordedBy in refl)
 
-    edit-is : (n : ℕ) → n ≡ 0 → editBy n k (clashesIn m) a b m ≡ accepted k (clashesIn m) a b m
-    unfolding editBy
-    edit-is zero z = refl
-    edit-is (suc c) z = absurd (omega arith)
+    by-none : recordNumber k a b m size journal ≡ 0 → recordedAs k a b m size journal ≡ recorded k a b m size journal
+    unfolding recorded
+    by-none e = sym (ap (λ (n : ℕ). recordedBy n k a b m size journal) e ∙ unfold recordedBy in refl)
 
-    pub record-done : (c : ℕ) → Accepts k a b m size journal c → c ≡ 0 → (r : Edited) (m′ : Memory)
-        → ((H : Graph) → Ready H m → EditMade k H a b m r m′)
-        → (x : Recorded) (journal′ : List ℕ) → RecordedOf (entryFor k a b) (r .answer) size journal x journal′
-        → recordResult x m′ journal′ ≡ recorded k a b m size journal
-    unfolding recorded recordedAs editOf
-    record-done c d z r m′ f x journal′ w =
-        let done = f (clashesIn m) (d .ready z) .is ∙ edit-is (editNumber k (clashesIn m) a b) (d .due z) in
-        rw (w .is, w .written)
-        (ap (λ (y : EditResult). recordResult (record { number = 0; moved = y .answer .moved; trail = y .answer .trail; length = size + entrySize })
-        (y .memory) (put (entryBytes (entryFor k a b)) size journal)) done
-        ∙ by-none c z ∙ ap (λ (n : ℕ). recordedBy n k a b m size journal) (d .number))
+    -- refused by a question before the edit
+    pub record-refused : (c : ℕ) → Checked m size journal c → (c ≡ 0 → ⊥) → recordResult (noRecord c) m journal ≡ recorded k a b m size journal
+    record-refused zero d z = absurd (z refl)
+    record-refused (suc c) d z = by-some c (as-parts (suc c) d ∙ unfold orLast in refl)
+
+    -- refused by the edit's own questions or for space, or made
+    module _ (c : ℕ) (d : Checked m size journal c) (none : c ≡ 0) (l : ℕ) (is : l ≡ last) {r : EditResult} (by : r ≡ withinOf k (clashesIn m) a b l m) where
+      e : r ≡ withinOf k (clashesIn m) a b last m
+      e = by ∙ ap (λ (x : ℕ). withinOf k (clashesIn m) a b x m) is
+
+      late-number : recordNumber k a b m size journal ≡ r .answer .number
+      late-number = as-parts c d ∙ ap (λ (n : ℕ). orLast n (withinNumber (m .tally .cap) k (clashesIn m) a b last)) none ∙ unfold orLast in sym (within-number k (clashesIn m) a b last m e)
+
+      pub record-late : (r .answer .number ≡ 0 → ⊥) → (t : Tally) → t ≡ m .tally
+          → recordResult (noRecord (r .answer .number)) (memoryOf (r .memory .slices) (r .memory .trail) (r .memory .moved) t) journal ≡ recorded k a b m size journal
+      record-late z t same = go (r .answer .number) refl
+        where
+          go : (c : ℕ) → r .answer .number ≡ c
+              → recordResult (noRecord (r .answer .number)) (memoryOf (r .memory .slices) (r .memory .trail) (r .memory .moved) t) journal ≡ recorded k a b m size journal
+          go zero w = absurd (z w)
+          go (suc c) w =
+              let m-same : r .memory ≡ m = ap (λ (x : EditResult). x .memory) (within-refused k (clashesIn m) a b last m e c w) ∙ unfold refused in refl in
+              (λ i. recordResult (noRecord (w i)) (memoryOf (m-same i .slices) (m-same i .trail) (m-same i .moved) (same i)) journal) ∙ by-some c (late-number ∙ w)
+
+      pub record-room : r .answer .number ≡ 0 → last ≡ 0
+      record-room z = last-zero (cappedNumber (m .tally .cap) k (clashesIn m) a b) (sym (within-number k (clashesIn m) a b last m e) ∙ z)
+        where
+          last-zero : (x : ℕ) → orLast x last ≡ 0 → last ≡ 0
+          last-zero zero f = unfold orLast in f
+          last-zero (suc x) f = let w : _≡_ {A = ℕ} (suc x) 0 = unfold orLast in f in absurd (omega (arith, w))
+
+      pub record-done : r .answer .number ≡ 0 → (x : Recorded) (journal′ : List ℕ) → RecordedOf (entryFor k a b) (r .answer) size journal x journal′
+          → recordResult x (r .memory) journal′ ≡ recorded k a b m size journal
+      unfolding recordedAs
+      record-done z x journal′ w =
+          rw (w .is, w .written)
+          (ap (λ (y : EditResult). recordResult (record { number = 0; moved = y .answer .moved; trail = y .answer .trail; length = size + entrySize })
+          (y .memory) (put (entryBytes (entryFor k a b)) size journal)) (within-accepted k (clashesIn m) a b last m e z)
+          ∙ by-none (late-number ∙ z))
 
 -- the entry after the first bytes
 pub recorded-of : (e : Entry) (answer : Answer) (size r : ℕ) (journal journal′ : List ℕ) → Puts (entryBytes e) size journal r journal′

@@ -9,14 +9,15 @@ use Rattle.rule.specs.declared.Kind.{Kind}
 use Rattle.memory.specs.declared.Tally.{Tally}
 use Rattle.memory.specs.Plan.{Slices, planIn, tallyOf, graphIn, Clashes}
 use Rattle.memory.specs.Memory.{Memory}
-use Rattle.planner.specs.Calls.{allLong, editResult, edit}
+use Rattle.planner.specs.Calls.{allLong, editResult}
+use Rattle.edit_calls.specs.Calls.{edit}
 use Rattle.journal.specs.Calls.{startBytes, started, RecordResult, recorded}
 use Rattle.journal.specs.Present.{ReplaysTo, editAnswer}
 use Rattle.journal_replay.specs.Replay.{replayAnswer, replayed}
 use Rattle.journal.proofs.NewJournals as NewJournals
 use Rattle.journal.proofs.RecordedEdits as RecordedEdits
 
--- 1. a new journal of the clashes and ranks of G replays with nothing refused or left over, to the plan of G and its tally
+-- 1. a new journal of the clashes and ranks of G replays with nothing refused or left over, to the plan of G and its tally with a cap of 24
 module _ (G : Graph) (clashes : Clashes G) (m : Memory) (room : allLong (G .banks) m ≡ true) (within : length (startBytes G) ≤ 60000) where
   pub start-answer : replayed (startBytes G) m .answer ≡ replayAnswer 0 0 0
   start-answer = NewJournals.start-ends G clashes m room within .answer
@@ -24,10 +25,10 @@ module _ (G : Graph) (clashes : Clashes G) (m : Memory) (room : allLong (G .bank
   pub start-slices : replayed (startBytes G) m .memory .slices ≡ planIn G (m .slices)
   start-slices = NewJournals.start-ends G clashes m room within .over .slices
 
-  pub start-tally : replayed (startBytes G) m .memory .tally ≡ tallyOf G
+  pub start-tally : replayed (startBytes G) m .memory .tally ≡ tallyOf 24 G
   start-tally = NewJournals.start-ends G clashes m room within .over .tally
 
--- and so does the one that the call leaves: to the plan cells and the tally of which it was started
+-- and so does the one that the call leaves: to the plan cells of which it was started, and its tally in all but the cap
 module _ (s : Slices) (t : Tally) (journal : List ℕ) (yes : started s t journal .answer .number ≡ 0) where
   pub started-bytes : take (started s t journal .answer .length) (started s t journal .journal) ≡ startBytes (graphIn (t .banks) s)
   started-bytes = NewJournals.started-bytes s t journal yes

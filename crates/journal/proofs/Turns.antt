@@ -12,6 +12,7 @@ use Rattle.rule.specs.Reach.{edited}
 use Rattle.rule.specs.declared.Entry.{Entry}
 use Rattle.rule.specs.declared.Entry.the-variants.{Clash, Rank}
 use Rattle.rule.proofs.Lists.{filter-none}
+use Rattle.memory.specs.declared.Tally.{Tally}
 use Rattle.memory.specs.Plan.{Slices, planIn, tallyOf, Clashes}
 use Rattle.memory.proofs.Theorems.{plan-over}
 use Rattle.memory.specs.Memory.{Memory}
@@ -94,20 +95,24 @@ unfolding afterEntries
 none-append begun [] fs G d f = f
 none-append begun (e ∷ es) fs G d f = (d .0, none-append (begunBy e begun) es fs (afterEntry e G) (d .1) f)
 
--- memory holds the plan of G, over what the slices held at first, and its tally
+-- memory holds the plan of G, over what the slices held at first, and its tally with a cap of 24
 pub record Over (first : Slices) (G : Graph) (m : Memory) : Type 0 where
   pub slices : m .slices ≡ planIn G first
-  pub tally : m .tally ≡ tallyOf G
+  pub tally : m .tally ≡ tallyOf 24 G
+
+cap-is : (G : Graph) (m : Memory) (H : Graph) → m .tally ≡ tallyOf 24 G → tallyOf (m .tally .cap) H ≡ tallyOf 24 H
+unfolding tallyOf
+cap-is G m H e = ap (λ (t : Tally). tallyOf (t .cap) H) e
 
 enter-over : (first : Slices) (e : Entry) (s : State) → Over first (s .graph) (s .memory) → Over first (enter e s .graph) (enter e s .memory)
 unfolding enter make setRank accepted
 enter-over first (Clash k a b) s o = record {
   slices = ap (planIn (edited k (s .graph) (a .0) (b .0))) (o .slices) ∙ plan-over (s .graph) _ first (edited-banks k (s .graph) (a .0) (b .0));
-  tally = refl;
+  tally = cap-is (s .graph) (s .memory) (edited k (s .graph) (a .0) (b .0)) (o .tally);
 }
 enter-over first (Rank b r) s o = record {
   slices = ap (planIn (ranked (s .graph) (b .0) r)) (o .slices) ∙ plan-over (s .graph) _ first refl;
-  tally = refl;
+  tally = cap-is (s .graph) (s .memory) (ranked (s .graph) (b .0) r) (o .tally);
 }
 
 pub begin-over : (n : ℕ) (m : Memory) → Over (m .slices) (empty n) (begin n m .memory)

@@ -1,4 +1,4 @@
--- What starting a journal, and an edit that is recorded, answer and leave, of what they are lent (02, N2 and N6).
+-- What starting a journal, and an edit that is recorded, answer and leave, of what they are lent (02, N2, N6 and N9).
 use mathlib.Core.Bool.{cond}
 use mathlib.Core.List.{List, [], _∷_, _++_, map}
 use Prim.Native.Nat.{ℕ, zero, suc, _+_}
@@ -15,7 +15,8 @@ use Rattle.memory.specs.declared.Tally.{Tally}
 use Rattle.memory.specs.Cells.{over}
 use Rattle.memory.specs.Plan.{Slices, graphIn}
 use Rattle.memory.specs.Memory.{Memory}
-use Rattle.planner.specs.Calls.{planNumber, memoryNumber, editNumber, accepted}
+use Rattle.planner.specs.Calls.{planNumber, memoryNumber, accepted}
+use Rattle.edit_calls.specs.Calls.{cappedNumber}
 use Rattle.text.specs.Places.{put}
 use Rattle.journal.specs.declared.start.Started.{Started}
 use Rattle.journal.specs.declared.record.Recorded.{Recorded}
@@ -83,7 +84,7 @@ recordNumber k a b m size journal =
     (headNumber size journal
     ∷ memoryNumber m
     ∷ fieldsNumber size journal
-    ∷ editNumber k (clashesIn m) a b
+    ∷ cappedNumber (m .tally .cap) k (clashesIn m) a b
     ∷ spaceNumber (size + entrySize) journal
     ∷ [])
 

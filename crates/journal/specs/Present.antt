@@ -7,14 +7,15 @@ use Rattle.memory.specs.Plan.{Slices}
 use Rattle.memory.specs.Memory.{Memory}
 use Rattle.memory.specs.PlanCells.{planCells}
 use Rattle.planner.specs.declared.Answer.{Answer}
+use Rattle.edit_calls.specs.Calls.{withCap}
 use Rattle.journal_replay.specs.Replay.{replayed}
 use Rattle.journal.specs.declared.record.Recorded.{Recorded}
 
--- the bytes replay into m with no refusal to the plan that s and t hold: the same plan cells, and the same tally
+-- the bytes replay into m with no refusal to the plan that s and t hold: the same plan cells, and the same tally in all but the cap, which is 24 then
 pub record ReplaysTo (bytes : List ℕ) (m : Memory) (s : Slices) (t : Tally) : Type 0 where
   pub number : replayed bytes m .answer .number ≡ 0
   pub cells : planCells (t .banks) (replayed bytes m .memory .slices) ≡ planCells (t .banks) s
-  pub tally : replayed bytes m .memory .tally ≡ t
+  pub tally : replayed bytes m .memory .tally ≡ withCap 24 t
 
 -- the answer of the edit alone
 abbrev pub editAnswer : Recorded → Answer

@@ -1,4 +1,5 @@
 // The calls that make an edit and record it.
+use edit_calls::edit_within;
 use journal_fields::ENTRY_BYTES;
 use journal_fields::FIRST_BYTES;
 use journal_fields::fields_number;
@@ -8,8 +9,6 @@ use journal_fields::space_number;
 use memory::Tally;
 use planner::Answer;
 use planner::check_memory;
-use planner::edit_held;
-use planner::edit_number;
 use rule::Bank;
 use rule::Entry;
 use rule::Kind;
@@ -20,7 +19,7 @@ ghost use Rattle.rule.specs.declared.Kind.the-variants.{Adding, Striking};
 ghost use Rattle.memory.specs.Lent.{before, after};
 ghost use Rattle.journal_fields.specs.Fields.{entrySize};
 ghost use Rattle.journal.specs.Calls.{noRecord, recordResult, recorded};
-ghost use Rattle.journal.specs.inner.Recording.{Checked, Accepts, RecordedOf};
+ghost use Rattle.journal.specs.inner.Recording.{Checked, RecordedOf};
 
 // The answer of an edit that is recorded: that of the edit, and the journal's new length, at most 60,000.
 pub struct Recorded {
@@ -71,46 +70,6 @@ fn check_record(
     fields_number(&journal[FIRST_BYTES..size])
 }
 
-// All questions of an edit that is recorded: 0, or the number of the first no.
-fn check_edit(
-    kind: Kind,
-    neighbours: &[u16],
-    degrees: &[u16],
-    waves: &[u16],
-    counts: &[u16],
-    ranks: &[u16],
-    trail: &[u16],
-    moved: &[u16],
-    tally: Tally,
-    a: Bank,
-    b: Bank,
-    journal: &[u8],
-    size: usize,
-) -> u16
-    ensures { λ r. ⌜ Accepts kind (a .0) (b .0) (before neighbours degrees waves counts ranks trail moved tally) size (now (journal .entry)) r ⌝ }
-{
-    let checked = check_record(
-        neighbours,
-        degrees,
-        waves,
-        counts,
-        ranks,
-        trail,
-        moved,
-        tally,
-        journal,
-        size,
-    );
-    if checked != 0 {
-        return checked;
-    }
-    let edit = edit_number(kind, neighbours, degrees, waves, counts, ranks, tally, a, b);
-    if edit != 0 {
-        return edit;
-    }
-    space_number(journal, size + ENTRY_BYTES)
-}
-
 // A refused call: the number, counts and length 0, the tally as it was.
 fn refuse(number: u16, tally: Tally) -> RecordedEdit
     ensures { λ r. ⌜ (r .answer ≡ noRecord number) × (r .tally ≡ tally) ⌝ }
@@ -159,8 +118,7 @@ pub fn record_core(
     ensures { λ r. ⌜ recordResult (r .answer) (after neighbours degrees waves counts ranks trail moved (r .tally)) (now (journal .exit))
         ≡ recorded kind (a .0) (b .0) (before neighbours degrees waves counts ranks trail moved tally) size (now (journal .entry)) ⌝ }
 {
-    let number = check_edit(
-        kind,
+    let checked = check_record(
         neighbours,
         degrees,
         waves,
@@ -169,15 +127,14 @@ pub fn record_core(
         trail,
         moved,
         tally,
-        a,
-        b,
         journal,
         size,
     );
-    if number != 0 {
-        return refuse(number, tally);
+    if checked != 0 {
+        return refuse(checked, tally);
     }
-    let done = edit_held(
+    let space = space_number(journal, size + ENTRY_BYTES);
+    let done = edit_within(
         kind,
         neighbours,
         degrees,
@@ -189,7 +146,11 @@ pub fn record_core(
         tally,
         a,
         b,
+        space,
     );
+    if done.answer.number != 0 {
+        return refuse(done.answer.number, tally);
+    }
     let after = done.tally;
     let answer = record_entry(journal, size, Entry::Clash(kind, a, b), done.answer);
     RecordedEdit {

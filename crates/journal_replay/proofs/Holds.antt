@@ -41,7 +41,7 @@ pub enter-kept : (e : Entry) (s : State) → Holding s → rankFits e ≡ true �
 unfolding entryNumber enter setRank rankFits
 enter-kept (Clash k a b) s h f z = make-kept k (a .0) (b .0) s h z
 enter-kept (Rank b r) s h f z =
-    plan-in (ranked (s .graph) (b .0) r) (s .memory .slices) (clashes-ranked (s .graph) (b .0) r (leb-true r 9999 f) (h .clashes)) (h .long)
+    plan-in (s .memory .tally .cap) (ranked (s .graph) (b .0) r) (s .memory .slices) (clashes-ranked (s .graph) (b .0) r (leb-true r 9999 f) (h .clashes)) (h .long)
 
 -- what an entry makes of the clashes and ranks
 pub enter-graph : (e : Entry) (s : State) → enter e s .graph ≡ afterEntry e (s .graph)
@@ -55,7 +55,7 @@ unfolding enterBy
 by-accepted zero i s rest z = (refl, z, refl)
 by-accepted (suc c) i s rest z = absurd (omega arith)
 
-ended-memory : (wrong : Bool) (i more : ℕ) (m : Memory) → ended wrong i more m .memory ≡ m
+pub ended-memory : (wrong : Bool) (i more : ℕ) (m : Memory) → ended wrong i more m .memory ≡ m
 unfolding ended
 ended-memory true i more m = refl
 ended-memory false i more m = refl

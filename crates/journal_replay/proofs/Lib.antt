@@ -5,4 +5,5 @@ pub mod Replaying
 pub mod SameEdits
 pub mod Holds
 pub mod Refusals
+pub mod Caps
 pub mod Theorems

@@ -65,7 +65,7 @@ abbrev memoryIn : ReplayResult → Memory
 memoryIn r = r .memory
 
 -- a plan was opened where a later field is refused
-late-number : (c : ℕ) (bytes : List ℕ) (m : Memory) → 2 ≤ replayBy c bytes m .answer .field → c ≡ 0
+pub late-number : (c : ℕ) (bytes : List ℕ) (m : Memory) → 2 ≤ replayBy c bytes m .answer .field → c ≡ 0
 unfolding replayBy
 late-number zero bytes m h = refl
 late-number (suc c) bytes m h = absurd (first (eqb (suc c) 9) h)

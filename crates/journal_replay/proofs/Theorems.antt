@@ -2,9 +2,12 @@
 use mathlib.Core.List.{List, _∷_, map}
 use mathlib.Core.Path.{_≡_, sym, ap}
 use Prim.Native.Nat.{ℕ, _+_, _*_, _/_, _%_, _≤_, _<_}
+use lib.Dec.{T}
 use lib.ListN.{length, take}
 use Rattle.rule.specs.declared.Entry.{Entry}
+use Rattle.memory.specs.Plan.{capFits}
 use Rattle.memory.specs.Memory.{Memory}
+use Rattle.memory.proofs.Theorems.{widest-cap}
 use Rattle.list_rows.specs.declared.row.Row.the-variants.{Banks}
 use Rattle.list_rows.specs.Rows.{rowsOf}
 use Rattle.list_reader.specs.declared.pass.Reading.{Reading}
@@ -18,6 +21,7 @@ use Rattle.journal_replay.proofs.Replaying as Replaying
 use Rattle.journal_replay.proofs.SameEdits as SameEdits
 use Rattle.journal_replay.proofs.Holds as Holds
 use Rattle.journal_replay.proofs.Refusals as Refusals
+use Rattle.journal_replay.proofs.Caps as Caps
 
 -- 1. a journal cut at byte i after its first field replays as the journal of its whole fields does: the same number, field and memory; not
 -- refused, it reports the bytes left over
@@ -56,3 +60,17 @@ module _ (bytes : List ℕ) (m : Memory) where
 
     pub refused-later : 2 ≤ replayed bytes m .answer .field → RefusedLater bytes m
     refused-later = Refusals.refused-later bytes m refused
+
+-- 4. after a replay that is not refused, or refused at a later field, the cap is 24; and that fits the plan
+module _ (bytes : List ℕ) (m : Memory) where
+  pub replay-cap : replayed bytes m .answer .number ≡ 0 → replayed bytes m .memory .tally .cap ≡ 24
+  replay-cap = Caps.accepted-cap bytes m
+
+  pub refused-cap : 2 ≤ replayed bytes m .answer .field → replayed bytes m .memory .tally .cap ≡ 24
+  refused-cap = Caps.later-cap bytes m
+
+  pub replay-fits : replayed bytes m .answer .number ≡ 0 → T (capFits (replayed bytes m .memory .tally))
+  replay-fits z = widest-cap (replay-holds bytes m z) (replay-cap z)
+
+  pub refused-fits : (replayed bytes m .answer .number ≡ 0 → ⊥) → 2 ≤ replayed bytes m .answer .field → T (capFits (replayed bytes m .memory .tally))
+  refused-fits z h = widest-cap (refused-later bytes m z h .plan) (refused-cap h)

@@ -9,7 +9,7 @@ use Rattle.memory.specs.Cells.{over}
 use Rattle.memory.specs.Plan.{PlanOf}
 use Rattle.list_reader.specs.Pass.{ListResult, readList}
 use Rattle.list_reader.specs.Ends.{endOf}
-use Rattle.list_reader.proofs.Theorems.{accepted-holds}
+use Rattle.list_reader.proofs.Theorems.{accepted-holds, accepted-fits}
 use Rattle.wave_lines.specs.Calls.{TextResult, textResult, writeText}
 use Rattle.sheet_writer.proofs.Theorems as Sheets
 use Rattle.poster_writer.proofs.Theorems as Posters
@@ -25,9 +25,11 @@ unfolding textOf
 accepted-text Sheet list out z room =
     let l : ListResult = readList list blank in
     let holds = accepted-holds list blank z in
+    let fits = accepted-fits list blank z in
     let short : 4084 ≤ length out = omega arith in
-    sym (answer-text (textOf Sheet) list out l (λ i. l) z _ (Sheets.never-short (endOf list blank .graph) (l .memory .slices) (l .memory .tally) out holds short))
+    sym (answer-text (textOf Sheet) list out l (λ i. l) z _ (Sheets.never-short (endOf list blank .graph) (l .memory .slices) (l .memory .tally) out holds fits short))
 accepted-text Poster list out z room =
     let l : ListResult = readList list blank in
     let holds = accepted-holds list blank z in
-    sym (answer-text (textOf Poster) list out l (λ i. l) z _ (Posters.never-short (endOf list blank .graph) (l .memory .slices) (l .memory .tally) out holds room))
+    let fits = accepted-fits list blank z in
+    sym (answer-text (textOf Poster) list out l (λ i. l) z _ (Posters.never-short (endOf list blank .graph) (l .memory .slices) (l .memory .tally) out holds fits room))

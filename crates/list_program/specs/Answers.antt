@@ -14,14 +14,14 @@ use Rattle.poster_writer.specs.Poster.{poster}
 use Rattle.list_program.specs.declared.texts.Text.{Text}
 use Rattle.list_program.specs.declared.texts.Text.the-variants.{Sheet, Poster}
 
--- the memory that a program lends: cells for 1,024 banks, all 0
+-- the memory that a program lends: cells for 1,024 banks, all 0; and a cap of 24
 abbrev pub blank : Memory
 blank =
     memoryOf
     (slicesOf (replicate 23552 0) (replicate 1024 0) (replicate 1024 0) (replicate 24576 0) (replicate 1024 0))
     (replicate 1024 0)
     (replicate 1024 0)
-    (record { banks = 0; clashes = 0; waves = 0 })
+    (record { banks = 0; clashes = 0; waves = 0; cap = 24 })
 
 -- the text that a program prints of a plan
 unfoldable pub textOf : Text → Graph → List ℕ

@@ -6,6 +6,7 @@ use list_reader::read_list_core;
 use memory::Tally;
 use rule::COUNT_CELLS;
 use rule::MOST_BANKS;
+use rule::MOST_WAVES;
 use rule::ROW_CELLS;
 ghost use mathlib.Core.Path.{_≡_};
 ghost use Prim.Native.Nat.{_≤_};
@@ -43,6 +44,7 @@ pub fn answer_list(text: Text, list: &[u8], out: &mut [u8]) -> usize
             banks: 0,
             clashes: 0,
             waves: 0,
+            cap: MOST_WAVES,
         },
     );
     let reading = read.answer;

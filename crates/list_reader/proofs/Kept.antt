@@ -1,4 +1,4 @@
--- A pass keeps memory a plan: an edit to which no refusal is due leaves a set of clashes, and its plan.
+-- A pass keeps memory a plan: an edit to which no refusal is due leaves a set of clashes, and its plan. It keeps the cap too.
 use mathlib.Core.Bool.{Bool, true, false, cond}
 use mathlib.Core.List.{List, [], _∷_}
 use mathlib.Core.Path.{_≡_, refl, ap, _∙_}
@@ -13,6 +13,7 @@ use Rattle.rule.specs.declared.Kind.the-variants.{Striking}
 use Rattle.memory.specs.Plan.{PlanOf}
 use Rattle.planner.specs.Questions.{firstNo}
 use Rattle.planner.proofs.Made.{Holding, not-fresh}
+use Rattle.planner.proofs.Caps.{capOf, make-cap, enter-cap}
 use Rattle.planner.proofs.RanksSet.{Sound, make-sound, enter-sound}
 use Rattle.list_rows.specs.declared.row.Change.{Change}
 use Rattle.list_rows.specs.declared.row.Change.the-variants.{One, StrikeAll}
@@ -97,3 +98,30 @@ pub pass-before : (i : ℕ) (rs : List Row) (s : State) → (pass i rs s .answer
 unfolding pass
 pass-before i [] s z = absurd (z refl)
 pass-before i (r ∷ rs) s z = by-before (rowNumber r s) i r rs s refl (pass-before (suc i) rs (step r s)) z
+
+-- refused or not, it leaves the cap as it was
+each-cap : (b : ℕ) (vs : List ℕ) (s : State) → capOf (strikeEach b vs s) ≡ capOf s
+unfolding strikeEach
+each-cap b [] s = refl
+each-cap b (v ∷ vs) s = each-cap b vs (make Striking b v s) ∙ make-cap Striking b v s
+
+change-cap : (c : Change) (s : State) → capOf (change c s) ≡ capOf s
+unfolding change
+change-cap (One e) s = enter-cap e s
+change-cap (StrikeAll b) s = each-cap (b .0) (neighbours (s .graph) (b .0)) (started s)
+
+step-cap : (r : Row) (s : State) → capOf (step r s) ≡ capOf s
+unfolding step
+step-cap (Banks n) s = refl
+step-cap (Edit c) s = change-cap c s
+step-cap Unreadable s = refl
+
+by-cap : (n i : ℕ) (s : State) (rest : ListResult) → rest .memory .tally .cap ≡ capOf s → passBy n i s rest .memory .tally .cap ≡ capOf s
+unfolding passBy
+by-cap zero i s rest e = e
+by-cap (suc c) i s rest e = refl
+
+pub pass-cap : (i : ℕ) (rs : List Row) (s : State) → pass i rs s .memory .tally .cap ≡ capOf s
+unfolding pass
+pass-cap i [] s = refl
+pass-cap i (r ∷ rs) s = by-cap (rowNumber r s) i s (pass (suc i) rs (step r s)) (pass-cap (suc i) rs (step r s) ∙ step-cap r s)

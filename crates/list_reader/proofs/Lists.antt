@@ -10,7 +10,7 @@ use borrow.Author.Tests.{le-leb, leb-true}
 use Rattle.rule.specs.Graph.{Graph, Same}
 use Rattle.rule.proofs.Booleans.{and-l, and-r}
 use Rattle.memory.specs.declared.Tally.{Tally}
-use Rattle.memory.specs.Plan.{Slices, PlanOf}
+use Rattle.memory.specs.Plan.{Slices, tallyOf, PlanOf}
 use Rattle.memory.specs.PlanCells.{planCells}
 use Rattle.memory.specs.Memory.{Memory}
 use Rattle.memory.proofs.Theorems.{same-cells, tally-agree}
@@ -81,14 +81,14 @@ pass-refused n rs m h f z =
     let same : pass 2 rs (begin n m) .memory ≡ after (take (b .0) rs) (begin n m) .memory = sym (ap (λ (e : ListResult). e .memory) (b .2)) ∙ a .0 in
     record { count = b .0; row = b .1; accepted = b .2; memory = same; plan = rw same (a .1) }
 
--- two plans of as many banks, the same clashes and the same ranks
+-- two plans of as many banks, the same clashes and the same ranks; and under the same cap
 module _ (G H : Graph) (s s′ : Slices) (t t′ : Tally) (p : PlanOf G s t) (p′ : PlanOf H s′ t′) (a : Same G H) where
   pub plans-same-cells : planCells (H .banks) s ≡ planCells (H .banks) s′
   plans-same-cells =
       ap (planCells (H .banks)) (sym (p .cells)) ∙ same-cells a s s′ ∙ ap (planCells (H .banks)) (p′ .cells)
 
-  pub plans-same-tally : t ≡ t′
-  plans-same-tally = p .tally ∙ tally-agree a ∙ sym (p′ .tally)
+  pub plans-same-tally : t .cap ≡ t′ .cap → t ≡ t′
+  plans-same-tally e = p .tally ∙ tally-agree a (t .cap) ∙ ap (λ (c : ℕ). tallyOf c H) e ∙ sym (p′ .tally)
 
 -- rows without padding say what they said
 plain-rows : (rs : List (List ℕ)) → T (plainRows rs) → map rowOf rs ≡ map unpaddedRow rs

@@ -6,9 +6,10 @@ use native.Mathlib.Omega.{arith}
 use lib.Dec.{T}
 use lib.ListN.{length, length-append}
 use Rattle.rule.specs.Graph.{Graph, Same}
-use Rattle.memory.specs.Plan.{PlanOf}
+use Rattle.memory.specs.Plan.{capFits, PlanOf}
 use Rattle.memory.specs.PlanCells.{planCells}
 use Rattle.memory.specs.Memory.{Memory}
+use Rattle.memory.proofs.Theorems.{widest-cap}
 use Rattle.planner.specs.States.{begin}
 use Rattle.text.specs.Text.{rows}
 use Rattle.text.proofs.Theorems.{final-feed}
@@ -17,8 +18,9 @@ use Rattle.list_rows.specs.Rows.{rowOf, rowsOf}
 use Rattle.list_reader.specs.Pass.{ListResult, readList}
 use Rattle.list_reader.specs.Ends.{endOf, FirstOpens, RefusedAfter, readUnpadded, plainRows}
 use Rattle.planner.proofs.RanksSet.{begin-sound}
+use Rattle.planner.proofs.Caps.{begin-cap}
 use Rattle.list_reader.proofs.Fits.{later-fit}
-use Rattle.list_reader.proofs.Kept.{pass-holds, pass-accepted, pass-before}
+use Rattle.list_reader.proofs.Kept.{pass-holds, pass-accepted, pass-before, pass-cap}
 use Rattle.list_reader.proofs.Lists as Lists
 use Rattle.list_reader.proofs.Lists.{Start, opens, refuses, start, opens-pass, end-after}
 
@@ -69,17 +71,38 @@ accepted-holds bytes m z = by (start bytes m)
         rw (e, end-after bytes m n rs o, p .0) (p .1)
     by (refuses c i h e) = absurd (omega (arith, z, ap (λ (x : ListResult). x .answer .number) e))
 
--- 6. accepted lists that end in equal bank counts, equal clashes and equal ranks leave equal plan cells and an equal tally, whatever their rows
--- are and whatever memory held before
+-- 6. after a list whose first row opens a plan, accepted or refused at a later row, the cap is 24, and so fits the plan
+pub list-cap : (bytes : List ℕ) (m : Memory) (n : ℕ) (rs : List Row) → FirstOpens bytes m n rs → readList bytes m .memory .tally .cap ≡ 24
+list-cap bytes m n rs o =
+    ap (λ (x : ListResult). x .memory .tally .cap) (opens-pass bytes m n rs o) ∙ pass-cap 2 rs (begin n m) ∙ begin-cap n m
+
+pub list-fits : (bytes : List ℕ) (m : Memory) (n : ℕ) (rs : List Row) → FirstOpens bytes m n rs → T (capFits (readList bytes m .memory .tally))
+list-fits bytes m n rs o = widest-cap (list-holds bytes m n rs o .1) (list-cap bytes m n rs o)
+
+-- an accepted list is one of these
+module _ (bytes : List ℕ) (m : Memory) (yes : readList bytes m .answer .number ≡ 0) where
+  pub accepted-cap : readList bytes m .memory .tally .cap ≡ 24
+  accepted-cap = by (start bytes m)
+    where
+      by : Start bytes m → readList bytes m .memory .tally .cap ≡ 24
+      by (opens n rs o) = list-cap bytes m n rs o
+      by (refuses c i h e) = absurd (omega (arith, yes, ap (λ (x : ListResult). x .answer .number) e))
+
+  pub accepted-fits : T (capFits (readList bytes m .memory .tally))
+  accepted-fits = widest-cap (accepted-holds bytes m yes) accepted-cap
+
+-- 7. accepted lists that end in equal bank counts, equal clashes and equal ranks leave equal plan cells and an equal tally, cap included, whatever their
+-- rows are and whatever memory held before
 module _ (bytes bytes′ : List ℕ) (m m′ : Memory) (yes : readList bytes m .answer .number ≡ 0) (yes′ : readList bytes′ m′ .answer .number ≡ 0)
     (same : Same (endOf bytes m .graph) (endOf bytes′ m′ .graph)) where
   pub lists-same-cells : planCells (endOf bytes′ m′ .graph .banks) (readList bytes m .memory .slices) ≡ planCells (endOf bytes′ m′ .graph .banks) (readList bytes′ m′ .memory .slices)
   lists-same-cells = Lists.plans-same-cells _ _ _ _ _ _ (accepted-holds bytes m yes) (accepted-holds bytes′ m′ yes′) same
 
   pub lists-same-tally : readList bytes m .memory .tally ≡ readList bytes′ m′ .memory .tally
-  lists-same-tally = Lists.plans-same-tally _ _ _ _ _ _ (accepted-holds bytes m yes) (accepted-holds bytes′ m′ yes′) same
+  lists-same-tally =
+      Lists.plans-same-tally _ _ _ _ _ _ (accepted-holds bytes m yes) (accepted-holds bytes′ m′ yes′) same (accepted-cap bytes m yes ∙ sym (accepted-cap bytes′ m′ yes′))
 
--- 7. a list of rows without padding leaves what it left before numbers could be padded
+-- 8. a list of rows without padding leaves what it left before numbers could be padded
 pub list-kept : (bytes : List ℕ) (m : Memory) → T (plainRows (rows bytes)) → readList bytes m ≡ readUnpadded bytes m
 list-kept = Lists.list-kept
 

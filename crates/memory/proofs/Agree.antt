@@ -28,9 +28,9 @@ fold-cong op f g [] h = refl
 fold-cong op f g (x ∷ xs) h = ap₂ op (h x (in-head x x xs refl)) (fold-cong op f g xs (λ y m. h y (in-tail y x xs m)))
 
 -- equal numbers, equal tallies
-pub tally-eq : {banks clashes waves banks′ clashes′ waves′ : ℕ} → banks ≡ banks′ → clashes ≡ clashes′ → waves ≡ waves′
-    → _≡_ {A = Tally} (record { banks = banks; clashes = clashes; waves = waves }) (record { banks = banks′; clashes = clashes′; waves = waves′ })
-tally-eq p q r = λ i. record { banks = p i; clashes = q i; waves = r i }
+pub tally-eq : {banks clashes waves banks′ clashes′ waves′ cap : ℕ} → banks ≡ banks′ → clashes ≡ clashes′ → waves ≡ waves′
+    → _≡_ {A = Tally} (record { banks = banks; clashes = clashes; waves = waves; cap = cap }) (record { banks = banks′; clashes = clashes′; waves = waves′; cap = cap })
+tally-eq {cap = cap} p q r = λ i. record { banks = p i; clashes = q i; waves = r i; cap = cap }
 
 -- the plan cells of G
 abbrev cellsOf : Graph → PlanCells
@@ -86,9 +86,9 @@ module _ {G H : Graph} (a : Same G H) where
   unfolding rankCells
   rankCells-agree = ap (λ (n : ℕ). cells n (G .rank)) (a .banks) ∙ cells-cong (H .banks) (G .rank) (H .rank) (a .rank)
 
-  pub tally-agree : tallyOf G ≡ tallyOf H
+  pub tally-agree : (cap : ℕ) → tallyOf cap G ≡ tallyOf cap H
   unfolding tallyOf clashCount waveCount
-  tally-agree =
+  tally-agree cap =
       tally-eq (a .banks)
       (ap (λ (m : ℕ). m / 2) (ap (λ (n : ℕ). foldr (λ b m. degree G b + m) 0 (upto n)) (a .banks)
       ∙ fold-cong _+_ (degree G) (degree H) (upto (H .banks)) (λ x m. degree-agree a x (upto-below (H .banks) x m))))
@@ -115,7 +115,7 @@ module _ {G H : Graph} (a : Same G H) where
     };
     long = rw (a .banks) (p .long);
     cells = planIn-agree s ∙ p .cells;
-    tally = p .tally ∙ sym tally-agree;
+    tally = p .tally ∙ sym (tally-agree (t .cap));
   }
     where
       below : (x : ℕ) → x < G .banks → x < H .banks

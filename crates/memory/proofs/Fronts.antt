@@ -132,3 +132,12 @@ front-cells k f xs l h =
     ext-getD 0 (take k xs) (map f (upto k)) (omega (arith, length-take k xs, length-map (upto k) f, length-upto k)) (λ i s.
     let t : i < k = omega (arith, length-take k xs) in
     getD-take k xs i 0 t ∙ h i t ∙ ap f (sym (getD-upto k i t)) ∙ sym (getD-map f (upto k) i (omega (arith, length-upto k))))
+
+-- one cell more of a front that is put cell by cell
+pub over-next : (front xs : List ℕ) (i : ℕ) → i < length front → length front ≤ length xs
+    → set (over (take i front) xs) i (getD front i 0) ≡ over (take (suc i) front) xs
+unfolding over
+over-next [] xs i h k = absurd (omega arith)
+over-next (f ∷ fs) [] i h k = absurd (omega arith)
+over-next (f ∷ fs) (x ∷ xs) zero h k = refl
+over-next (f ∷ fs) (x ∷ xs) (suc i) h k = ap (λ (l : List ℕ). f ∷ l) (over-next fs xs i (omega arith) (omega arith))

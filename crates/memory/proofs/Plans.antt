@@ -103,8 +103,9 @@ no-degree : (n x : ℕ) → degree (empty n) x ≡ 0
 unfolding degree neighbours
 no-degree n x = ap length (filter-none (upto n))
 
-pub open-plan : (n : ℕ) (s : Slices) → n ≤ 1024 → longEnough n s ≡ true → PlanOf (empty n) (planIn (empty n) s) (tallyOf (empty n))
-open-plan n s h e = record {
+pub open-plan : (cap n : ℕ) (s : Slices) → n ≤ 1024 → longEnough n s ≡ true → PlanOf (empty n) (planIn (empty n) s) (tallyOf cap (empty n))
+unfolding tallyOf
+open-plan cap n s h e = record {
   clashes = record { most = h; symmetric = λ x y l k. refl; apart = λ x l c. c; few = λ x l. omega (arith, no-degree n x); ranks = λ x l. omega arith };
   long = long-again (empty n) s e;
   cells = plan-over (empty n) (empty n) s refl;

@@ -1,18 +1,18 @@
--- Question 5: `holds` is true exactly if memory is, cell by cell, the plan of some set of clashes.
+-- `isPlan` is true exactly if memory is, cell by cell, the plan of some set of clashes.
 use mathlib.Core.Bool.{Bool, true, false, _&&_, _||_, not}
 use mathlib.Core.Logic.{inl, inr}
-use mathlib.Core.Path.{_≡_, refl, ap}
+use mathlib.Core.Path.{_≡_, refl, sym, ap, _∙_}
 use Prim.Native.Nat.{ℕ, _≤_, _<_}
 use native.Mathlib.Omega.{arith}
-use lib.Dec.{T, eqb, ltb, eqb→eq, ltb→lt, lt→ltb, not-T, T-not}
+use lib.Dec.{T, eqb, ltb, leb, eqb→eq, ltb→lt, lt→ltb, le→leb, leb→le, not-T, T-not}
 use Rattle.rule.specs.Lists.{upto, some}
 use Rattle.rule.specs.Graph.{Graph, Same}
 use Rattle.rule.specs.Wave.{waves, waveCount}
-use Rattle.rule.proofs.Booleans.{and-l, and-r, both, or-l, or-r, or-cases, stable, test-ext, T-along, eq→eqb, lt-or-ge}
+use Rattle.rule.proofs.Booleans.{and-l, and-r, both, or-l, or-r, or-cases, stable, test-ext, T-along, eq→eqb, lt-or-ge, is-true, is-false}
 use Rattle.rule.proofs.Lists.{in-upto, upto-below, some-in, in-some}
 use Rattle.memory.specs.declared.Tally.{Tally}
 use Rattle.memory.specs.Cells.{starts}
-use Rattle.memory.specs.Plan.{Slices, longEnough, neighbourCells, degreeCells, countCells, rankCells, clashCount, tallyOf, graphIn, proper, lowRanks, holds}
+use Rattle.memory.specs.Plan.{Slices, longEnough, neighbourCells, degreeCells, countCells, rankCells, clashCount, tallyOf, graphIn, proper, lowRanks, isPlan, capFits, holds}
 use Rattle.memory.specs.Plan.{PlanOf}
 use Rattle.memory.specs.inner.Test.{Tested}
 use Rattle.memory.proofs.Cells.{starts-over, over-starts}
@@ -71,7 +71,7 @@ module _ (G : Graph) where
       let r = in-some high (upto (G .banks)) u in
       omega (arith, low (r .0) (upto-below (G .banks) (r .0) (r .1)), ltb→lt 9999 (G .rank (r .0)) (r .2)))
 
--- the parts of `holds`
+-- the parts of `isPlan`
 record Parts (s : Slices) (t : Tally) (G : Graph) : Type 0 where
   isProper : T (proper G)
   isLow : T (lowRanks G)
@@ -128,8 +128,8 @@ module _ (s : Slices) (t : Tally) where
   abbrev K : Graph
   K = inRows (t .banks) (s .neighbours) (s .ranks)
 
-  own-plan : t .banks ≤ 1024 → T (holds s t) → PlanOf K s t
-  unfolding holds graphIn tallyOf
+  own-plan : t .banks ≤ 1024 → T (isPlan s t) → PlanOf K s t
+  unfolding isPlan graphIn tallyOf
   own-plan few h =
       let p = apart K h in
       record {
@@ -145,9 +145,9 @@ module _ (s : Slices) (t : Tally) where
         tally = tally-eq refl (p .clashes) (p .most);
       }
 
-  own-holds : PlanOf K s t → T (holds s t)
-  unfolding holds graphIn tallyOf
-  own-holds p = together K (record {
+  own-is-plan : PlanOf K s t → T (isPlan s t)
+  unfolding isPlan graphIn tallyOf
+  own-is-plan p = together K (record {
     isProper = is-proper K (p .clashes .apart) (p .clashes .symmetric);
     isLow = is-low K (p .clashes .ranks);
     fronts = fronts-of (p .cells);
@@ -156,9 +156,9 @@ module _ (s : Slices) (t : Tally) where
   })
 
   -- memory that holds a plan holds that of the clashes that its rows name
-  pub holds-plan : t .banks ≤ 1024 → T (holds s t) → PlanOf (graphIn (t .banks) s) s t
+  pub is-plan-of : t .banks ≤ 1024 → T (isPlan s t) → PlanOf (graphIn (t .banks) s) s t
   unfolding graphIn
-  holds-plan = own-plan
+  is-plan-of = own-plan
 
   -- and these are the plan's
   module _ (G : Graph) (p : PlanOf G s t) where
@@ -171,14 +171,55 @@ module _ (s : Slices) (t : Tally) where
     unfolding graphIn
     cells-give = record { banks = tally-banks t G (p .tally); clash = rows-give-clashes; rank = λ x h. held-of G s t p .ranked .cells x h }
 
-    pub plan-holds : T (holds s t)
+    pub plan-is-plan : T (isPlan s t)
     unfolding graphIn
-    plan-holds = own-holds (plan-agree cells-give s t p)
+    plan-is-plan = own-is-plan (plan-agree cells-give s t p)
 
   -- the answer of the test
   module _ (few : t .banks ≤ 1024) (room : longEnough (t .banks) s ≡ true) where
-    pub accepts : Tested s t → true ≡ holds s t
-    accepts h = test-ext true (holds s t) (λ u. own-holds (tested-plan s t few (long (t .banks) s room) h)) (λ u. tt)
+    pub accepts : Tested s t → true ≡ isPlan s t
+    accepts h = test-ext true (isPlan s t) (λ u. own-is-plan (tested-plan s t few (long (t .banks) s room) h)) (λ u. tt)
 
-    pub refuses : (Tested s t → ⊥) → false ≡ holds s t
-    refuses h = test-ext false (holds s t) (λ u. absurd u) (λ u. h (plan-tested s t (own-plan few u)))
+    pub refuses : (Tested s t → ⊥) → false ≡ isPlan s t
+    refuses h = test-ext false (isPlan s t) (λ u. absurd u) (λ u. h (plan-tested s t (own-plan few u)))
+
+-- the cap, part by part
+module _ (t : Tally) where
+  pub cap-fits : 1 ≤ t .cap → t .cap ≤ 24 → t .waves ≤ t .cap → T (capFits t)
+  unfolding capFits
+  cap-fits a b c = both (leb 1 (t .cap)) _ (le→leb 1 (t .cap) a) (both (leb (t .cap) 24) _ (le→leb (t .cap) 24 b) (le→leb (t .waves) (t .cap) c))
+
+  pub cap-parts : T (capFits t) → (1 ≤ t .cap) × (t .cap ≤ 24) × (t .waves ≤ t .cap)
+  unfolding capFits
+  cap-parts h =
+      let r = and-r (leb 1 (t .cap)) _ h in
+      (leb→le 1 (t .cap) (and-l (leb 1 (t .cap)) _ h), leb→le (t .cap) 24 (and-l (leb (t .cap) 24) _ r), leb→le (t .waves) (t .cap) (and-r (leb (t .cap) 24) _ r))
+
+  -- the answer of its test
+  pub cap-fine : 1 ≤ t .cap → t .cap ≤ 24 → t .waves ≤ t .cap → true ≡ capFits t
+  cap-fine a b c = sym (is-true (capFits t) (cap-fits a b c))
+
+  pub cap-unfit : (1 ≤ t .cap → t .cap ≤ 24 → t .waves ≤ t .cap → ⊥) → false ≡ capFits t
+  cap-unfit f = sym (is-false (capFits t) (λ h. let p = cap-parts h in f (p .0) (p .1) (p .2)))
+
+-- question 5 asks both
+module _ (s : Slices) (t : Tally) where
+  pub holds-plan : t .banks ≤ 1024 → T (holds s t) → PlanOf (graphIn (t .banks) s) s t
+  unfolding holds
+  holds-plan few h = is-plan-of s t few (and-l (isPlan s t) _ h)
+
+  pub holds-cap : T (holds s t) → T (capFits t)
+  unfolding holds
+  holds-cap h = and-r (isPlan s t) _ h
+
+  pub plan-holds : (G : Graph) → PlanOf G s t → T (capFits t) → T (holds s t)
+  unfolding holds
+  plan-holds G p c = both (isPlan s t) _ (plan-is-plan s t G p) c
+
+  -- the answer, once the cap is tested
+  pub cap-refused : false ≡ capFits t → false ≡ holds s t
+  cap-refused e = sym (is-false (holds s t) (λ h. T-along (sym e) (holds-cap h)))
+
+  pub cap-granted : {r : Bool} → true ≡ capFits t → r ≡ isPlan s t → r ≡ holds s t
+  unfolding holds
+  cap-granted e q = q ∙ test-ext (isPlan s t) (isPlan s t && capFits t) (λ u. both (isPlan s t) _ u (T-along e tt)) (λ u. and-l (isPlan s t) _ u)

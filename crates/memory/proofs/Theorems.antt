@@ -12,7 +12,7 @@ use Rattle.rule.specs.Wave.{wave, waves, waveCount}
 use Rattle.rule.specs.Bounds.{waveBound, largestDegree}
 use Rattle.rule.proofs.Theorems.{wave-bound, wave-degrees, wave-most, wave-count-small}
 use Rattle.memory.specs.declared.Tally.{Tally}
-use Rattle.memory.specs.Plan.{Slices, longEnough, neighbourCells, degreeCells, countCells, rankCells, tallyOf, planIn, graphIn, clashCount, holds, Clashes}
+use Rattle.memory.specs.Plan.{Slices, longEnough, neighbourCells, degreeCells, countCells, rankCells, tallyOf, planIn, graphIn, clashCount, capFits, holds, Clashes}
 use Rattle.memory.specs.Plan.{PlanOf}
 use Rattle.memory.specs.inner.Counts.{byCells, standing, countIn, Countable, mostOf}
 use Rattle.memory.specs.PlanCells.{planCells}
@@ -26,15 +26,19 @@ use Rattle.memory.proofs.Sums
 use Rattle.memory.proofs.Question
 use Rattle.memory.proofs.ClashPairs
 
--- 1. question 5: memory passes exactly if it holds the plan of some set of clashes; then it holds that of the clashes that its rows name,
--- which are the plan's
-pub question-5 : (s : Slices) (t : Tally) → t .banks ≤ 1024 → T (holds s t) ↔ ((G : Graph) × PlanOf G s t)
-question-5 s t few = (λ h. (graphIn (t .banks) s, Question.holds-plan s t few h), λ g. Question.plan-holds s t (g .0) (g .1))
+-- 1. question 5: memory passes exactly if it holds the plan of some set of clashes, under a cap that fits; then it holds that of the clashes that
+-- its rows name, which are the plan's
+pub question-5 : (s : Slices) (t : Tally) → t .banks ≤ 1024 → T (holds s t) ↔ ((G : Graph) × PlanOf G s t × T (capFits t))
+question-5 s t few =
+    (λ h. (graphIn (t .banks) s, Question.holds-plan s t few h, Question.holds-cap s t h), λ g. Question.plan-holds s t (g .0) (g .1) (g .2))
 
 pub holds-plan : (s : Slices) (t : Tally) → t .banks ≤ 1024 → T (holds s t) → PlanOf (graphIn (t .banks) s) s t
 holds-plan = Question.holds-plan
 
-pub plan-holds : (s : Slices) (t : Tally) (G : Graph) → PlanOf G s t → T (holds s t)
+pub holds-cap : (s : Slices) (t : Tally) → T (holds s t) → T (capFits t)
+holds-cap = Question.holds-cap
+
+pub plan-holds : (s : Slices) (t : Tally) (G : Graph) → PlanOf G s t → T (capFits t) → T (holds s t)
 plan-holds = Question.plan-holds
 
 pub rows-give-clashes : (s : Slices) (t : Tally) (G : Graph) → PlanOf G s t → (x y : ℕ) → x < G .banks → y < G .banks
@@ -52,7 +56,7 @@ module _ {G H : Graph} (a : Same G H) where
   pub planIn-agree : (s : Slices) → planIn G s ≡ planIn H s
   planIn-agree = Agree.planIn-agree a
 
-  pub tally-agree : tallyOf G ≡ tallyOf H
+  pub tally-agree : (cap : ℕ) → tallyOf cap G ≡ tallyOf cap H
   tally-agree = Agree.tally-agree a
 
   pub plan-agree : (s : Slices) (t : Tally) → PlanOf H s t → PlanOf G s t
@@ -94,11 +98,11 @@ long-again = Plans.long-again
 pub held-of : (G : Graph) (s : Slices) (t : Tally) → PlanOf G s t → Held G s (t .banks)
 held-of = Views.held-of
 
-pub plan-of : (G : Graph) (s : Slices) (t : Tally) (n : ℕ) → Held G s n → t ≡ tallyOf G
+pub plan-of : (G : Graph) (s : Slices) (t : Tally) (n : ℕ) → Held G s n → t ≡ tallyOf (t .cap) G
     → PlanOf G s t
 plan-of = Views.plan-of
 
-pub open-plan : (n : ℕ) (s : Slices) → n ≤ 1024 → longEnough n s ≡ true → PlanOf (empty n) (planIn (empty n) s) (tallyOf (empty n))
+pub open-plan : (cap n : ℕ) (s : Slices) → n ≤ 1024 → longEnough n s ≡ true → PlanOf (empty n) (planIn (empty n) s) (tallyOf cap (empty n))
 open-plan = Plans.open-plan
 
 pub held-small : {G : Graph} {s : Slices} {n : ℕ} → Held G s n → (x : ℕ) → x < n → getD (s .waves) x 0 < 24
@@ -156,3 +160,7 @@ module _ {G : Graph} {s : Slices} {t : Tally} (plan : PlanOf G s t) where
 
   pub tally-waves : t .waves ≤ 24
   tally-waves = omega (arith, waves-are, wave-count-small G (plan .clashes .few))
+
+-- 9. a cap of 24 fits every plan
+pub widest-cap : {G : Graph} {s : Slices} {t : Tally} → PlanOf G s t → t .cap ≡ 24 → T (capFits t)
+widest-cap plan e = Question.cap-fits _ (omega (arith, e)) (omega (arith, e)) (omega (arith, e, tally-waves plan))

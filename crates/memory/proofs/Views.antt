@@ -16,7 +16,7 @@ use Rattle.memory.specs.inner.View.{Long, Held}
 use Rattle.memory.proofs.Cells.{cells-long, cells-at, cells-by, table-at, table-by}
 use Rattle.memory.proofs.Plans.{long, long-enough}
 
-pub tally-banks : (t : Tally) (G : Graph) → t ≡ tallyOf G → t .banks ≡ G .banks
+pub tally-banks : (t : Tally) (G : Graph) → t ≡ tallyOf (t .cap) G → t .banks ≡ G .banks
 unfolding tallyOf
 tally-banks t G e = ap (λ (u : Tally). u .banks) e
 
@@ -82,7 +82,7 @@ module _ (G : Graph) (s : Slices) (t : Tally) where
         low = p .clashes .ranks;
       }
 
-  pub plan-of : (n : ℕ) → Held G s n → t ≡ tallyOf G → PlanOf G s t
+  pub plan-of : (n : ℕ) → Held G s n → t ≡ tallyOf (t .cap) G → PlanOf G s t
   unfolding neighbourCells degreeCells waves cells countCells rankCells standing
   plan-of n h e = record {
     clashes = record { most = h .rowed .few; symmetric = h .rowed .symmetric; apart = h .rowed .apart; few = h .rowed .small; ranks = h .low };

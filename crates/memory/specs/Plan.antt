@@ -1,4 +1,4 @@
--- Plan memory, cell by cell (01, "Plan memory"; 02, N6: ranks).
+-- Plan memory, cell by cell (01, "Plan memory"; 02, N6: ranks, N9: the cap).
 use mathlib.Core.Bool.{Bool, true, _&&_, _||_, not}
 use mathlib.Core.List.{List, foldr}
 use mathlib.Core.Path.{_≡_}
@@ -49,9 +49,9 @@ rankCells G = cells (G .banks) (G .rank)
 unfoldable pub clashCount : Graph → ℕ
 clashCount G = foldr (λ b m. degree G b + m) 0 (upto (G .banks)) / 2
 
--- the tally of G
-unfoldable pub tallyOf : Graph → Tally
-tallyOf G = record { banks = G .banks; clashes = clashCount G; waves = waveCount G }
+-- the tally of G, with a cap
+unfoldable pub tallyOf : ℕ → Graph → Tally
+tallyOf cap G = record { banks = G .banks; clashes = clashCount G; waves = waveCount G; cap = cap }
 
 -- the slices with the plan of G at their fronts; the cells beyond stay
 unfoldable pub planIn : Graph → Slices → Slices
@@ -76,9 +76,9 @@ proper G =
 unfoldable pub lowRanks : Graph → Bool
 lowRanks G = not (some (λ x. ltb 9999 (G .rank x)) (upto (G .banks)))
 
--- question 5: is memory, cell by cell, the plan of the clashes that its rows name and of its ranks, the tally included?
-unfoldable pub holds : Slices → Tally → Bool
-holds s t =
+-- is memory, cell by cell, the plan of the clashes that its rows name and of its ranks, the tally's numbers included?
+unfoldable pub isPlan : Slices → Tally → Bool
+isPlan s t =
     let G = graphIn (t .banks) s in
     proper G
     && (lowRanks G
@@ -89,6 +89,14 @@ holds s t =
     && (starts (rankCells G) (s .ranks)
     && (eqb (t .clashes) (clashCount G) && eqb (t .waves) (waveCount G))))))))
 
+-- is the tally's cap from 1 to 24, and not below its waves?
+unfoldable pub capFits : Tally → Bool
+capFits t = leb 1 (t .cap) && (leb (t .cap) 24 && leb (t .waves) (t .cap))
+
+-- question 5: does memory hold a plan, under a cap that fits it?
+unfoldable pub holds : Slices → Tally → Bool
+holds s t = isPlan s t && capFits t
+
 -- a set of clashes of different banks, at most 23 of each bank, on at most 1,024 banks of ranks up to 9,999
 pub record Clashes (G : Graph) : Type 0 where
   pub most : G .banks ≤ 1024
@@ -97,9 +105,9 @@ pub record Clashes (G : Graph) : Type 0 where
   pub few : (x : ℕ) → x < G .banks → degree G x ≤ 23
   pub ranks : (x : ℕ) → x < G .banks → G .rank x ≤ 9999
 
--- memory holds the plan of G: it is cell by cell what "Plan memory" gives for these clashes and ranks, the tally included
+-- memory holds the plan of G: it is cell by cell what "Plan memory" gives for these clashes and ranks, the tally included, whatever its cap
 pub record PlanOf (G : Graph) (s : Slices) (t : Tally) : Type 0 where
   pub clashes : Clashes G
   pub long : longEnough (G .banks) s ≡ true
   pub cells : planIn G s ≡ s
-  pub tally : t ≡ tallyOf G
+  pub tally : t ≡ tallyOf (t .cap) G

@@ -16,7 +16,7 @@ ghost use mathlib.Core.Bool.{true};
 ghost use mathlib.Core.Path.{_≡_};
 ghost use Prim.Native.Nat.{ℕ, _+_, _*_, _≤_, _<_};
 ghost use lib.ListN.{length, getD};
-ghost use Rattle.memory.specs.Plan.{longEnough, holds};
+ghost use Rattle.memory.specs.Plan.{longEnough, isPlan, capFits, holds};
 ghost use Rattle.memory.specs.Lent.{slicesGiven, slicesBefore};
 ghost use Rattle.memory.specs.inner.Test.{Says, row, part, Named, RowRight, RowsRight, Rows, Symmetric, Lowest};
 ghost use Rattle.memory.specs.inner.Test.{PartRight, CellsRight, CountsRight, ClashesRight, Under, Small, WavesSmall, sum};
@@ -284,8 +284,8 @@ fn degree_sum(degrees: &[u16], banks: u16) -> u16
     total
 }
 
-// Whether memory that is long enough holds a plan.
-pub fn holds_plan(
+// Whether memory that is long enough is a plan, cell by cell, the tally's numbers included.
+fn is_plan(
     neighbours: &[u16],
     degrees: &[u16],
     waves: &[u16],
@@ -295,7 +295,7 @@ pub fn holds_plan(
 ) -> bool
     requires { ⌜ tally .banks ≤ 1024 ⌝ }
     requires { ⌜ longEnough (tally .banks) (slicesGiven neighbours degrees waves counts ranks) ≡ true ⌝ }
-    ensures { λ r. ⌜ r ≡ holds (slicesBefore neighbours degrees waves counts ranks) tally ⌝ }
+    ensures { λ r. ⌜ r ≡ isPlan (slicesBefore neighbours degrees waves counts ranks) tally ⌝ }
 {
     let banks = tally.banks;
     if !rows_right(neighbours, degrees, banks) {
@@ -317,4 +317,39 @@ pub fn holds_plan(
         return false;
     }
     true
+}
+
+// Whether the tally's cap is from 1 to 24, and not below its waves.
+fn cap_fits(tally: Tally) -> bool
+    ensures { λ r. ⌜ r ≡ capFits tally ⌝ }
+{
+    if tally.cap < 1 {
+        return false;
+    }
+    if MOST_WAVES < tally.cap {
+        return false;
+    }
+    if tally.cap < tally.waves {
+        return false;
+    }
+    true
+}
+
+// Whether memory that is long enough holds a plan, under a cap that fits it.
+pub fn holds_plan(
+    neighbours: &[u16],
+    degrees: &[u16],
+    waves: &[u16],
+    counts: &[u16],
+    ranks: &[u16],
+    tally: Tally,
+) -> bool
+    requires { ⌜ tally .banks ≤ 1024 ⌝ }
+    requires { ⌜ longEnough (tally .banks) (slicesGiven neighbours degrees waves counts ranks) ≡ true ⌝ }
+    ensures { λ r. ⌜ r ≡ holds (slicesBefore neighbours degrees waves counts ranks) tally ⌝ }
+{
+    if !cap_fits(tally) {
+        return false;
+    }
+    is_plan(neighbours, degrees, waves, counts, ranks, tally)
 }

@@ -31,7 +31,7 @@ use Rattle.memory.proofs.Standing.{standing-cong}
 use Rattle.memory.proofs.Views.{held-of}
 use Rattle.edits.specs.Edits.{Acceptable}
 use Rattle.memory.specs.Memory.{Memory}
-use Rattle.planner.specs.Calls.{editResult, noEdit, refused, accepted, editNumber, editBy, editOf, memoryNumber, checkedBy, edit}
+use Rattle.planner.specs.Calls.{accepted, editNumber}
 use Rattle.memory.specs.Memory.{Ready}
 use Rattle.planner.proofs.Numbers.{strike-fine, add-fine, two-banks}
 use Rattle.planner.proofs.Outcomes.{acceptable, edited-banks}
@@ -84,8 +84,9 @@ module _ (G : Graph) (a b : ℕ) (c : Clashes G) where
   neighbours-kept Striking = neighbours-struck G a b
 
 -- the plan of clashes, put into slices that are long enough, is held by them
-pub plan-in : (H : Graph) (s : Slices) → Clashes H → longEnough (H .banks) s ≡ true → PlanOf H (planIn H s) (tallyOf H)
-plan-in H s c l = record { clashes = c; long = long-again H s l; cells = plan-over H H s refl; tally = refl }
+pub plan-in : (cap : ℕ) (H : Graph) (s : Slices) → Clashes H → longEnough (H .banks) s ≡ true → PlanOf H (planIn H s) (tallyOf cap H)
+unfolding tallyOf
+plan-in cap H s c l = record { clashes = c; long = long-again H s l; cells = plan-over H H s refl; tally = refl }
 
 module _ (k : Kind) (G : Graph) (a b : ℕ) (m : Memory) (ready : Ready G m) (due : editNumber k G a b ≡ 0) where
   abbrev H : Graph
@@ -103,7 +104,7 @@ module _ (k : Kind) (G : Graph) (a b : ℕ) (m : Memory) (ready : Ready G m) (du
   -- memory holds the plan of the new clashes
   pub after-plan : PlanOf H (accepted k G a b m .memory .slices) (accepted k G a b m .memory .tally)
   unfolding accepted
-  after-plan = plan-in H (m .slices) new-clashes (rw (edited-banks k G a b) (ready .plan .long))
+  after-plan = plan-in (m .tally .cap) H (m .slices) new-clashes (rw (edited-banks k G a b) (ready .plan .long))
 
   abbrev was : Held G (m .slices) (m .tally .banks)
   was = held-of G (m .slices) (m .tally) (ready .plan)
@@ -229,21 +230,5 @@ module _ (k : Kind) (G : Graph) (a b : ℕ) (m : Memory) (ready : Ready G m) (du
       ∙ ready .plan .cells
 
   pub inverse-tally : back .tally ≡ m .tally
-  unfolding accepted
-  inverse-tally = tally-agree back-same ∙ sym (ready .plan .tally)
-
-edit-same : (y : ℕ) (k : Kind) (G : Graph) (a b : ℕ) (m : Memory) (c : ℕ) → editBy y k G a b m .answer .number ≡ suc c → editBy y k G a b m ≡ refused (suc c) m
-unfolding editBy accepted refused
-edit-same zero k G a b m c e = absurd (omega (arith, e))
-edit-same (suc d) k G a b m c e = ap (λ (z : ℕ). editResult (noEdit z) m) e
-
-call-same : (x : ℕ) (k : Kind) (a b : ℕ) (m : Memory) (c : ℕ) → checkedBy x k a b m .answer .number ≡ suc c → checkedBy x k a b m ≡ refused (suc c) m
-unfolding checkedBy editOf refused
-call-same zero k a b m c e =
-    let G = graphIn (m .tally .banks) (m .slices) in edit-same (editNumber k G a b) k G a b m c e
-call-same (suc d) k a b m c e = ap (λ (z : ℕ). editResult (noEdit z) m) e
-
--- a refused call leaves all as it was, and its answer is the number with counts 0
-pub refused-same : (k : Kind) (a b : ℕ) (m : Memory) (c : ℕ) → edit k a b m .answer .number ≡ suc c → edit k a b m ≡ refused (suc c) m
-unfolding edit
-refused-same k a b m c e = call-same (memoryNumber m) k a b m c e
+  unfolding accepted tallyOf
+  inverse-tally = tally-agree back-same (m .tally .cap) ∙ sym (ready .plan .tally)

@@ -7,6 +7,6 @@ pub mod Outcomes
 pub mod After
 pub mod Made
 pub mod RanksSet
+pub mod Caps
 pub mod Lengths
-pub mod EditCalls
 pub mod Theorems

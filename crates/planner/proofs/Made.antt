@@ -62,7 +62,7 @@ Holding s = PlanOf (s .graph) (s .memory .slices) (s .memory .tally)
 pub make-kept : (k : Kind) (a b : ℕ) (s : State) → Holding s → editNumber k (s .graph) a b ≡ 0 → Holding (make k a b s)
 unfolding make accepted
 make-kept k a b s h z =
-    plan-in (edited k (s .graph) a b) (s .memory .slices) (clashes-edited (s .graph) a b (h .clashes) k (acceptable (s .graph) a b k z))
+    plan-in (s .memory .tally .cap) (edited k (s .graph) a b) (s .memory .slices) (clashes-edited (s .graph) a b (h .clashes) k (acceptable (s .graph) a b k z))
     (ap (λ (n : ℕ). longEnough n (s .memory .slices)) (edited-banks k (s .graph) a b) ∙ h .long)
 
 -- questions 3 and 4, answered by yes
@@ -81,4 +81,4 @@ module _ (n : ℕ) (m : Memory) where
   -- opening leaves the plan of no clash
   pub begin-holds : beginNumber n m ≡ 0 → Holding (begin n m)
   unfolding begin
-  begin-holds z = let p = begin-passed z in open-plan n (m .slices) (p .0) (p .1)
+  begin-holds z = let p = begin-passed z in open-plan 24 n (m .slices) (p .0) (p .1)

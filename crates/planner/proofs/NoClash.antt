@@ -80,13 +80,13 @@ module _ (G : Graph) (bare : Bare G) where
   unfolding countCells filter
   bare-counts = cells-const (24 * n) _ 0 (λ i h. ap (λ (l : List ℕ). length (filter (λ v. eqb (wave G v) (i % 24)) l)) (no-earlier (i / 24) (omega arith)))
 
-  pub bare-tally : tallyOf G ≡ record { banks = n; clashes = 0; waves = min 1 n }
+  pub bare-tally : (cap : ℕ) → tallyOf cap G ≡ record { banks = n; clashes = 0; waves = min 1 n; cap = cap }
   unfolding tallyOf clashCount waveCount
-  bare-tally =
+  bare-tally cap =
       let c : foldr (λ (b m : ℕ). degree G b + m) 0 (upto n) / 2 ≡ 0 = omega (arith, sum-none (degree G) (upto n) (λ x m. no-degree x (upto-below n x m))) in
       let w : foldr (λ (b k : ℕ). max (suc (wave G b)) k) 0 (upto n) ≡ min 1 n =
       most-none (wave G) (upto n) (λ x m. first-wave x (upto-below n x m)) ∙ ap (λ (k : ℕ). min 1 k) (length-upto n) in
-      λ i. record { banks = n; clashes = c i; waves = w i }
+      λ i. record { banks = n; clashes = c i; waves = w i; cap = cap }
 
 -- n banks of rank 0
 module _ (n : ℕ) where
@@ -124,7 +124,7 @@ module _ (n : ℕ) (s : Slices) (t : Tally) where
   unfolding openedBy
   opened-short h e = opened-by 2 (open-short n s h e)
 
-  pub opened-fine : n ≤ 1024 → longEnough n s ≡ true → openResult 0 (planIn (empty n) s) (tallyOf (empty n)) ≡ opened n s t
+  pub opened-fine : n ≤ 1024 → longEnough n s ≡ true → openResult 0 (planIn (empty n) s) (tallyOf 24 (empty n)) ≡ opened n s t
   unfolding openedBy
   opened-fine h e = opened-by 0 (open-fine n s h e)
 
@@ -133,7 +133,7 @@ pub opened-filled : (n m : ℕ) (ns ds ws cs rs : List ℕ) (t : Tally) → m �
     → {ns′ ds′ ws′ cs′ rs′ : List ℕ} {w : ℕ}
     → ns′ ≡ replicate (m * 23) 65535 ++ drop (m * 23) ns → ds′ ≡ replicate m 0 ++ drop m ds → ws′ ≡ replicate m 0 ++ drop m ws
     → cs′ ≡ replicate (m * 24) 0 ++ drop (m * 24) cs → rs′ ≡ replicate m 0 ++ drop m rs → w ≡ min 1 n
-    → openResult 0 (slicesOf ns′ ds′ ws′ cs′ rs′) (record { banks = n; clashes = 0; waves = w }) ≡ opened n (slicesOf ns ds ws cs rs) t
+    → openResult 0 (slicesOf ns′ ds′ ws′ cs′ rs′) (record { banks = n; clashes = 0; waves = w; cap = 24 }) ≡ opened n (slicesOf ns ds ws cs rs) t
 opened-filled n m ns ds ws cs rs t same few long p q r u z v =
     let k : m * 23 ≡ 23 * n = omega arith in
     let j : m * 24 ≡ 24 * n = omega arith in
@@ -143,7 +143,7 @@ opened-filled n m ns ds ws cs rs t same few long p q r u z v =
     let e₄ = u ∙ ap (λ (x : ℕ). replicate x 0 ++ drop x cs) j in
     let e₅ = z ∙ ap (λ (x : ℕ). replicate x 0 ++ drop x rs) same in
     ap₂ (openResult 0) ((λ i. slicesOf (e₁ i) (e₂ i) (e₃ i) (e₄ i) (e₅ i)) ∙ sym (empty-plan n ns ds ws cs rs))
-    ((λ i. record { banks = n; clashes = 0; waves = v i }) ∙ sym (bare-tally (empty n) (none-clash n)))
+    ((λ i. record { banks = n; clashes = 0; waves = v i; cap = 24 }) ∙ sym (bare-tally (empty n) (none-clash n) 24))
     ∙ opened-fine n (slicesOf ns ds ws cs rs) t few long
 
 opened-plan-by : (c n : ℕ) (s : Slices) (t : Tally) → openNumber n s ≡ c → {s′ : Slices} {t′ : Tally} → openResult 0 s′ t′ ≡ openedBy c n s t → PlanOf (empty n) s′ t′
@@ -151,8 +151,8 @@ unfolding openedBy
 opened-plan-by zero n s t e {s′} {t′} q =
     let r = open-passed n s e in
     let p : s′ ≡ planIn (empty n) s = ap (λ (x : OpenResult). x .slices) q in
-    let u : t′ ≡ tallyOf (empty n) = ap (λ (x : OpenResult). x .tally) q in
-    rw (p, u) (open-plan n s (r .0) (r .1))
+    let u : t′ ≡ tallyOf 24 (empty n) = ap (λ (x : OpenResult). x .tally) q in
+    rw (p, u) (open-plan 24 n s (r .0) (r .1))
 opened-plan-by (suc c) n s t e q = let z : _≡_ {A = ℕ} 0 (suc c) = ap (λ (x : OpenResult). x .number) q in absurd (omega arith)
 
 -- accepted, memory holds the plan of no clash

@@ -5,7 +5,7 @@ use mathlib.Core.Logic.{_≢_}
 use mathlib.Core.Path.{_≡_, refl, sym}
 use native.Mathlib.Omega.{arith}
 use Prim.Native.Nat.{ℕ, suc, _≤_, _<_}
-use lib.Dec.{leb, ltb}
+use lib.Dec.{T, leb, ltb}
 use lib.ListN.{length}
 use borrow.Author.Tests.{le-leb, lt-leb, leb-true, lt-ltb, le-ltb, eq-eqb, ne-eqb}
 use Rattle.rule.specs.Graph.{Graph, degree}
@@ -13,7 +13,7 @@ use Rattle.rule.specs.declared.Kind.{Kind}
 use Rattle.rule.specs.declared.Kind.the-variants.{Adding, Striking}
 use Rattle.rule.proofs.Booleans.{T-along, is-true, both-true, and-true, and-false}
 use Rattle.memory.specs.declared.Tally.{Tally}
-use Rattle.memory.specs.Plan.{Slices, longEnough, graphIn, holds, PlanOf}
+use Rattle.memory.specs.Plan.{Slices, longEnough, graphIn, capFits, holds, PlanOf}
 use Rattle.memory.proofs.Theorems.{holds-plan, plan-holds}
 use Rattle.memory.proofs.Views.{tally-banks}
 use Rattle.planner.specs.Questions.{Question, firstNo}
@@ -191,7 +191,7 @@ unfolding graphIn
 number-ready m t v e = record { plan = number-plan (m .slices) (m .tally) e; trailRoom = t; movedRoom = v }
 
 -- and memory that holds a plan passes them
-pub held-number : (G : Graph) (s : Slices) (t : Tally) → PlanOf G s t → planNumber s t ≡ 0
-held-number G s t p =
+pub held-number : (G : Graph) (s : Slices) (t : Tally) → PlanOf G s t → T (capFits t) → planNumber s t ≡ 0
+held-number G s t p fits =
     let e = tally-banks t G (p .tally) in
-    plan-fine s t (omega (arith, p .clashes .most)) (rw e (p .long)) (is-true (holds s t) (plan-holds s t G p))
+    plan-fine s t (omega (arith, p .clashes .most)) (rw e (p .long)) (is-true (holds s t) (plan-holds s t G p fits))

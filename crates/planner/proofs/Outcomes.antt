@@ -1,4 +1,4 @@
--- What an edit of memory that holds a plan leaves, refused and accepted; and the calls add and strike over it.
+-- What an edit of memory that holds a plan leaves, refused and accepted.
 use mathlib.Core.Bool.{_&&_, not}
 use mathlib.Core.List.{List, [], _∷_}
 use mathlib.Core.Logic.{_≢_}
@@ -15,18 +15,17 @@ use Rattle.rule.specs.Reach.{edited, changed, onTrail, trail, moved}
 use Rattle.rule.specs.declared.Kind.{Kind}
 use Rattle.rule.specs.declared.Kind.the-variants.{Adding, Striking}
 use Rattle.memory.specs.declared.Tally.{Tally}
-use Rattle.memory.specs.Plan.{slicesOf, planIn, graphIn}
 use Rattle.edits.specs.declared.edit.Accepted.{Accepted}
 use Rattle.edits.specs.Edits.{HasRoom, Acceptable, Editable, Result}
 use Rattle.planner.specs.declared.Answer.{Answer}
 use Rattle.planner.specs.declared.Edited.{Edited}
 use Rattle.memory.specs.Memory.{Memory, memoryOf}
-use Rattle.planner.specs.Calls.{editResult, noEdit, refused, accepted, clashQuestions, editNumber, editBy, editOf, memoryNumber, checkedBy, edit}
+use Rattle.planner.specs.Calls.{editResult, noEdit, refused, accepted, clashQuestions, editNumber, editBy, editOf}
 use Rattle.memory.specs.Memory.{Ready}
 use Rattle.planner.specs.inner.Held.{graphBy, graphAfter, EditMade}
 use Rattle.rule.proofs.Booleans.{T-along, both-true}
 pub use Rattle.rule.proofs.Fixed.{edited-banks}
-use Rattle.planner.proofs.Numbers.{none, memory-passed, number-ready}
+use Rattle.planner.proofs.Numbers.{none}
 
 -- the number 0 says that no refusal is due
 module _ (G : Graph) (a b : ℕ) where
@@ -58,7 +57,7 @@ module _ (G : Graph) (a b : ℕ) where
           there e = (T-along (sym (none (G .clash a b) 6 [] e .0)) tt, tt)
 
 -- the same memory with this tally
-abbrev with : Memory → Tally → Memory
+abbrev pub with : Memory → Tally → Memory
 with m t = record { slices = m .slices; tally = t; trail = m .trail; moved = m .moved }
 
 -- refused: the number is not 0, the answer has it and memory is as it was
@@ -103,43 +102,3 @@ module _ (k : Kind) {G : Graph} (a b : ℕ) {m : Memory} (ready : Ready G m) (e 
       is = is-accepted ∙ unfold editBy in edit-by k G a b m 0 e;
       ready = rw (← (after-by k G a b m 0 e)) (unfold graphBy in done .ready);
     }
-
--- the calls add and strike: refused by questions 3 to 5, or an edit of the plan that memory holds
-module _ (k : Kind) (a b : ℕ) (m : Memory) where
-  checked-by : (c : ℕ) → c ≡ memoryNumber m → checkedBy c k a b m ≡ edit k a b m
-  unfolding edit
-  checked-by c e = ap (λ (x : ℕ). checkedBy x k a b m) e
-
-  pub call-refused : (c : ℕ) → c ≡ memoryNumber m → c ≢ 0 → (r : Edited) → r .answer ≡ noEdit c → r .tally ≡ m .tally
-      → editResult (r .answer) (with m (r .tally)) ≡ edit k a b m
-  call-refused zero e n r p q = absurd (n refl)
-  call-refused (suc c) e n r p q = ap₂ (λ (x : Answer) (t : Tally). editResult x (with m t)) p q ∙ unfold checkedBy refused in checked-by (suc c) e
-
-  pub call-held : 0 ≡ memoryNumber m → {r : Edited} {m′ : Memory} → EditMade k (graphIn (m .tally .banks) (m .slices)) a b m r m′ → editResult (r .answer) m′ ≡ edit k a b m
-  call-held e d = d .is ∙ unfold checkedBy in checked-by 0 e
-
-accepted-by : (c : ℕ) (k : Kind) (G : Graph) (a b : ℕ) (m : Memory) → editBy c k G a b m .answer .number ≡ 0 → (c ≡ 0) × (editBy c k G a b m ≡ accepted k G a b m)
-unfolding editBy refused
-accepted-by zero k G a b m e = (refl, refl)
-accepted-by (suc c) k G a b m e = absurd (omega (arith, e))
-
-call-by : (c : ℕ) (k : Kind) (a b : ℕ) (m : Memory) → checkedBy c k a b m .answer .number ≡ 0
-    → (c ≡ 0) × (editOf k (graphIn (m .tally .banks) (m .slices)) a b m .answer .number ≡ 0) × (checkedBy c k a b m ≡ editOf k (graphIn (m .tally .banks) (m .slices)) a b m)
-unfolding checkedBy refused
-call-by zero k a b m e = (refl, e, refl)
-call-by (suc c) k a b m e = absurd (omega (arith, e))
-
--- a call that is accepted is the edit of the plan that memory holds, to which no refusal was due
-pub accepted-edit : (k : Kind) (a b : ℕ) (m : Memory) → edit k a b m .answer .number ≡ 0
-    → Ready (graphIn (m .tally .banks) (m .slices)) m × (editNumber k (graphIn (m .tally .banks) (m .slices)) a b ≡ 0)
-    × (edit k a b m ≡ accepted k (graphIn (m .tally .banks) (m .slices)) a b m)
-unfolding edit
-accepted-edit k a b m e =
-    let G = graphIn (m .tally .banks) (m .slices) in
-    let q = call-by (memoryNumber m) k a b m e in
-    let p = memory-passed m (q .0) in
-    let r = accepted-of G (q .1) in
-    (number-ready m (p .0) (p .1) (p .2), r .0, q .2 ∙ r .1)
-  where
-    accepted-of : (G : Graph) → editOf k G a b m .answer .number ≡ 0 → (editNumber k G a b ≡ 0) × (editOf k G a b m ≡ accepted k G a b m)
-    accepted-of G e = unfold editOf in accepted-by (editNumber k G a b) k G a b m e

@@ -1,7 +1,7 @@
 -- An entry in memory that holds a plan. A rank is set before the first edit: no two banks clash then, so of the plan's cells only that rank differs.
 use mathlib.Core.Bool.{Bool, true, false, cond, not}
 use mathlib.Core.List.{List, [], _∷_}
-use mathlib.Core.Path.{_≡_, refl, sym, ap, _∙_}
+use mathlib.Core.Path.{_≡_, refl, sym, ap, _∙_, subst}
 use Prim.Native.Nat.{ℕ, zero, suc, _≤_, _<_}
 use native.Mathlib.Decide.{ℕ-discrete}
 use native.Mathlib.Omega.{arith}
@@ -68,8 +68,8 @@ module _ {G : Graph} {s : Slices} {t : Tally} (bare : Bare G) (plan : PlanOf G s
       let e₄ = sym (ap (λ (c : List ℕ). over c (s .counts)) (bare-counts H bareH ∙ sym (bare-counts G bare)) ∙ f .counts) in
       λ i. record { neighbours = e₁ i; degrees = e₂ i; waves = e₃ i; counts = e₄ i; ranks = rank-cells i }
 
-  pub ranked-tally : t ≡ tallyOf H
-  ranked-tally = plan .tally ∙ bare-tally G bare ∙ sym (bare-tally H bareH)
+  pub ranked-tally : t ≡ tallyOf (t .cap) H
+  ranked-tally = plan .tally ∙ bare-tally G bare (t .cap) ∙ sym (bare-tally H bareH (t .cap))
 
   low : (x : ℕ) → x < G .banks → Dec (x ≡ b) → H .rank x ≤ 9999
   low x l (yes e) = rw (eq-eqb x b e) fits
@@ -85,8 +85,8 @@ module _ {G : Graph} {s : Slices} {t : Tally} (bare : Bare G) (plan : PlanOf G s
     ranks = λ x l. low x l (ℕ-discrete x b);
   }
 
-  pub ranked-plan : PlanOf H (planIn H s) (tallyOf H)
-  ranked-plan = plan-in H s ranked-clashes (plan .long)
+  pub ranked-plan : (cap : ℕ) → PlanOf H (planIn H s) (tallyOf cap H)
+  ranked-plan cap = plan-in cap H s ranked-clashes (plan .long)
 
 -- the answers of `rank_held`
 module _ {begun : Bool} {b r : ℕ} {t : Tally} {rs : List ℕ} {e : Edited} where
@@ -146,7 +146,7 @@ unfolding enter entryNumber setRank
 enter-sound (Clash k a b) s h f z = make-sound k (a .0) (b .0) s (h .holding) z
 enter-sound (Rank b r) s h f z =
     let p = rank-passed (s .begun) (b .0) (s .graph .banks) z in
-    record { holding = ranked-plan (h .fresh (p .0)) (h .holding) (b .0) r (p .1) f; fresh = λ q. h .fresh q }
+    record { holding = ranked-plan (h .fresh (p .0)) (h .holding) (b .0) r (p .1) f (s .memory .tally .cap); fresh = λ q. h .fresh q }
 
 module _ (begun : Bool) (b : Bank) (r : ℕ) {G : Graph} {m : Memory} (ready : Ready G m) (fresh : Fresh begun G) (fits : r ≤ 9999) where
   number-is : rankNumber begun (b .0) (m .tally .banks) ≡ entryNumber (Rank b r) (at begun G m)
@@ -172,7 +172,7 @@ module _ (begun : Bool) (b : Bank) (r : ℕ) {G : Graph} {m : Memory} (ready : R
       record {
         memory = λ i. memoryOf (cells i) (m .trail) (m .moved) (tally i);
         ready = record {
-          plan = rw (cells, tally) (ranked-plan bare (ready .plan) (b .0) r (p .1) fits);
+          plan = rw cells (subst (PlanOf (ranked G (b .0) r) (planIn (ranked G (b .0) r) (m .slices))) (sym tally) (ranked-plan bare (ready .plan) (b .0) r (p .1) fits (m .tally .cap)));
           trailRoom = ready .trailRoom;
           movedRoom = ready .movedRoom;
         };

@@ -44,7 +44,7 @@ unfoldable pub clashQuestions : Kind → Bool → ℕ → ℕ → List Question
 clashQuestions Adding clash da db = (not clash else 6) ∷ (ltb da 23 && ltb db 23 else 8) ∷ []
 clashQuestions Striking clash da db = (clash else 7) ∷ []
 
--- questions 7 to 11 of an edit of the plan of G
+-- questions 7 to 11 of an edit of the plan of G; the question of its cap comes after them, where a call asks it
 unfoldable pub editNumber : Kind → Graph → ℕ → ℕ → ℕ
 editNumber k G a b =
     firstNo ((ltb a (G .banks) && ltb b (G .banks) else 4) ∷ (not (eqb a b) else 5) ∷ clashQuestions k (G .clash a b) (degree G a) (degree G b))
@@ -60,10 +60,10 @@ openResult number slices tally = record { number = number; slices = slices; tall
 
 -- by the number of the first no
 unfoldable pub openedBy : ℕ → ℕ → Slices → Tally → OpenResult
-openedBy zero n s t = openResult 0 (planIn (empty n) s) (tallyOf (empty n))
+openedBy zero n s t = openResult 0 (planIn (empty n) s) (tallyOf 24 (empty n))
 openedBy (suc c) n s t = openResult (suc c) s t
 
--- the call open: the plan of n banks and no clash, or the number, and all as it was
+-- the call open: the plan of n banks and no clash, with a cap of 24, or the number, and all as it was
 unfoldable pub opened : ℕ → Slices → Tally → OpenResult
 opened n s t = openedBy (openNumber n s) n s t
 
@@ -83,7 +83,7 @@ noEdit c = record { number = c; moved = 0; trail = 0 }
 unfoldable pub refused : ℕ → Memory → EditResult
 refused c m = editResult (noEdit c) m
 
--- accepted: the plan of the new clashes; the trail and the moved list at the fronts of their slices, and their lengths
+-- accepted: the plan of the new clashes; the cap as it was; the trail and the moved list at the fronts of their slices, and their lengths
 unfoldable pub accepted : Kind → Graph → ℕ → ℕ → Memory → EditResult
 accepted k old a b m =
     let new = edited k old a b in
@@ -91,7 +91,7 @@ accepted k old a b m =
       answer = record { number = 0; moved = length (moved old new); trail = length (trail k old new a b) };
       memory = record {
         slices = planIn new (m .slices);
-        tally = tallyOf new;
+        tally = tallyOf (m .tally .cap) new;
         trail = over (trail k old new a b) (m .trail);
         moved = over (moved old new) (m .moved);
       };
@@ -105,15 +105,6 @@ editBy (suc c) k G a b m = refused (suc c) m
 -- an edit of memory that holds the plan of G
 unfoldable pub editOf : Kind → Graph → ℕ → ℕ → Memory → EditResult
 editOf k G a b m = editBy (editNumber k G a b) k G a b m
-
--- by the number of the first no
-unfoldable pub checkedBy : ℕ → Kind → ℕ → ℕ → Memory → EditResult
-checkedBy zero k a b m = editOf k (graphIn (m .tally .banks) (m .slices)) a b m
-checkedBy (suc c) k a b m = refused (suc c) m
-
--- the calls add and strike, of any memory
-unfoldable pub edit : Kind → ℕ → ℕ → Memory → EditResult
-edit k a b m = checkedBy (memoryNumber m) k a b m
 
 -- by the number of the first no
 unfoldable pub waveBy : ℕ → ℕ → Graph → ℕ

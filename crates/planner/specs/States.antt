@@ -23,14 +23,14 @@ pub record State : Type 0 where
 unfoldable pub make : Kind → ℕ → ℕ → State → State
 make k a b s = record { graph = edited k (s .graph) a b; memory = accepted k (s .graph) a b (s .memory) .memory; begun = true }
 
--- the memory with the plan of G; trail and moved stay
-abbrev pub planned : Graph → Memory → Memory
-planned G m = record { slices = planIn G (m .slices); tally = tallyOf G; trail = m .trail; moved = m .moved }
+-- the memory with the plan of G and this cap; trail and moved stay
+abbrev pub planned : ℕ → Graph → Memory → Memory
+planned cap G m = record { slices = planIn G (m .slices); tally = tallyOf cap G; trail = m .trail; moved = m .moved }
 
 -- the rank of b set to r
 unfoldable pub setRank : ℕ → ℕ → State → State
 setRank b r s =
-    record { graph = ranked (s .graph) b r; memory = planned (ranked (s .graph) b r) (s .memory); begun = s .begun }
+    record { graph = ranked (s .graph) b r; memory = planned (s .memory .tally .cap) (ranked (s .graph) b r) (s .memory); begun = s .begun }
 
 -- has an edit come, once this entry has?
 unfoldable pub begunBy : Entry → Bool → Bool
@@ -47,9 +47,9 @@ unfoldable pub enter : Entry → State → State
 enter (Clash k a b) s = make k (a .0) (b .0) s
 enter (Rank b r) s = setRank (b .0) r s
 
--- the plan of n banks and no clash
+-- the plan of n banks and no clash, with a cap of 24
 unfoldable pub begin : ℕ → Memory → State
-begin n m = record { graph = empty n; memory = planned (empty n) m; begun = false }
+begin n m = record { graph = empty n; memory = planned 24 (empty n) m; begun = false }
 
 -- questions 3 and 4, the latter for all slices
 unfoldable pub beginNumber : ℕ → Memory → ℕ

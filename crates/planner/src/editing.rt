@@ -1,7 +1,6 @@
-// The calls add and strike.
+// The edit of one clash in memory that holds a plan, and its questions 7 to 11.
 use crate::Answer;
 use crate::Edited;
-use crate::checks::check_memory;
 use crate::reading::clashes_held;
 use edits::make_edit;
 use memory::Tally;
@@ -17,7 +16,7 @@ ghost use Rattle.rule.specs.declared.Kind.the-variants.{Adding, Striking};
 ghost use Rattle.memory.specs.Plan.{PlanOf};
 ghost use Rattle.memory.specs.Memory.{Ready};
 ghost use Rattle.memory.specs.Lent.{slicesGiven, slicesBefore, given, before, after};
-ghost use Rattle.planner.specs.Calls.{noEdit, editResult, editNumber, edit};
+ghost use Rattle.planner.specs.Calls.{noEdit, editNumber};
 ghost use Rattle.planner.specs.inner.Held.{clashNumber, HoldsPlan, EditMade};
 
 // Whether the cells name bank v.
@@ -165,111 +164,4 @@ pub fn edit_held(
         },
         tally: after,
     }
-}
-
-// An edit with the tally by value: the core of `add` and `strike`, for programs and other crates.
-pub fn edit_core(
-    kind: Kind,
-    neighbours: &mut [u16],
-    degrees: &mut [u16],
-    waves: &mut [u16],
-    counts: &mut [u16],
-    ranks: &[u16],
-    trail: &mut [u16],
-    moved: &mut [u16],
-    tally: Tally,
-    a: Bank,
-    b: Bank,
-) -> Edited
-    ensures { λ r. ⌜ editResult (r .answer) (after neighbours degrees waves counts ranks trail moved (r .tally))
-        ≡ edit kind (a .0) (b .0) (before neighbours degrees waves counts ranks trail moved tally) ⌝ }
-{
-    let number = check_memory(
-        neighbours,
-        degrees,
-        waves,
-        counts,
-        ranks,
-        trail,
-        moved,
-        tally,
-    );
-    if number != 0 {
-        return refuse(number, tally);
-    }
-    edit_held(
-        kind,
-        neighbours,
-        degrees,
-        waves,
-        counts,
-        ranks,
-        trail,
-        moved,
-        tally,
-        a,
-        b,
-    )
-}
-
-// The core of `add`.
-pub fn add_core(
-    neighbours: &mut [u16],
-    degrees: &mut [u16],
-    waves: &mut [u16],
-    counts: &mut [u16],
-    ranks: &[u16],
-    trail: &mut [u16],
-    moved: &mut [u16],
-    tally: Tally,
-    a: Bank,
-    b: Bank,
-) -> Edited
-    ensures { λ r. ⌜ editResult (r .answer) (after neighbours degrees waves counts ranks trail moved (r .tally))
-        ≡ edit Adding (a .0) (b .0) (before neighbours degrees waves counts ranks trail moved tally) ⌝ }
-{
-    edit_core(
-        Kind::Adding,
-        neighbours,
-        degrees,
-        waves,
-        counts,
-        ranks,
-        trail,
-        moved,
-        tally,
-        a,
-        b,
-    )
-}
-
-// The core of `strike`.
-pub fn strike_core(
-    neighbours: &mut [u16],
-    degrees: &mut [u16],
-    waves: &mut [u16],
-    counts: &mut [u16],
-    ranks: &[u16],
-    trail: &mut [u16],
-    moved: &mut [u16],
-    tally: Tally,
-    a: Bank,
-    b: Bank,
-) -> Edited
-    ensures { λ r. ⌜ editResult (r .answer) (after neighbours degrees waves counts ranks trail moved (r .tally))
-        ≡ edit Striking (a .0) (b .0) (before neighbours degrees waves counts ranks trail moved tally) ⌝ }
-{
-    edit_core(
-        Kind::Striking,
-        neighbours,
-        degrees,
-        waves,
-        counts,
-        ranks,
-        trail,
-        moved,
-        tally,
-        a,
-        b,
-    )
 }

@@ -1,4 +1,4 @@
-// The planner: a wave plan in caller-lent memory.
+// The planner: opening a wave plan in lent memory, reading it, and the edit of one clash where memory is known to hold a plan.
 mod checks;
 mod editing;
 mod entering;
@@ -8,16 +8,12 @@ mod reading;
 
 pub use checks::check_memory;
 pub use checks::check_plan;
-pub use editing::add_core;
-pub use editing::edit_core;
 pub use editing::edit_held;
 pub use editing::edit_number;
-pub use editing::strike_core;
+pub use editing::refuse;
 pub use entering::begun_by;
 pub use entering::enter_held;
-pub use lent::add;
 pub use lent::open;
-pub use lent::strike;
 pub use opening::open_all;
 pub use opening::open_core;
 pub use reading::clashes_held;

@@ -4,6 +4,7 @@ use memory::Tally;
 use memory::long_enough;
 use rule::COUNT_CELLS;
 use rule::MOST_BANKS;
+use rule::MOST_WAVES;
 use rule::ROW_CELLS;
 use rule::UNUSED;
 use rule::wide;
@@ -75,6 +76,7 @@ pub fn open_core(
             banks: banks,
             clashes: 0,
             waves: first_waves(banks),
+            cap: MOST_WAVES,
         },
     }
 }

@@ -3,12 +3,12 @@ use mathlib.Core.Bool.{cond}
 use mathlib.Core.List.{List, [], _∷_}
 use mathlib.Core.Path.{_≡_, sym, ap, ap₂, _∙_}
 use Prim.Native.Nat.{ℕ, _+_, _*_, _/_, _≤_, _<_}
-use lib.Dec.{ltb}
+use lib.Dec.{T, ltb}
 use lib.ListN.{length, getD, replicate}
 use Rattle.rule.specs.Graph.{Graph}
 use Rattle.memory.specs.declared.Tally.{Tally}
 use Rattle.memory.specs.Cells.{over}
-use Rattle.memory.specs.Plan.{Slices, clashCount, graphIn, Clashes, PlanOf}
+use Rattle.memory.specs.Plan.{Slices, clashCount, graphIn, capFits, Clashes, PlanOf}
 use Rattle.text.specs.Text.{joined}
 use Rattle.wave_lines.specs.Lines.{linesOf, banksShown, times}
 use Rattle.wave_lines.specs.Foot.{totalsOf}
@@ -68,8 +68,8 @@ pub one-poster : (G H : Graph) (s : Slices) (t : Tally) → PlanOf G s t → Pla
 unfolding poster
 one-poster G H s t p q = ap (λ (ls : List (List ℕ)). joined (filled ls)) (sym (Plans.lines-are G s t p) ∙ Plans.lines-are H s t q)
 
--- 8. an output of 8,200 bytes is never too short: memory that holds the plan of G gives its poster
-pub never-short : (G : Graph) (s : Slices) (t : Tally) (out : List ℕ) → PlanOf G s t → 8200 ≤ length out
+-- 8. an output of 8,200 bytes is never too short: memory that holds the plan of G, under a cap that fits, gives its poster
+pub never-short : (G : Graph) (s : Slices) (t : Tally) (out : List ℕ) → PlanOf G s t → T (capFits t) → 8200 ≤ length out
     → textResult (record { number = 0; length = length (poster G) }) (over (poster G) out) ≡ writePoster s t out
 never-short = Writing.never-short poster 8200 poster-fits one-poster
 

@@ -9,7 +9,7 @@ use Rattle.rule.specs.Graph.{Graph, empty}
 use Rattle.rule.specs.Wave.{waveCount}
 use Rattle.memory.specs.declared.Tally.{Tally}
 use Rattle.memory.specs.Cells.{over}
-use Rattle.memory.specs.Plan.{Slices, clashCount, graphIn, Clashes, PlanOf}
+use Rattle.memory.specs.Plan.{Slices, clashCount, graphIn, capFits, Clashes, PlanOf}
 use Rattle.text.specs.Text.{joined}
 use Rattle.wave_lines.specs.Lines.{linesOf}
 use Rattle.wave_lines.specs.Foot.{totalsOf}
@@ -38,8 +38,8 @@ module _ (G : Graph) where
 pub one-sheet : (G H : Graph) (s : Slices) (t : Tally) → PlanOf G s t → PlanOf H s t → sheet G ≡ sheet H
 one-sheet G H s t p q = sym (Plans.sheet-is G s t p) ∙ Plans.sheet-is H s t q
 
--- 3. an output of 4,084 bytes is never too short: memory that holds the plan of G gives its sheet
-pub never-short : (G : Graph) (s : Slices) (t : Tally) (out : List ℕ) → PlanOf G s t → 4084 ≤ length out
+-- 3. an output of 4,084 bytes is never too short: memory that holds the plan of G, under a cap that fits, gives its sheet
+pub never-short : (G : Graph) (s : Slices) (t : Tally) (out : List ℕ) → PlanOf G s t → T (capFits t) → 4084 ≤ length out
     → textResult (record { number = 0; length = length (sheet G) }) (over (sheet G) out) ≡ writeSheet s t out
 never-short = Writing.never-short sheet 4084 sheet-fits one-sheet
 

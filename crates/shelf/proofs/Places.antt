@@ -10,18 +10,18 @@ use lib.ListN.{length, getD, take, drop, length-take, length-drop}
 use Rattle.memory.specs.declared.Tally.{Tally}
 use Rattle.memory.specs.Plan.{slicesOf, longEnough, holds}
 use Rattle.memory.proofs.Theorems.{long-enough}
-use Rattle.shelf.specs.Shelf.{degreesAt, wavesAt, countsAt, tallyAt, ranksAt, placeSize, part, place, used, slicesIn, tallyIn, holdsIn, placeRight, shelfRight}
+use Rattle.shelf.specs.Shelf.{degreesAt, wavesAt, countsAt, tallyAt, ranksAt, capAt, placeSize, part, place, used, slicesIn, tallyIn, holdsIn, placeRight, shelfRight}
 use Rattle.shelf.proofs.Putting.{part-cell}
 
 -- a part that is lent, by its size
 pub lent-part : (a e size : ℕ) (cells : List ℕ) → e ≡ a + size → take (e - a) (drop a cells) ≡ part a size cells
 lent-part a e size cells h = let s : e - a ≡ size = omega arith in rw s refl
 
--- the tally by its first cell
-pub tally-from : (n at : ℕ) (cells : List ℕ) → at ≡ tallyAt n
-    → record { banks = getD cells at 0; clashes = getD cells (at + 1) 0; waves = getD cells (at + 2) 0 } ≡ tallyIn n cells
+-- the tally by its first cell and that of its cap
+pub tally-from : (n at cap-at : ℕ) (cells : List ℕ) → at ≡ tallyAt n → cap-at ≡ capAt n
+    → record { banks = getD cells at 0; clashes = getD cells (at + 1) 0; waves = getD cells (at + 2) 0; cap = getD cells cap-at 0 } ≡ tallyIn n cells
 unfolding tallyIn
-tally-from n at cells e = rw e refl
+tally-from n at cap-at cells e k = rw (e, k) refl
 
 module _ (n : ℕ) (cells : List ℕ) where
   -- a place that holds a plan of n banks, or does not

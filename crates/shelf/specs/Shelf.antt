@@ -1,4 +1,4 @@
--- The shelf of kept states, cell by cell (02, N5; N6: ranks). A kept state is the field's checkpoint: a plan's cells and its tally.
+-- The shelf of kept states, cell by cell (02, N5; N6: ranks, N9: the cap). A kept state is the field's checkpoint: a plan's cells and its tally.
 use mathlib.Core.Bool.{Bool, _&&_, _||_}
 use mathlib.Core.List.{List, [], _∷_, _++_}
 use Prim.Native.Nat.{ℕ, _+_, _*_}
@@ -23,13 +23,17 @@ countsAt n = 1 + 25 * n
 abbrev pub tallyAt : ℕ → ℕ
 tallyAt n = 1 + 49 * n
 
--- and n ranks;
+-- n ranks,
 abbrev pub ranksAt : ℕ → ℕ
 ranksAt n = 4 + 49 * n
 
+-- and the tally's cap, the last cell;
+abbrev pub capAt : ℕ → ℕ
+capAt n = 4 + 50 * n
+
 -- these are its cells
 abbrev pub placeSize : ℕ → ℕ
-placeSize n = 4 + 50 * n
+placeSize n = 5 + 50 * n
 
 -- three places follow each other
 abbrev pub shelfSize : ℕ → ℕ
@@ -57,15 +61,16 @@ slicesIn n cells =
     (part (countsAt n) (24 * n) cells)
     (part (ranksAt n) n cells)
 
--- the tally in a place of n banks
+-- the tally in a place of n banks, its cap included
 unfoldable pub tallyIn : ℕ → List ℕ → Tally
 tallyIn n cells = record {
   banks = getD cells (tallyAt n) 0;
   clashes = getD cells (tallyAt n + 1) 0;
   waves = getD cells (tallyAt n + 2) 0;
+  cap = getD cells (capAt n) 0;
 }
 
--- does it hold a plan of n banks, its tally included?
+-- does it hold a plan of n banks, its tally included, under a cap that fits it?
 unfoldable pub holdsIn : ℕ → List ℕ → Bool
 holdsIn n cells = eqb (tallyIn n cells .banks) n && holds (slicesIn n cells) (tallyIn n cells)
 
@@ -87,4 +92,5 @@ placeCells s t =
     ++ (take n (s .waves)
     ++ (take (24 * n) (s .counts)
     ++ ((t .banks ∷ t .clashes ∷ t .waves ∷ [])
-    ++ take n (s .ranks))))))
+    ++ (take n (s .ranks)
+    ++ (t .cap ∷ [])))))))

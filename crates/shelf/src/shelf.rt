@@ -12,10 +12,10 @@ ghost use Rattle.shelf.specs.Shelf.{placeSize, shelfSize, tallyIn, holds
 // The cells of a place for each bank: its row, its Counts, its degree, its wave and its rank.
 const BANK_CELLS: usize = 50;
 
-// The other cells of a place: the used cell and the tally.
-const OTHER_CELLS: usize = 4;
+// The other cells of a place: the used cell, and the tally with its cap.
+const OTHER_CELLS: usize = 5;
 
-// The cells of a tally in a place.
+// The cells of a tally in a place before the ranks; its cap stands after them, in the last cell.
 pub const TALLY_CELLS: usize = 3;
 
 // The cells of a place of so many banks.
@@ -31,14 +31,16 @@ pub fn tally_in(place: &[u16], n: usize) -> Tally
     ensures { λ r. ⌜ r ≡ tallyIn n (now (place .entry)) ⌝ }
 {
     let at = 1 + n * (ROW_CELLS + COUNT_CELLS + 2);
+    let cap_at = at + TALLY_CELLS + n;
     Tally {
         banks: place[at],
         clashes: place[at + 1],
         waves: place[at + 2],
+        cap: place[cap_at],
     }
 }
 
-// Whether a place holds a plan of so many banks, its tally included.
+// Whether a place holds a plan of so many banks, its tally included, under a cap that fits it.
 fn holds_in(place: &[u16], banks: u16) -> bool
     requires { ⌜ (banks ≤ 1024) × (length (now place) ≡ placeSize banks) ⌝ }
     ensures { λ r. ⌜ r ≡ holdsIn banks (now (place .entry)) ⌝ }

@@ -15,9 +15,10 @@ use Rattle.rule.specs.declared.Kind.the-variants.{Adding, Striking}
 use Rattle.memory.specs.declared.Tally.{Tally}
 use Rattle.memory.specs.Plan.{Slices, tallyOf, graphIn}
 use Rattle.memory.specs.Memory.{Memory, memoryOf}
-use Rattle.planner.specs.Calls.{openNumber, openedBy, opened, EditResult, refused, accepted, edit, editResult}
+use Rattle.planner.specs.Calls.{openNumber, openedBy, opened, EditResult, refused, accepted, editResult}
+use Rattle.edit_calls.specs.Calls.{edit, setCapNumber, setCapBy, setCap}
 use Rattle.planner.proofs.Outcomes.{edited-banks}
-use Rattle.planner.proofs.Theorems.{add-clashes, strike-clashes, refused-same, accepted-edit}
+use Rattle.edit_calls.proofs.Theorems.{add-clashes, strike-clashes, refused-same, accepted-edit}
 use Rattle.list_rows.specs.declared.row.Row.{Row}
 use Rattle.list_rows.specs.declared.row.Row.the-variants as Rows
 use Rattle.list_rows.specs.Rows.{rowsOf}
@@ -32,7 +33,7 @@ use Rattle.shelf.specs.Names.{placeOf}
 use Rattle.shelf.specs.Shelf.{place, tallyIn}
 use Rattle.checkpoints.specs.Calls.{ShelfResult, openShelfNumber, openShelfBy, openShelf, keepNumber, keepBy, keep, BackResult, comeBack}
 use Rattle.checkpoints.proofs.Theorems.{keep-unchanged, back-plan, back-unchanged}
-use Rattle.totals.specs.Runs.{Depot, depotOf, Call, Open, Edit, Record, Read, Replay, OpenShelf, Keep, Return, Answer, answerOf, withPlan, made}
+use Rattle.totals.specs.Runs.{Depot, depotOf, Call, Open, Edit, Record, SetCap, Read, Replay, OpenShelf, Keep, Return, Answer, answerOf, withPlan, made}
 use Rattle.totals.specs.Totals.{editTotal, rowsTotal, before, Kept, Count, countOf, ifAccepted, opensPlan, rowsCount, entriesCount, ofBanks, keptIn}
 use Rattle.totals.specs.Totals.{keptTotal, counted, begins, Own}
 use Rattle.totals.proofs.Edits.{tally-banks, no-clash}
@@ -174,7 +175,7 @@ module _ (k : Kind) (a b : ℕ) (m : Memory) where
   edit-banks : edit k a b m .answer .number ≡ 0 → edit k a b m .memory .tally .banks ≡ m .tally .banks
   unfolding accepted tallyOf graphIn
   edit-banks z =
-      ap (λ (r : EditResult). r .memory .tally .banks) (accepted-edit k a b m z .2) ∙ edited-banks k (graphIn (m .tally .banks) (m .slices)) a b
+      ap (λ (r : EditResult). r .memory .tally .banks) (accepted-edit k a b m z .is) ∙ edited-banks k (graphIn (m .tally .banks) (m .slices)) a b
 
   edit-refused : (c : ℕ) → edit k a b m .answer .number ≡ suc c → edit k a b m .memory ≡ m
   unfolding refused
@@ -216,6 +217,13 @@ module _ (k : Kind) (a b : ℕ) (m : Memory) (size : ℕ) (journal : List ℕ) w
         sym (ap (λ (r : EditResult). r .memory .tally .clashes) same) ∙ edit-clashes k a b m done,
         sym (ap (λ (r : EditResult). r .memory .tally .banks) same) ∙ edit-banks k a b m done,
       )
+
+-- the cap set: bank count and clashes stay
+module _ (most : ℕ) (d : Depot) (q : Count) (agrees : Agrees d q) where
+  cap-by : (c : ℕ) → Agrees (depotOf (withPlan (d .memory .slices) (setCapBy c most (d .memory .tally) .tally) (d .memory)) (d .shelf)) q
+  unfolding setCapBy
+  cap-by zero = record { banks = agrees .banks; clashes = agrees .clashes; kept = agrees .kept }
+  cap-by (suc c) = record { banks = agrees .banks; clashes = agrees .clashes; kept = agrees .kept }
 
 -- the shelf opened: nothing is counted as kept there
 module _ (n : ℕ) (d : Depot) (q : Count) (agrees : Agrees d q) where
@@ -300,6 +308,7 @@ agrees-after (Record k a b size journal) d q agrees own =
     let r = recorded k a b (d .memory) size journal in
     unfold made counted in edited-agrees k d q agrees (r .answer .number) (r .memory)
     (record-made k a b (d .memory) size journal) (record-refused k a b (d .memory) size journal)
+agrees-after (SetCap most) d q agrees own = unfold made counted setCap in cap-by most d q agrees (setCapNumber most (d .memory .slices) (d .memory .tally))
 agrees-after (Read bytes) d q agrees own = opened-or-same (Read bytes) d q agrees (read-step bytes d q (agrees .kept))
 agrees-after (Replay bytes) d q agrees own = opened-or-same (Replay bytes) d q agrees (replay-step bytes d q (agrees .kept))
 agrees-after (OpenShelf n) d q agrees own = unfold made counted openShelf in shelf-by n d q agrees (openShelfNumber n (d .shelf))
@@ -314,6 +323,7 @@ pub agrees-first : (c : Call) (d : Depot) (q : Count) → Shelved (d .shelf) q �
 agrees-first (Open n) d q shelved new = opened-first (Open n) d q new (open-step n d q shelved)
 agrees-first (Edit k a b) d q shelved new = unfold begins in absurd (not-both new)
 agrees-first (Record k a b size journal) d q shelved new = unfold begins in absurd (not-both new)
+agrees-first (SetCap most) d q shelved new = unfold begins in absurd (not-both new)
 agrees-first (Read bytes) d q shelved new = opened-first (Read bytes) d q new (read-step bytes d q shelved)
 agrees-first (Replay bytes) d q shelved new = opened-first (Replay bytes) d q new (replay-step bytes d q shelved)
 agrees-first (OpenShelf n) d q shelved new = unfold begins in absurd (not-both new)

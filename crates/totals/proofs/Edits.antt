@@ -15,11 +15,14 @@ use Rattle.rule.specs.declared.Entry.the-variants.{Clash, Rank}
 use Rattle.memory.specs.declared.Tally.{Tally}
 use Rattle.memory.specs.Plan.{Slices, clashCount, tallyOf, PlanOf}
 use Rattle.memory.specs.Memory.{Memory, memoryOf, Ready}
-use Rattle.planner.specs.Calls.{EditResult, editNumber, accepted, edit}
+use Rattle.planner.specs.Calls.{EditResult, editNumber, accepted}
+use Rattle.edit_calls.specs.Calls.{withCap, edit}
+use Rattle.edit_calls.proofs.Calls.{recapped}
+use Rattle.memory.proofs.Theorems.{widest-cap}
 use Rattle.planner.specs.States.{State, make, setRank, entryNumber, enter}
 use Rattle.planner.proofs.Outcomes.{edited-banks}
 use Rattle.planner.proofs.Made.{Holding}
-use Rattle.planner.proofs.Theorems.{edit-accepted, add-clashes, strike-clashes}
+use Rattle.edit_calls.proofs.Theorems.{edit-accepted, capped-wide, add-clashes, strike-clashes}
 use Rattle.journal_replay.specs.Ends.{afterEntry}
 use Rattle.totals.specs.Totals.{editTotal, entryTotal, before}
 
@@ -49,22 +52,28 @@ no-clash n = omega (arith, no-sum (degree (empty n)) (λ b. unfold degree neighb
 
 -- the clashes after an edit of a plan
 module _ (k : Kind) {G : Graph} {s : Slices} {t : Tally} (p : PlanOf G s t) (a b : ℕ) (due : editNumber k G a b ≡ 0) where
-  -- memory with as long a trail and moved slice as are needed
+  -- memory with as long a trail and moved slice as are needed, and a cap of 24
   abbrev roomy : Memory
-  roomy = memoryOf s (replicate (G .banks) 0) (replicate (G .banks) 0) t
+  roomy = memoryOf s (replicate (G .banks) 0) (replicate (G .banks) 0) (withCap 24 t)
+
+  plan : PlanOf G s (withCap 24 t)
+  plan = recapped G s t 24 p
 
   ready : Ready G roomy
   ready =
       let room : G .banks ≤ length {A = ℕ} (replicate (G .banks) 0) = omega (arith, length-replicate {A = ℕ} (G .banks) 0) in
-      record { plan = p; trailRoom = room; movedRoom = room }
+      record { plan = plan; trailRoom = room; movedRoom = room }
+
+  is-accepted : edit k a b roomy ≡ accepted k G a b roomy
+  is-accepted = edit-accepted k G a b roomy ready (widest-cap plan refl) (capped-wide 24 k G a b (p .clashes) (omega arith) ∙ due)
 
   number : edit k a b roomy .answer .number ≡ 0
   unfolding accepted
-  number = ap (λ (r : EditResult). r .answer .number) (edit-accepted k G a b roomy ready due)
+  number = ap (λ (r : EditResult). r .answer .number) is-accepted
 
   count : edit k a b roomy .memory .tally .clashes ≡ clashCount (edited k G a b)
   unfolding accepted tallyOf
-  count = ap (λ (r : EditResult). r .memory .tally .clashes) (edit-accepted k G a b roomy ready due)
+  count = ap (λ (r : EditResult). r .memory .tally .clashes) is-accepted
 
 pub edit-count : (k : Kind) {G : Graph} {s : Slices} {t : Tally} (p : PlanOf G s t) (a b : ℕ) → editNumber k G a b ≡ 0
     → clashCount (edited k G a b) ≡ editTotal k (clashCount G)

@@ -17,7 +17,7 @@ use Rattle.shelf.specs.Names.{placeOf, known}
 use Rattle.shelf.specs.Shelf.{place, used, shelfRight}
 use Rattle.checkpoints.specs.Calls.{shelfLong, openShelf, keep, backNumber, backBy, comeBack}
 use Rattle.checkpoints.proofs.Theorems.{none-used, kept-other, open-unchanged, keep-unchanged}
-use Rattle.totals.specs.Runs.{Depot, Call, Open, Edit, Record, Read, Replay, OpenShelf, Keep, Return, Answer, made}
+use Rattle.totals.specs.Runs.{Depot, Call, Open, Edit, Record, SetCap, Read, Replay, OpenShelf, Keep, Return, Answer, made}
 use Rattle.totals.specs.Totals.{editTotal, Kept, Count, countOf, keptTotal, ifAccepted, opensPlan, rowsCount, entriesCount, ofBanks, keptIn, counted, Own, Ours, Fits, OneCount}
 use Rattle.totals.proofs.Shelves.{back-near}
 use Rattle.totals.proofs.Counting.{Agrees, not-both, agrees-after}
@@ -122,6 +122,7 @@ module _ (n : ℕ) (d : Depot) (q : Count) (agrees : Agrees d q) (owned : Owned 
   owned-after (Edit k x y) fits = same-kept _ (if-same (made (Edit k x y) d .answer .number) (q .banks) (editTotal k (q .total)) q)
   owned-after (Record k x y size journal) fits =
       same-kept _ (if-same (made (Record k x y size journal) d .answer .number) (q .banks) (editTotal k (q .total)) q)
+  owned-after (SetCap most) fits = owned
   owned-after (Read bytes) fits = let a = made (Read bytes) d .answer in same-kept _ (rows-same (opensPlan a) (rowsOf bytes) a q)
   owned-after (Replay bytes) fits = let a = made (Replay bytes) d .answer in same-kept _ (entries-same (opensPlan a) bytes a q)
   owned-after (OpenShelf x) fits = open-by x (openShelf x (d .shelf) .number) refl fits (λ i. [])
@@ -136,6 +137,7 @@ module _ (n : ℕ) (d : Depot) (q : Count) (agrees : Agrees d q) (owned : Owned 
   own-now (Open x) fits = tt
   own-now (Edit k x y) fits = tt
   own-now (Record k x y size journal) fits = tt
+  own-now (SetCap most) fits = tt
   own-now (Read bytes) fits = tt
   own-now (Replay bytes) fits = tt
   own-now (OpenShelf x) fits = tt

@@ -13,7 +13,7 @@ use Rattle.sheet_writer.proofs.Theorems as SheetTheorems
 use Rattle.poster_writer.specs.Calls.{writePoster}
 use Rattle.poster_writer.specs.Reading as Posters
 use Rattle.poster_writer.proofs.Theorems as PosterTheorems
-use Rattle.totals.specs.Runs.{Depot, Call, Open, Edit, Record, Read, Replay, OpenShelf, Keep, Return, Outcome, made, run}
+use Rattle.totals.specs.Runs.{Depot, Call, Open, Edit, Record, SetCap, Read, Replay, OpenShelf, Keep, Return, Outcome, made, run}
 use Rattle.totals.specs.Totals.{Count, nothing, counted, countAfter, begins, noReturn, Ours, OneCount}
 use Rattle.totals.proofs.Counting.{Agrees, not-both, agrees-after, agrees-first}
 use Rattle.totals.proofs.Owned.{Owned, opened-owned, one-count}
@@ -25,6 +25,7 @@ without-returns [] e d q = tt
 without-returns (Open n ∷ cs) e d q = (tt, without-returns cs e _ _)
 without-returns (Edit k a b ∷ cs) e d q = (tt, without-returns cs e _ _)
 without-returns (Record k a b size journal ∷ cs) e d q = (tt, without-returns cs e _ _)
+without-returns (SetCap most ∷ cs) e d q = (tt, without-returns cs e _ _)
 without-returns (Read bytes ∷ cs) e d q = (tt, without-returns cs e _ _)
 without-returns (Replay bytes ∷ cs) e d q = (tt, without-returns cs e _ _)
 without-returns (OpenShelf n ∷ cs) e d q = (tt, without-returns cs e _ _)

@@ -5,7 +5,8 @@ use Rattle.rule.specs.declared.Kind.{Kind}
 use Rattle.memory.specs.declared.Tally.{Tally}
 use Rattle.memory.specs.Plan.{Slices}
 use Rattle.memory.specs.Memory.{Memory, memoryOf}
-use Rattle.planner.specs.Calls.{opened, edit}
+use Rattle.planner.specs.Calls.{opened}
+use Rattle.edit_calls.specs.Calls.{edit, setCap}
 use Rattle.list_reader.specs.Pass.{readList}
 use Rattle.journal_replay.specs.Replay.{replayed}
 use Rattle.journal.specs.Calls.{recorded}
@@ -19,12 +20,13 @@ pub record Depot : Type 0 where
 abbrev pub depotOf : Memory → List ℕ → Depot
 depotOf memory shelf = record { memory = memory; shelf = shelf }
 
--- the calls that change one of them: open; add or strike; the same and recorded, in a journal of so many bytes in this slice; read a list; replay a
--- journal; open the shelf; keep and come back under a name
+-- the calls that change one of them: open; add or strike; the same and recorded, in a journal of so many bytes in this slice; set the cap; read a list;
+-- replay a journal; open the shelf; keep and come back under a name
 pub data Call : Type 0 where
   Open : ℕ → Call
   Edit : Kind → ℕ → ℕ → Call
   Record : Kind → ℕ → ℕ → ℕ → List ℕ → Call
+  SetCap : ℕ → Call
   Read : List ℕ → Call
   Replay : List ℕ → Call
   OpenShelf : ℕ → Call
@@ -59,6 +61,9 @@ made (Open n) d =
 made (Edit k a b) d = let r = edit k a b (d .memory) in outcome (r .answer .number) 0 (r .memory) (d .shelf)
 made (Record k a b size journal) d =
     let r = recorded k a b (d .memory) size journal in outcome (r .answer .number) 0 (r .memory) (d .shelf)
+made (SetCap most) d =
+    let r = setCap most (d .memory .slices) (d .memory .tally) in
+    outcome (r .number) 0 (withPlan (d .memory .slices) (r .tally) (d .memory)) (d .shelf)
 made (Read bytes) d = let r = readList bytes (d .memory) in outcome (r .answer .number) (r .answer .row) (r .memory) (d .shelf)
 made (Replay bytes) d = let r = replayed bytes (d .memory) in outcome (r .answer .number) (r .answer .field) (r .memory) (d .shelf)
 made (OpenShelf n) d = let r = openShelf n (d .shelf) in outcome (r .number) 0 (d .memory) (r .shelf)

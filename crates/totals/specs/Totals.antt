@@ -19,7 +19,7 @@ use Rattle.list_rows.specs.Rows.{rowsOf}
 use Rattle.journal_fields.specs.Fields.{firstSize, banksIn, fields}
 use Rattle.journal_replay.specs.Ends.{afterEntry}
 use Rattle.shelf.specs.Names.{placeOf}
-use Rattle.totals.specs.Runs.{Depot, Call, Open, Edit, Record, Read, Replay, OpenShelf, Keep, Return, Answer, made}
+use Rattle.totals.specs.Runs.{Depot, Call, Open, Edit, Record, SetCap, Read, Replay, OpenShelf, Keep, Return, Answer, made}
 
 -- one more for an add, one less for a strike
 unfoldable pub editTotal : Kind → ℕ → ℕ
@@ -123,6 +123,7 @@ unfoldable pub counted : Call → Answer → Count → Count
 counted (Open n) a q = ifAccepted (a .number) (countOf n 0 (q .kept)) q
 counted (Edit k x y) a q = ifAccepted (a .number) (countOf (q .banks) (editTotal k (q .total)) (q .kept)) q
 counted (Record k x y size journal) a q = ifAccepted (a .number) (countOf (q .banks) (editTotal k (q .total)) (q .kept)) q
+counted (SetCap most) a q = q
 counted (Read bytes) a q = rowsCount (opensPlan a) (rowsOf bytes) a q
 counted (Replay bytes) a q = entriesCount (opensPlan a) bytes a q
 counted (OpenShelf n) a q = ifAccepted (a .number) (countOf (q .banks) (q .total) (λ i. [])) q
@@ -140,6 +141,7 @@ unfoldable pub begins : Call → Answer → Bool
 begins (Open n) a = eqb (a .number) 0
 begins (Edit k x y) a = false
 begins (Record k x y size journal) a = false
+begins (SetCap most) a = false
 begins (Read bytes) a = opensPlan a
 begins (Replay bytes) a = opensPlan a
 begins (OpenShelf n) a = false
@@ -152,6 +154,7 @@ abbrev pub Own : Call → Answer → Count → Type 0
 Own (Open n) a q = Unit {0}
 Own (Edit k x y) a q = Unit {0}
 Own (Record k x y size journal) a q = Unit {0}
+Own (SetCap most) a q = Unit {0}
 Own (Read bytes) a q = Unit {0}
 Own (Replay bytes) a q = Unit {0}
 Own (OpenShelf n) a q = Unit {0}
@@ -164,6 +167,7 @@ noReturn [] = true
 noReturn (Open n ∷ cs) = noReturn cs
 noReturn (Edit k x y ∷ cs) = noReturn cs
 noReturn (Record k x y size journal ∷ cs) = noReturn cs
+noReturn (SetCap most ∷ cs) = noReturn cs
 noReturn (Read bytes ∷ cs) = noReturn cs
 noReturn (Replay bytes ∷ cs) = noReturn cs
 noReturn (OpenShelf n ∷ cs) = noReturn cs
@@ -180,6 +184,7 @@ abbrev pub Fits : ℕ → Call → Answer → Count → Type 0
 Fits n (Open x) a q = Unit {0}
 Fits n (Edit k x y) a q = Unit {0}
 Fits n (Record k x y size journal) a q = Unit {0}
+Fits n (SetCap most) a q = Unit {0}
 Fits n (Read bytes) a q = Unit {0}
 Fits n (Replay bytes) a q = Unit {0}
 Fits n (OpenShelf x) a q = a .number ≡ 0 → x ≡ n

@@ -4,14 +4,14 @@ use mathlib.Core.List.{List, [], _∷_}
 use mathlib.Core.Path.{_≡_, refl, sym, ap, ap₂, _∙_}
 use Prim.Native.Nat.{ℕ, zero, suc, _≤_, _<_}
 use native.Mathlib.Omega.{arith}
-use lib.Dec.{leb}
+use lib.Dec.{T, leb}
 use lib.ListN.{length, drop, length-append}
 use lib.Seq.{take-at}
 use borrow.Author.Tests.{le-leb, lt-leb}
 use Rattle.rule.specs.Graph.{Graph}
 use Rattle.memory.specs.declared.Tally.{Tally}
 use Rattle.memory.specs.Cells.{over}
-use Rattle.memory.specs.Plan.{Slices, longEnough, graphIn, holds, Clashes, PlanOf}
+use Rattle.memory.specs.Plan.{Slices, longEnough, graphIn, capFits, holds, Clashes, PlanOf}
 use Rattle.planner.specs.Questions.{_else_, firstNo}
 use Rattle.planner.specs.Calls.{planNumber}
 use Rattle.planner.proofs.Numbers.{held-number, number-plan}
@@ -124,10 +124,10 @@ module _ (text : Graph → List ℕ) (s : Slices) (t : Tally) (out : List ℕ) w
 -- a text that depends on nothing but the clashes whose plan memory holds, and has at most `most` bytes: an output of `most` is never too short
 pub never-short : (text : Graph → List ℕ) (most : ℕ) → ((G : Graph) → Clashes G → length (text G) ≤ most)
     → ((G H : Graph) (s : Slices) (t : Tally) → PlanOf G s t → PlanOf H s t → text G ≡ text H)
-    → (G : Graph) (s : Slices) (t : Tally) (out : List ℕ) → PlanOf G s t → most ≤ length out
+    → (G : Graph) (s : Slices) (t : Tally) (out : List ℕ) → PlanOf G s t → T (capFits t) → most ≤ length out
     → textResult (record { number = 0; length = length (text G) }) (over (text G) out) ≡ writeText text s t out
-never-short text most fits one G s t out held room =
-    let checked = held-number G s t held in
+never-short text most fits one G s t out held cap room =
+    let checked = held-number G s t held cap in
     let plan = number-plan s t checked in
     let H = graphIn (t .banks) s in
     text-fits text s t out (sym checked) (omega (arith, fits H (plan .clashes))) (text G) (one G H s t held plan)
@@ -156,4 +156,4 @@ module _ (text : Graph → List ℕ) (s : Slices) (t : Tally) (out : List ℕ) w
   unfolding writeText
   written-text one G held e =
       front-by (textNumber (text (graphIn (t .banks) s)) s t out) e
-      ∙ sym (one G (graphIn (t .banks) s) s t held (number-plan s t (held-number G s t held)))
+      ∙ sym (one G (graphIn (t .banks) s) s t held (written-plan e))

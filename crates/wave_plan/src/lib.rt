@@ -8,6 +8,7 @@ mod sources;
 mod texts;
 
 pub use editing::wave_plan_add;
+pub use editing::wave_plan_set_cap;
 pub use editing::wave_plan_strike;
 pub use plan::wave_plan_clashes_of;
 pub use plan::wave_plan_open;

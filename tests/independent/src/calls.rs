@@ -1,8 +1,8 @@
-//! The planner's calls: open, add, strike, wave of a bank, clashes of a bank, and how many waves at
-//! most. Each asks its questions in the paper's order, and a refused call writes nothing.
+//! The planner's calls: open, add, strike, set the cap, wave of a bank, clashes of a bank, and how
+//! many waves at most. Each asks its questions in the paper's order, and a refused call writes nothing.
 
-use crate::graph::{Bank, Graph};
-use crate::memory::Memory;
+use crate::graph::{number_of_waves, Bank, Graph};
+use crate::memory::{in_span, Memory};
 use crate::plan::{MAX_BANKS, MAX_DEGREE};
 use crate::reach::{reach, Edit};
 use crate::refusals::*;
@@ -30,7 +30,7 @@ pub struct BoundAnswer {
 }
 
 impl Memory {
-    /// Open: n banks, no clash, all of rank 0.
+    /// Open: n banks, no clash, all of rank 0, the cap 24.
     pub fn open(&mut self, n: u16) -> u16 {
         let n = usize::from(n);
         let asked = ask(n <= MAX_BANKS, TOO_MANY_BANKS)
@@ -54,11 +54,12 @@ impl Memory {
         self.edit(Edit::Strike, a, b)
     }
 
-    /// An edit. If accepted, it leaves the plan of the new graph, trail and moved.
+    /// An edit. If accepted, it leaves the plan of the new graph under the same cap, trail and moved.
     fn edit(&mut self, edit: Edit, a: u16, b: u16) -> EditAnswer {
         let (a, b) = (usize::from(a), usize::from(b));
         let asked = self.memory_questions().and_then(|old| {
             let new = clash_questions(edit, a, b, &old)?;
+            cap_question(&new, self.tally.cap)?;
             Ok((old, new))
         });
         match asked {
@@ -81,7 +82,7 @@ impl Memory {
         new: &Graph,
     ) -> EditAnswer {
         let reach = reach(edit, a, b, old, new);
-        self.store_plan(new);
+        self.store_capped(new, self.tally.cap);
         self.store_reach(&reach);
         EditAnswer {
             number: ACCEPTED,
@@ -95,6 +96,21 @@ impl Memory {
         let n = self.tally_banks()?;
         ask(self.all_fit(n), SLICE_TOO_SHORT)?;
         self.held_graph().ok_or(NO_PLAN)
+    }
+
+    /// Set the cap. Only the tally's cap changes.
+    pub fn set_cap(&mut self, cap: u16) -> u16 {
+        let asked = self.plan_questions().and_then(|graph| {
+            ask(in_span(cap), CAP_OUT_OF_SPAN)?;
+            cap_question(&graph, cap)
+        });
+        match asked {
+            Ok(()) => {
+                self.tally.cap = cap;
+                ACCEPTED
+            }
+            Err(number) => number,
+        }
     }
 
     /// Wave of bank b.
@@ -169,4 +185,10 @@ pub(crate) fn clash_questions(edit: Edit, a: Bank, b: Bank, old: &Graph) -> Resu
             Ok(old.without(a, b))
         }
     }
+}
+
+/// The question on the cap: does the rule need no more waves than that for the clashes of the graph?
+pub(crate) fn cap_question(graph: &Graph, cap: u16) -> Result<(), u16> {
+    let needed = number_of_waves(&graph.waves());
+    ask(needed <= usize::from(cap), CAP_PASSED)
 }

@@ -1,6 +1,6 @@
 //! The journal: its fields, and the calls that start one, record an edit in one and replay one.
 
-use crate::calls::clash_questions;
+use crate::calls::{cap_question, clash_questions};
 use crate::graph::{Bank, Graph};
 use crate::list::{Pass, MAX_BYTES};
 use crate::memory::Memory;
@@ -243,6 +243,7 @@ impl Memory {
         let old = self.memory_questions()?;
         fields_so_far(rest)?;
         let new = clash_questions(entry.edit, entry.a.into(), entry.b.into(), &old)?;
+        cap_question(&new, self.tally.cap)?;
         ask(has_space(length + ENTRY_BYTES, slice), NO_SPACE)?;
         Ok((old, new))
     }

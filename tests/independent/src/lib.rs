@@ -8,7 +8,8 @@
 //! - `plan`: the plan's cells and tally.
 //! - `memory`: the lent slices, and whether they hold a plan.
 //! - `refusals`: the numbers of the questions.
-//! - `calls`: open, add, strike, wave of a bank, clashes of a bank, how many waves at most.
+//! - `calls`: open, add, strike, set the cap, wave of a bank, clashes of a bank, how many waves at
+//!   most.
 //! - `list`: the list's rows and the call that reads a list.
 //! - `journal`: a journal's fields, and the calls that start, record and replay.
 //! - `shelf`: three places for kept plans, and the calls that open it, keep and come back.

@@ -2,7 +2,7 @@
 //! plan needs.
 
 use crate::graph::{Bank, Graph, Rank};
-use crate::plan::{cell, Plan, Tally, MAX_BANKS, MAX_DEGREE, MAX_RANK, NO_BANK, WAVES};
+use crate::plan::{cell, Plan, Tally, MAX_BANKS, MAX_CAP, MAX_DEGREE, MAX_RANK, NO_BANK, WAVES};
 use crate::reach::Reach;
 
 #[derive(Clone, Debug, PartialEq, Eq)]
@@ -32,6 +32,7 @@ impl Memory {
                 banks: content,
                 clashes: content,
                 waves: content,
+                cap: content,
             },
         }
     }
@@ -50,9 +51,14 @@ impl Memory {
         self.plan_fits(n) && self.trail.len() >= n && self.moved.len() >= n
     }
 
-    /// Writes the plan of a graph. Cells beyond the plan's stay.
+    /// Writes the plan of a graph, with the cap after opening. Cells beyond the plan's stay.
     pub fn store_plan(&mut self, graph: &Graph) {
-        let plan = Plan::of(graph);
+        self.store_capped(graph, MAX_CAP);
+    }
+
+    /// Writes the plan of a graph, with a cap. Cells beyond the plan's stay.
+    pub fn store_capped(&mut self, graph: &Graph, cap: u16) {
+        let plan = Plan::capped(graph, cap);
         write_front(&mut self.neighbours, &plan.neighbours);
         write_front(&mut self.degrees, &plan.degrees);
         write_front(&mut self.waves, &plan.waves);
@@ -73,7 +79,8 @@ impl Memory {
     }
 
     /// The graph whose plan the memory holds, if it holds one: the graph of the clashes that the rows
-    /// name and the ranks that stand there, if all cells and the tally are those of its plan.
+    /// name and the ranks that stand there, if all cells and the tally are those of its plan with the
+    /// tally's cap, which is a number from 1 to 24 and not below its waves.
     pub fn held_graph(&self) -> Option<Graph> {
         let n = usize::from(self.tally.banks);
         if n > MAX_BANKS || !self.plan_fits(n) {
@@ -81,7 +88,9 @@ impl Memory {
         }
         let rows: Vec<Vec<Bank>> = (0..n).map(|b| self.read_row(b)).collect::<Option<_>>()?;
         let graph = graph_of_rows(&rows)?.with_ranks(self.read_ranks(n)?);
-        self.has_cells_of(&Plan::of(&graph)).then_some(graph)
+        let plan = Plan::capped(&graph, self.tally.cap);
+        let capped = in_span(self.tally.cap) && plan.tally.waves <= self.tally.cap;
+        (capped && self.has_cells_of(&plan)).then_some(graph)
     }
 
     /// The row of b, if it is banks below n other than b, strictly ascending, then 65,535 only.
@@ -113,6 +122,11 @@ impl Memory {
             && self.ranks.starts_with(&plan.ranks)
             && self.tally == plan.tally
     }
+}
+
+/// Whether a cap is a number from 1 to 24.
+pub(crate) fn in_span(cap: u16) -> bool {
+    (1..=MAX_CAP).contains(&cap)
 }
 
 /// The graph of rows of neighbours, if they are symmetric.

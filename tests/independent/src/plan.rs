@@ -11,18 +11,23 @@ pub const MAX_DEGREE: usize = 23;
 /// The cells of Counts of one bank, one for each wave.
 pub const WAVES: usize = 24;
 
+/// The largest cap of a plan, which it has after opening: no plan needs more waves.
+pub const MAX_CAP: u16 = 24;
+
 /// The largest rank of a bank.
 pub const MAX_RANK: usize = 9999;
 
 /// What the row cells after a bank's neighbours hold.
 pub const NO_BANK: u16 = 65_535;
 
-/// The tally: the numbers of banks, clashes and waves.
+/// The tally: the numbers of banks, clashes and waves, and the cap, the most waves that an edit may
+/// lead to.
 #[derive(Clone, Copy, Debug, PartialEq, Eq)]
 pub struct Tally {
     pub banks: u16,
     pub clashes: u16,
     pub waves: u16,
+    pub cap: u16,
 }
 
 /// The cells of a plan and its tally.
@@ -37,14 +42,21 @@ pub struct Plan {
 }
 
 impl Plan {
-    /// The plan of a graph whose degrees are at most 23 and whose ranks are at most 9,999.
+    /// The plan of a graph whose degrees are at most 23 and whose ranks are at most 9,999, as it stands
+    /// after opening, lists and replays: its cap is 24.
     pub fn of(graph: &Graph) -> Plan {
+        Plan::capped(graph, MAX_CAP)
+    }
+
+    /// The plan of such a graph, with a cap.
+    pub fn capped(graph: &Graph, cap: u16) -> Plan {
         let n = graph.banks();
         let waves = graph.waves();
         let tally = Tally {
             banks: cell(n),
             clashes: cell(graph.clashes()),
             waves: cell(number_of_waves(&waves)),
+            cap,
         };
         Plan {
             neighbours: (0..n).flat_map(|b| neighbours_row(graph, b)).collect(),

@@ -19,6 +19,8 @@ pub const NO_SPACE: u16 = 15;
 pub const UNKNOWN_NAME: u16 = 16;
 pub const NOTHING_KEPT: u16 = 17;
 pub const RANK_AFTER_EDIT: u16 = 18;
+pub const CAP_OUT_OF_SPAN: u16 = 19;
+pub const CAP_PASSED: u16 = 20;
 
 /// A question: the given number if the answer is no.
 pub fn ask(yes: bool, number: u16) -> Result<(), u16> {

@@ -9,6 +9,13 @@ use crate::refusals::*;
 /// The known names, in the order of their places.
 pub const NAMES: [&[u8; 8]; 3] = [b"MORNING ", b"NOON    ", b"CLOSE   "];
 
+/// A plan as it is kept: its graph and its cap.
+#[derive(Clone, Debug, PartialEq, Eq)]
+struct Kept {
+    graph: Graph,
+    cap: u16,
+}
+
 /// The answer to come back: the number, and how many banks stand in another wave than before.
 #[derive(Clone, Copy, Debug, PartialEq, Eq)]
 pub struct BackAnswer {
@@ -16,10 +23,10 @@ pub struct BackAnswer {
     pub moved: usize,
 }
 
-/// The cells of a place for n banks: the used cell, a plan's cells but the ranks, the three of the
-/// tally, the ranks.
+/// The cells of a place for n banks: the used cell, a plan's cells but the ranks, banks, clashes and
+/// waves of the tally, the ranks, the cap.
 pub fn place_cells(n: usize) -> usize {
-    1 + MAX_DEGREE * n + n + n + WAVES * n + 3 + n
+    1 + MAX_DEGREE * n + n + n + WAVES * n + 3 + n + 1
 }
 
 /// The cells of a shelf for n banks.
@@ -30,7 +37,7 @@ pub fn shelf_cells(n: usize) -> usize {
 /// The cells of a place in which a plan is kept.
 pub fn kept_cells(plan: &Plan) -> Vec<u16> {
     let tally = [plan.tally.banks, plan.tally.clashes, plan.tally.waves];
-    let parts: [&[u16]; 7] = [
+    let parts: [&[u16]; 8] = [
         &[1],
         &plan.neighbours,
         &plan.degrees,
@@ -38,6 +45,7 @@ pub fn kept_cells(plan: &Plan) -> Vec<u16> {
         &plan.counts,
         &tally,
         &plan.ranks,
+        &[plan.tally.cap],
     ];
     parts.concat()
 }
@@ -58,25 +66,26 @@ pub fn open_shelf(shelf: &mut [u16], n: u16) -> u16 {
     }
 }
 
-/// What is kept in each place of a shelf for n banks: nothing, or the plan of a graph. An unused
-/// place is not read.
-fn kept_graphs(shelf: &[u16], n: usize) -> Result<Vec<Option<Graph>>, u16> {
+/// What is kept in each place of a shelf for n banks: nothing, or a plan. An unused place is not
+/// read.
+fn kept_plans(shelf: &[u16], n: usize) -> Result<Vec<Option<Kept>>, u16> {
     let places = shelf.chunks(place_cells(n)).take(NAMES.len());
     let kept = |place: &[u16]| match place[0] {
         0 => Ok(None),
-        1 => kept_graph(&place[1..], n).map(Some).ok_or(NO_PLAN),
+        1 => kept_plan(&place[1..], n).map(Some).ok_or(NO_PLAN),
         _ => Err(NO_PLAN),
     };
     places.map(kept).collect()
 }
 
-/// The graph of n banks whose plan the cells after the used cell hold, if they hold one.
-fn kept_graph(cells: &[u16], n: usize) -> Option<Graph> {
+/// The plan of n banks that the cells after the used cell hold, if they hold one.
+fn kept_plan(cells: &[u16], n: usize) -> Option<Kept> {
     let (neighbours, rest) = cells.split_at(MAX_DEGREE * n);
     let (degrees, rest) = rest.split_at(n);
     let (waves, rest) = rest.split_at(n);
     let (counts, rest) = rest.split_at(WAVES * n);
-    let (tally, ranks) = rest.split_at(3);
+    let (tally, rest) = rest.split_at(3);
+    let (ranks, cap) = rest.split_at(n);
     let place = Memory {
         neighbours: neighbours.to_vec(),
         degrees: degrees.to_vec(),
@@ -89,9 +98,11 @@ fn kept_graph(cells: &[u16], n: usize) -> Option<Graph> {
             banks: tally[0],
             clashes: tally[1],
             waves: tally[2],
+            cap: cap[0],
         },
     };
-    place.held_graph().filter(|graph| graph.banks() == n)
+    let graph = place.held_graph().filter(|graph| graph.banks() == n)?;
+    Some(Kept { graph, cap: cap[0] })
 }
 
 /// The place of a name, if it is known.
@@ -100,7 +111,7 @@ fn place_of(name: &[u8]) -> Option<usize> {
 }
 
 impl Memory {
-    /// Keep the plan under a name. The other two places stay, and so do the cells beyond.
+    /// Keep the plan and its cap under a name. The other two places stay, and so do the cells beyond.
     pub fn keep(&self, shelf: &mut [u16], name: &[u8]) -> u16 {
         let asked = self.shelf_questions(shelf, Memory::plan_fits);
         let asked = asked.and_then(|(present, _)| {
@@ -109,7 +120,7 @@ impl Memory {
         });
         match asked {
             Ok((present, place)) => {
-                let cells = kept_cells(&Plan::of(&present));
+                let cells = kept_cells(&Plan::capped(&present, self.tally.cap));
                 shelf[place * cells.len()..][..cells.len()].copy_from_slice(&cells);
                 ACCEPTED
             }
@@ -117,7 +128,7 @@ impl Memory {
         }
     }
 
-    /// Come back to the plan that is kept under a name. The banks whose wave differs go to the
+    /// Come back to the plan and the cap that are kept under a name. The banks whose wave differs go to the
     /// front of moved, ascending.
     pub fn come_back(&mut self, shelf: &[u16], name: &[u8]) -> BackAnswer {
         let fits = |memory: &Memory, n| memory.plan_fits(n) && memory.moved.len() >= n;
@@ -129,10 +140,10 @@ impl Memory {
         });
         match asked {
             Ok((present, kept)) => {
-                let (old, new) = (present.waves(), kept.waves());
+                let (old, new) = (present.waves(), kept.graph.waves());
                 let differs = |&b: &usize| old[b] != new[b];
                 let moved: Vec<u16> = (0..new.len()).filter(differs).map(cell).collect();
-                self.store_plan(&kept);
+                self.store_capped(&kept.graph, kept.cap);
                 self.moved[..moved.len()].copy_from_slice(&moved);
                 BackAnswer {
                     number: ACCEPTED,
@@ -149,11 +160,11 @@ impl Memory {
         &self,
         shelf: &[u16],
         fits: impl Fn(&Memory, usize) -> bool,
-    ) -> Result<(Graph, Vec<Option<Graph>>), u16> {
+    ) -> Result<(Graph, Vec<Option<Kept>>), u16> {
         let n = self.tally_banks()?;
         ask(fits(self, n), SLICE_TOO_SHORT)?;
         ask(shelf.len() >= shelf_cells(n), SLICE_TOO_SHORT)?;
         let present = self.held_graph().ok_or(NO_PLAN)?;
-        Ok((present, kept_graphs(shelf, n)?))
+        Ok((present, kept_plans(shelf, n)?))
     }
 }

@@ -12,7 +12,7 @@ pub struct Lent<'a> {
     pub ranks: &'a mut [u16],
     pub trail: &'a mut [u16],
     pub moved: &'a mut [u16],
-    /// Banks, clashes, waves.
+    /// Banks, clashes, waves, cap.
     pub tally: &'a mut [u16],
     pub result: &'a mut [u16],
 }
@@ -35,7 +35,7 @@ macro_rules! call {
 }
 
 impl Lent<'_> {
-    /// Open: n banks, no clash, all of rank 0. Uses the plan slices and the tally.
+    /// Open: n banks, no clash, all of rank 0, the cap 24. Uses the plan slices and the tally.
     pub fn open(&mut self, n: u16) -> u16 {
         call!(wave_plan_open(
             self.neighbours, self.degrees, self.waves, self.counts, self.ranks, self.tally; n))
@@ -53,6 +53,12 @@ impl Lent<'_> {
         call!(wave_plan_strike(
             self.neighbours, self.degrees, self.waves, self.counts, self.ranks, self.trail, self.moved,
             self.tally, self.result; a, b))
+    }
+
+    /// Set the cap. Uses the plan slices and the tally.
+    pub fn set_cap(&mut self, cap: u16) -> u16 {
+        call!(wave_plan_set_cap(
+            self.neighbours, self.degrees, self.waves, self.counts, self.ranks, self.tally; cap))
     }
 
     /// Wave of bank b. Result: the wave.

@@ -50,12 +50,13 @@ pub struct Plan {
     ranks: Vec<u16>,
     trail: Vec<u16>,
     moved: Vec<u16>,
-    tally: [u16; 3],
+    /// Banks, clashes, waves, cap.
+    tally: [u16; 4],
     result: [u16; 3],
 }
 
 impl Plan {
-    /// A plan of n banks without a clash, all of rank 0.
+    /// A plan of n banks without a clash, all of rank 0, the cap 24.
     pub fn open(n: u16) -> Result<Plan, Refused> {
         let mut plan = Plan::memory_for(n.min(MAX_BANKS));
         answer(plan.lent().open(n))?;
@@ -143,6 +144,16 @@ impl Plan {
         Ok(self.edit())
     }
 
+    /// Sets the cap: edits that would need more waves are refused from now on.
+    pub fn set_cap(&mut self, cap: u16) -> Result<(), Refused> {
+        answer(self.lent().set_cap(cap))
+    }
+
+    /// The cap.
+    pub fn cap(&self) -> u16 {
+        self.tally[3]
+    }
+
     /// The wave of bank b.
     pub fn wave_of(&mut self, b: Bank) -> Result<Wave, Refused> {
         answer(self.lent().wave_of(b.0))?;
@@ -183,12 +194,12 @@ impl Plan {
         Ok(String::from_utf8(out).expect("a poster is ASCII"))
     }
 
-    /// Keeps the plan under a name, in the place of what was kept there before.
+    /// Keeps the plan and its cap under a name, in the place of what was kept there before.
     pub fn keep(&mut self, shelf: &mut Shelf, name: Name) -> Result<(), Refused> {
         answer(self.lent().keep(&mut shelf.cells, name.bytes()))
     }
 
-    /// Comes back to the plan kept under a name. The answer is the banks whose wave differs,
+    /// Comes back to the plan and the cap kept under a name. The answer is the banks whose wave differs,
     /// ascending.
     pub fn come_back(&mut self, shelf: &Shelf, name: Name) -> Result<Vec<Bank>, Refused> {
         answer(self.lent().come_back(&shelf.cells, name.bytes()))?;
@@ -207,7 +218,7 @@ impl Plan {
             ranks: vec![0; n],
             trail: vec![0; n],
             moved: vec![0; n],
-            tally: [0; 3],
+            tally: [0; 4],
             result: [0; 3],
         }
     }

@@ -65,6 +65,22 @@ extern "C" {
         b: u16,
     ) -> u16;
 
+    pub fn wave_plan_set_cap(
+        neighbours: *const u16,
+        neighbours_length: usize,
+        degrees: *const u16,
+        degrees_length: usize,
+        waves: *const u16,
+        waves_length: usize,
+        counts: *const u16,
+        counts_length: usize,
+        ranks: *const u16,
+        ranks_length: usize,
+        tally: *mut u16,
+        tally_length: usize,
+        cap: u16,
+    ) -> u16;
+
     pub fn wave_plan_wave_of(
         neighbours: *const u16,
         neighbours_length: usize,

@@ -34,7 +34,7 @@ pub struct Shelf {
 impl Shelf {
     /// A shelf for plans of n banks, with nothing kept.
     pub fn open(n: u16) -> Result<Shelf, Refused> {
-        let place_cells = 50 * usize::from(n.min(MAX_BANKS)) + 4;
+        let place_cells = 50 * usize::from(n.min(MAX_BANKS)) + 5;
         let mut cells = vec![0; Name::ALL.len() * place_cells];
         answer(open_shelf(&mut cells, n))?;
         Ok(Shelf { cells })

@@ -5,6 +5,7 @@ use lib.ListN.{length}
 use Rattle.rule.specs.Graph.{Graph}
 use Rattle.rule.specs.declared.Kind.{Kind}
 use Rattle.rule.specs.declared.Kind.the-variants.{Adding, Striking}
+use Rattle.memory.specs.declared.Tally.{Tally}
 use Rattle.memory.specs.Memory.{Memory}
 use Rattle.memory.specs.Plan.{clashCount}
 use Rattle.memory.specs.inner.View.{Held}
@@ -23,10 +24,10 @@ pub record Origin : Type 0 where
 abbrev pub editAt : Origin → ℕ → ℕ → Edit
 editAt o a b = record { kind = o .kind; old = o .graph; a = a; b = b; was = o .memory }
 
--- rows and degrees of the n banks are new, the other slices as the edit found them
-pub record RowsChanged (e : Edit) (m : Memory) (before : Degrees) (n clashes : ℕ) : Type 0 where
+-- rows and degrees are new, the other slices as the edit found them; the tally has the new number of clashes and the cap that the edit found
+pub record RowsChanged (e : Edit) (m : Memory) (before : Degrees) (t : Tally) : Type 0 where
   pub acceptable : Acceptable (e .kind) (e .old) (e .a) (e .b)
-  pub held : Held (e .old) (e .was .slices) n
+  pub held : Held (e .old) (e .was .slices) (t .banks)
   pub rewritten : Rewritten (e .kind) (e .old) (e .a) (e .b) (e .was .slices .neighbours) (e .was .slices .degrees)
       (m .slices .neighbours) (m .slices .degrees) before
   pub sameWaves : m .slices .waves ≡ e .was .slices .waves
@@ -34,9 +35,10 @@ pub record RowsChanged (e : Edit) (m : Memory) (before : Degrees) (n clashes : �
   pub sameRanks : m .slices .ranks ≡ e .was .slices .ranks
   pub sameTrail : m .trail ≡ e .was .trail
   pub sameMoved : m .moved ≡ e .was .moved
-  pub wide-trail : n ≤ length (e .was .trail)
-  pub wide-moved : n ≤ length (e .was .moved)
-  pub number : clashes ≡ clashCount (new e)
+  pub wide-trail : t .banks ≤ length (e .was .trail)
+  pub wide-moved : t .banks ≤ length (e .was .moved)
+  pub number : t .clashes ≡ clashCount (new e)
+  pub cap : t .cap ≡ e .was .tally .cap
 
 -- the number of clashes can go one up or down
 abbrev pub NumberFits : Kind → ℕ → Type 0

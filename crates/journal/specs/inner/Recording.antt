@@ -2,30 +2,21 @@
 use mathlib.Core.List.{List, [], _∷_}
 use mathlib.Core.Path.{_≡_}
 use Prim.Native.Nat.{ℕ, _+_, _≤_}
-use Rattle.rule.specs.declared.Kind.{Kind}
 use Rattle.planner.specs.declared.Answer.{Answer}
 use Rattle.memory.specs.Memory.{Memory}
-use Rattle.planner.specs.Calls.{memoryNumber, editNumber}
+use Rattle.planner.specs.Calls.{memoryNumber}
 use Rattle.planner.specs.inner.Held.{ReadyIn}
 use Rattle.text.specs.Places.{put}
 use Rattle.rule.specs.declared.Entry.{Entry}
 use Rattle.journal.specs.declared.record.Recorded.{Recorded}
 use Rattle.journal_fields.specs.Fields.{entrySize, entryBytes}
-use Rattle.journal_fields.specs.Numbers.{firstOf, spaceNumber, headNumber, fieldsNumber}
-use Rattle.journal.specs.Calls.{clashesIn, recordNumber}
+use Rattle.journal_fields.specs.Numbers.{firstOf, headNumber, fieldsNumber}
 
 -- the questions about the journal and the memory got r; without a no, memory holds a plan
 pub record Checked (m : Memory) (size : ℕ) (journal : List ℕ) (r : ℕ) : Type 0 where
   pub number : r ≡ firstOf (headNumber size journal ∷ memoryNumber m ∷ fieldsNumber size journal ∷ [])
   pub ready : r ≡ 0 → ReadyIn m
   pub few : r ≡ 0 → size ≤ 60000
-
--- all questions of an edit that is recorded got r; without a no, memory holds a plan, the edit is due no refusal, and there is space
-pub record Accepts (k : Kind) (a b : ℕ) (m : Memory) (size : ℕ) (journal : List ℕ) (r : ℕ) : Type 0 where
-  pub number : r ≡ recordNumber k a b m size journal
-  pub ready : r ≡ 0 → ReadyIn m
-  pub due : r ≡ 0 → editNumber k (clashesIn m) a b ≡ 0
-  pub space : r ≡ 0 → spaceNumber (size + entrySize) journal ≡ 0
 
 -- the entry stands after the first `size` bytes, and the answer is that of the edit and the new length
 pub record RecordedOf (e : Entry) (answer : Answer) (size : ℕ) (journal : List ℕ) (r : Recorded) (journal′ : List ℕ) : Type 0 where

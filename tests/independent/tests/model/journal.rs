@@ -399,6 +399,7 @@ fn random_journals_are_varied() {
     let (mut accepted, mut left) = (0, BTreeSet::new());
     for _ in 0..1000 {
         let mut memory = Memory::filled(1024, 0);
+        memory.open(0);
         let answer = memory.replay(&random_journal(&mut random));
         numbers.insert(answer.number);
         accepted += usize::from(answer.number == 0);

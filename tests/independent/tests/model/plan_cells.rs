@@ -5,6 +5,12 @@ use independent::graph::Graph;
 use independent::memory::Memory;
 use independent::random::Random;
 
+/// Banks, clashes, waves, cap.
+fn tally_cells(memory: &Memory) -> [u16; 4] {
+    let tally = memory.tally;
+    [tally.banks, tally.clashes, tally.waves, tally.cap]
+}
+
 #[test]
 fn cells_of_a_small_plan() {
     // Degrees 2 1 3 2 0: order 2 0 3 1 4; waves 1 1 0 2 0.
@@ -26,8 +32,7 @@ fn cells_of_a_small_plan() {
         assert_eq!(memory.counts[24 * b..24 * b + 24], cells);
     }
     assert_eq!(memory.ranks, [0; 5]);
-    let tally = memory.tally;
-    assert_eq!((tally.banks, tally.clashes, tally.waves), (5, 4, 3));
+    assert_eq!(tally_cells(&memory), [5, 4, 3, 24]);
 }
 
 /// Ranks turn the tie of banks 0 and 3 round: order 2 3 0 1 4; waves 2 1 0 1 0.
@@ -44,8 +49,7 @@ fn cells_of_a_small_plan_with_ranks() {
         cells[..front.len()].copy_from_slice(front);
         assert_eq!(memory.counts[24 * b..24 * b + 24], cells);
     }
-    let tally = memory.tally;
-    assert_eq!((tally.banks, tally.clashes, tally.waves), (5, 4, 3));
+    assert_eq!(tally_cells(&memory), [5, 4, 3, 24]);
 }
 
 /// All 276 clashes of 24 banks: bank b stands in wave b, after one bank in each lower wave.
@@ -63,8 +67,7 @@ fn cells_of_the_most_waves() {
         assert!(counts[..b].iter().all(|&count| count == 1));
         assert!(counts[b..].iter().all(|&count| count == 0));
     }
-    let tally = memory.tally;
-    assert_eq!((tally.banks, tally.clashes, tally.waves), (24, 276, 24));
+    assert_eq!(tally_cells(&memory), [24, 276, 24, 24]);
 }
 
 #[test]
@@ -76,8 +79,7 @@ fn open_sets_every_cell() {
     assert_eq!(memory.waves[..3], [0; 3]);
     assert_eq!(memory.counts[..72], [0; 72]);
     assert_eq!(memory.ranks[..3], [0; 3]);
-    let tally = memory.tally;
-    assert_eq!((tally.banks, tally.clashes, tally.waves), (3, 0, 1));
+    assert_eq!(tally_cells(&memory), [3, 0, 1, 24]);
     for rest in [
         &memory.neighbours[69..],
         &memory.degrees[3..],
@@ -220,6 +222,10 @@ fn a_changed_tally_is_no_plan() {
     assert!(!memory.holds_plan(), "bank 2 clashes with bank 3");
     memory.tally = tally;
     assert!(memory.holds_plan());
+    for cap in 0..=65_535 {
+        memory.tally.cap = cap;
+        assert_eq!(memory.holds_plan(), (2..=24).contains(&cap), "cap {cap}");
+    }
 }
 
 #[test]

@@ -26,7 +26,7 @@ fn known(graph: &Graph) -> Known {
 }
 
 /// An edit that no refusal is due to: two banks, and whether it adds.
-fn due_edit(random: &mut Random, graph: &Graph) -> (Bank, Bank, bool) {
+pub fn due_edit(random: &mut Random, graph: &Graph) -> (Bank, Bank, bool) {
     loop {
         let (a, b) = (random.below(graph.banks()), random.below(graph.banks()));
         let room = graph.degree(a) < 23 && graph.degree(b) < 23;
@@ -36,7 +36,7 @@ fn due_edit(random: &mut Random, graph: &Graph) -> (Bank, Bank, bool) {
     }
 }
 
-fn edit(memory: &mut Memory, a: Bank, b: Bank, add: bool) -> EditAnswer {
+pub fn edit(memory: &mut Memory, a: Bank, b: Bank, add: bool) -> EditAnswer {
     if add {
         memory.add(a as u16, b as u16)
     } else {

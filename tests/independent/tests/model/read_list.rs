@@ -309,6 +309,7 @@ fn random_lists_are_varied() {
     let mut most_waves = 0;
     for _ in 0..600 {
         let mut memory = Memory::filled(1024, 0);
+        memory.open(0);
         let answer = memory.read_list(&lists::random_list(&mut random));
         numbers.insert(answer.number);
         accepted += usize::from(answer.number == 0);

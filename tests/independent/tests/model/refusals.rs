@@ -153,6 +153,11 @@ fn memory_without_a_plan() {
     let mut memory = opened(3, &[(0, 1)]);
     memory.ranks[0] = 1;
     all_refused(&memory, 3);
+    for cap in [0, 1, 25, 280, 65_535] {
+        let mut memory = opened(3, &[(0, 1)]);
+        memory.tally.cap = cap;
+        all_refused(&memory, 3);
+    }
     all_refused(&Memory::filled(700, 700), 3);
 }
 
@@ -221,6 +226,7 @@ fn random_memory(random: &mut Random) -> Memory {
     let mut memory = Memory::filled(random.below(7), 0);
     memory.tally.banks = banks;
     memory.tally.waves = random.below(3) as u16;
+    memory.tally.cap = *random.pick(&[24, 24, 2, 0, 25]);
     for slice in [
         &mut memory.neighbours,
         &mut memory.degrees,

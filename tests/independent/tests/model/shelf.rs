@@ -14,7 +14,7 @@ pub const NAMES: [&[u8]; 3] = [MORNING, NOON, CLOSE];
 
 /// An open shelf for n banks: the used cells 0, all others 7, and five cells beyond the places.
 pub fn shelf_for(n: u16) -> Vec<u16> {
-    let place = 50 * usize::from(n) + 4;
+    let place = 50 * usize::from(n) + 5;
     let mut shelf = vec![7; 3 * place + 5];
     for used in [0, place, 2 * place] {
         shelf[used] = 0;
@@ -67,12 +67,12 @@ pub fn refused(memory: &Memory, shelf: &[u16], name: &[u8], number: u16) {
 #[test]
 fn opening_clears_the_used_cells_alone() {
     for (n, used) in [
-        (0, [0, 4, 8]),
-        (1, [0, 54, 108]),
-        (4, [0, 204, 408]),
-        (1024, [0, 51_204, 102_408]),
+        (0, [0, 5, 10]),
+        (1, [0, 55, 110]),
+        (4, [0, 205, 410]),
+        (1024, [0, 51_205, 102_410]),
     ] {
-        let cells = 3 * (50 * usize::from(n) + 4);
+        let cells = 3 * (50 * usize::from(n) + 5);
         for spare in [0, 9] {
             let mut shelf = vec![60_000; cells + spare];
             assert_eq!(open_shelf(&mut shelf, n), 0);
@@ -83,10 +83,12 @@ fn opening_clears_the_used_cells_alone() {
     }
 }
 
-/// Two banks that clash: bank 1 has the smaller rank, so it is earlier and stands in wave 0.
+/// Two banks that clash: bank 1 has the smaller rank, so it is earlier and stands in wave 0. The cap
+/// is the last cell.
 #[test]
 fn the_cells_of_a_kept_plan() {
-    let memory = opened_with(&[9999, 300], &[(0, 1)]);
+    let mut memory = opened_with(&[9999, 300], &[(0, 1)]);
+    assert_eq!(memory.set_cap(6), 0);
     let row = |neighbour| [&[neighbour][..], &[65_535; 22]].concat();
     let counts = [&[1][..], &[0; 23], &[0; 24]].concat();
     let place = [
@@ -98,13 +100,14 @@ fn the_cells_of_a_kept_plan() {
         &counts,
         &[2, 1, 2],
         &[9999, 300],
+        &[6],
     ];
     let place = place.concat();
-    for (name, start) in [(MORNING, 0), (NOON, 104), (CLOSE, 208)] {
+    for (name, start) in [(MORNING, 0), (NOON, 105), (CLOSE, 210)] {
         let mut shelf = shelf_for(2);
         keep(&memory, &mut shelf, name);
         let mut wanted = shelf_for(2);
-        wanted[start..start + 104].copy_from_slice(&place);
+        wanted[start..start + 105].copy_from_slice(&place);
         assert_eq!(shelf, wanted);
     }
 }
@@ -156,7 +159,7 @@ fn keeping_again_replaces_and_leaves_the_others() {
         }
         let before = shelf.clone();
         keep(&ring, &mut shelf, name);
-        for (i, (new, old)) in shelf.chunks(204).zip(before.chunks(204)).enumerate() {
+        for (i, (new, old)) in shelf.chunks(205).zip(before.chunks(205)).enumerate() {
             assert_eq!(new == old, i != place, "part {i}");
         }
         let mut memory = none.clone();
@@ -170,15 +173,15 @@ fn keeping_again_replaces_and_leaves_the_others() {
 #[test]
 fn a_shelf_without_banks() {
     let mut memory = opened(0, &[]);
-    let mut shelf = [7; 13];
+    let mut shelf = [7; 16];
     assert_eq!(open_shelf(&mut shelf, 0), 0);
     keep(&memory, &mut shelf, NOON);
-    assert_eq!(shelf, [0, 7, 7, 7, 1, 0, 0, 0, 0, 7, 7, 7, 7]);
+    assert_eq!(shelf, [0, 7, 7, 7, 7, 1, 0, 0, 0, 24, 0, 7, 7, 7, 7, 7]);
     comes_back(&mut memory, &shelf, NOON, &[]);
     back_refused(&memory, &shelf, CLOSE, 17);
-    shelf[5] = 1;
+    shelf[6] = 1;
     refused(&memory, &shelf, NOON, 3);
-    refused(&memory, &shelf[..11], NOON, 2);
+    refused(&memory, &shelf[..14], NOON, 2);
 }
 
 /// The ranks come back with the plan, and from then on edits go by them.

@@ -13,10 +13,10 @@ fn questions_of_opening_a_shelf() {
         (1025, 0, 1),
         (1025, 200_000, 1),
         (65_535, 200_000, 1),
-        (1024, 153_611, 2),
-        (4, 611, 2),
+        (1024, 153_614, 2),
+        (4, 614, 2),
         (1, 0, 2),
-        (0, 11, 2),
+        (0, 14, 2),
         (0, 0, 2),
     ] {
         let mut shelf = vec![7; cells];
@@ -46,7 +46,7 @@ fn short(memory: &Memory, slice: Slice) -> Memory {
 fn kept_at_noon() -> (Memory, Vec<u16>) {
     let plan = opened(3, &[(0, 1)]);
     let mut shelf = shelf_for(3);
-    shelf.truncate(462);
+    shelf.truncate(465);
     keep(&plan, &mut shelf, NOON);
     (plan, shelf)
 }
@@ -55,16 +55,16 @@ fn kept_at_noon() -> (Memory, Vec<u16>) {
 fn the_first_no_of_keeping_and_coming_back_wins() {
     let (plan, shelf) = kept_at_noon();
     let mut wrong_shelf = shelf.clone();
-    wrong_shelf[308] = 2;
+    wrong_shelf[310] = 2;
     let mut no_plan = plan.clone();
     no_plan.waves[2] = 1;
     let mut too_many = short(&no_plan, |memory| &mut memory.degrees);
     too_many.tally.banks = 1025;
     let short_moved = short(&no_plan, |memory| &mut memory.moved);
     for name in [NOON, CLOSE, b"EVENING ", b""] {
-        refused(&too_many, &wrong_shelf[..461], name, 1);
+        refused(&too_many, &wrong_shelf[..464], name, 1);
         refused(&too_many, &[], name, 1);
-        refused(&no_plan, &wrong_shelf[..461], name, 2);
+        refused(&no_plan, &wrong_shelf[..464], name, 2);
         for slice in PLAN_SLICES {
             refused(&short(&no_plan, slice), &wrong_shelf, name, 2);
         }
@@ -113,22 +113,23 @@ fn only_the_three_names_are_known() {
 }
 
 /// NOON and CLOSE are used, MORNING is not: a cell of theirs counts, one of MORNING's does not. Of
-/// the ranks, the last three cells of a place, only that of bank 0 at NOON decides a tie.
+/// the ranks, the three cells before a place's last, only that of bank 0 at NOON decides a tie. The
+/// last is the cap: both plans have two waves.
 #[test]
 fn each_cell_of_a_used_place_counts_and_none_of_an_unused_one() {
     let (plan, mut shelf) = kept_at_noon();
     keep(&opened(3, &[(0, 1), (1, 2)]), &mut shelf, CLOSE);
-    for (i, name) in (0..462).zip(NAMES.iter().cycle()) {
-        for content in [0, 1, 2, 3, 9999, 10_000, 65_535] {
+    for (i, name) in (0..465).zip(NAMES.iter().cycle()) {
+        for content in [0, 1, 2, 3, 24, 25, 9999, 10_000, 65_535] {
             if content == shelf[i] {
                 continue;
             }
             let mut changed = shelf.clone();
             changed[i] = content;
             match (i, content) {
-                (154, 0) => back_refused(&plan, &changed, NOON, 17),
-                (308, 0) => back_refused(&plan, &changed, CLOSE, 17),
-                (1..=153, _) | (306 | 307 | 459..=461, 0..=9999) => {
+                (155, 0) => back_refused(&plan, &changed, NOON, 17),
+                (310, 0) => back_refused(&plan, &changed, CLOSE, 17),
+                (1..=154, _) | (307 | 308 | 461..=463, 0..=9999) | (309 | 464, 2..=24) => {
                     comes_back(&mut plan.clone(), &changed, NOON, &[]);
                     keep(&plan, &mut changed, name);
                 }
@@ -145,7 +146,7 @@ fn kept_plans_of_another_bank_count() {
     let mut memory = opened(4, &[(0, 1)]);
     let mut shelf = shelf_for(4);
     keep(&memory, &mut shelf, CLOSE);
-    let banks = 408 + 197;
+    let banks = 410 + 197;
     for other in [2, 3, 5, 0, 1, 1024, 1025, 65_535] {
         shelf[banks] = other;
         refused(&memory, &shelf, MORNING, 3);

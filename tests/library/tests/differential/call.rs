@@ -17,6 +17,7 @@ pub enum Call {
     Open(u16),
     Add(u16, u16),
     Strike(u16, u16),
+    SetCap(u16),
     WaveOf(u16),
     ClashesOf(u16),
     WaveBound,
@@ -38,6 +39,7 @@ impl fmt::Display for Call {
             Call::Open(n) => write!(f, "open {n}"),
             Call::Add(a, b) => write!(f, "add {a} {b}"),
             Call::Strike(a, b) => write!(f, "strike {a} {b}"),
+            Call::SetCap(cap) => write!(f, "set cap {cap}"),
             Call::WaveOf(b) => write!(f, "wave of {b}"),
             Call::ClashesOf(b) => write!(f, "clashes of {b}"),
             Call::WaveBound => write!(f, "wave bound"),
@@ -95,6 +97,7 @@ impl Call {
                 let answer = model.strike(*a, *b);
                 (answer.number, vec![answer.moved, answer.trail])
             }
+            Call::SetCap(cap) => (model.set_cap(*cap), vec![]),
             Call::WaveOf(b) => {
                 let answer = model.wave_of(*b);
                 (answer.number, vec![usize::from(answer.wave)])
@@ -155,6 +158,7 @@ impl Call {
             Call::Open(n) => lent.open(*n),
             Call::Add(a, b) => lent.add(*a, *b),
             Call::Strike(a, b) => lent.strike(*a, *b),
+            Call::SetCap(cap) => lent.set_cap(*cap),
             Call::WaveOf(b) => lent.wave_of(*b),
             Call::ClashesOf(b) => lent.clashes_of(*b),
             Call::WaveBound => lent.wave_bound(),

@@ -1,7 +1,7 @@
 //! Ways to damage memory that holds a plan. The subtle ones break one condition and leave all
-//! others as they should be. Where only ranks change, it may still hold a plan.
+//! others as they should be. Where only ranks or the cap change, it may still hold a plan.
 
-use crate::plans::{graph, needed, row, slices, PLAN_SLICES, SLICES};
+use crate::plans::{any_cap, graph, needed, row, slices, PLAN_SLICES, SLICES};
 use independent::graph::Bank;
 use independent::memory::Memory;
 use independent::plan::{Plan, MAX_DEGREE, MAX_RANK, NO_BANK, WAVES};
@@ -11,7 +11,7 @@ use independent::ranks::drawn_ranks;
 /// A way to damage the plan of at least two banks.
 pub type Damage = fn(&mut Random, &mut Memory);
 
-pub const DAMAGES: [Damage; 21] = [
+pub const DAMAGES: [Damage; 23] = [
     one_cell,
     some_cells,
     one_slice,
@@ -33,6 +33,8 @@ pub const DAMAGES: [Damage; 21] = [
     one_tie_turned,
     ranks_of_another_plan,
     waves_of_ranks_0,
+    wrong_cap,
+    another_cap,
 ];
 
 /// One cell of the plan or of the tally gets other content.
@@ -68,10 +70,11 @@ fn one_slice(random: &mut Random, memory: &mut Memory) {
 fn one_tally_cell(random: &mut Random, memory: &mut Memory) {
     let n = usize::from(memory.tally.banks);
     let tally = &mut memory.tally;
-    let cell = match random.below(5) {
+    let cell = match random.below(7) {
         0 => &mut tally.banks,
         1 | 2 => &mut tally.clashes,
-        _ => &mut tally.waves,
+        3 | 4 => &mut tally.waves,
+        _ => &mut tally.cap,
     };
     *cell = other_content(random, *cell, n);
 }
@@ -81,6 +84,20 @@ fn all_tally_cells(random: &mut Random, memory: &mut Memory) {
     memory.tally.banks = random.below(limit) as u16;
     memory.tally.clashes = random.below(limit) as u16;
     memory.tally.waves = random.below(limit) as u16;
+    memory.tally.cap = random.below(limit) as u16;
+}
+
+/// A cap that no plan has, or one below the waves of this.
+fn wrong_cap(random: &mut Random, memory: &mut Memory) {
+    let low = random.below(memory.tally.waves.max(1).into());
+    let far = random.between(25, 65_535);
+    let cap = *random.pick(&[0, low, low, 25, 256 + low, far]);
+    memory.tally.cap = cap as u16;
+}
+
+/// Another cap that the plan can have.
+fn another_cap(random: &mut Random, memory: &mut Memory) {
+    memory.tally.cap = any_cap(random, memory.tally.waves);
 }
 
 /// One bank gets a higher wave that no neighbour holds; Counts and tally are made to fit.
@@ -291,7 +308,7 @@ fn other_content(random: &mut Random, present: u16, n: usize) -> u16 {
     }
 }
 
-/// Counts and the tally's waves as the stored rows, degrees and waves give them.
+/// Counts and the tally's waves as the stored rows, degrees and waves give them, under the cap.
 fn fit_counts(memory: &mut Memory) {
     let n = usize::from(memory.tally.banks);
     for b in 0..n {
@@ -301,7 +318,9 @@ fn fit_counts(memory: &mut Memory) {
         }
         memory.counts[WAVES * b..][..WAVES].copy_from_slice(&counts);
     }
-    memory.tally.waves = memory.waves[..n].iter().max().map_or(0, |wave| wave + 1);
+    let waves = memory.waves[..n].iter().max().map_or(0, |wave| wave + 1);
+    memory.tally.waves = waves;
+    memory.tally.cap = memory.tally.cap.max(waves);
 }
 
 /// Degrees and the tally's clashes as the stored rows give them, whether these make a graph or not.

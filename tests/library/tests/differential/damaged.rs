@@ -11,7 +11,7 @@ use independent::random::Random;
 use independent::reach::Edit;
 
 /// How many calls got each number.
-type Numbers = [usize; 19];
+type Numbers = [usize; 21];
 
 #[test]
 fn calls_on_damaged_plans() {
@@ -59,6 +59,7 @@ fn each_damage_is_seen_by_each_call() {
             for call in [
                 Call::Add(0, 1),
                 Call::Strike(1, 0),
+                Call::SetCap(24),
                 Call::WaveOf(1),
                 Call::ClashesOf(0),
                 Call::WaveBound,
@@ -140,6 +141,10 @@ fn any_memory(random: &mut Random) -> Memory {
     memory.tally.banks = any_cell(random, banks);
     memory.tally.clashes = any_cell(random, limit);
     memory.tally.waves = any_cell(random, limit);
+    memory.tally.cap = match random.below(3) {
+        0 => any_cell(random, limit),
+        _ => random.between(1, 24) as u16,
+    };
     memory
 }
 
@@ -161,7 +166,7 @@ fn any_call(random: &mut Random, memory: &Memory) -> Call {
         _ => random.below(n.max(1)) as u16,
     };
     let (a, b) = (any(random), any(random));
-    match random.below(34) {
+    match random.below(37) {
         0 => Call::Open(a),
         1 => Call::ReadList(any_list(random, a)),
         2..=9 => Call::Add(a, b),
@@ -175,6 +180,7 @@ fn any_call(random: &mut Random, memory: &Memory) -> Call {
         22..=25 => Call::ClashesOf(b),
         26 | 27 => Call::StartJournal(vec![b'#'; random.below(2000)]),
         28 | 29 => Call::Record(any_entry(a, b), any_journal(memory), 5),
+        30..=32 => Call::SetCap(random.below(27) as u16),
         _ => {
             let enough = sheet_length(memory) + 2;
             let any = random.below(enough);

@@ -1,10 +1,11 @@
-//! Sequences of edits from random plans: accepted ones, and refused ones of each number.
+//! Sequences of edits from random plans, under caps that come and go: accepted ones, and refused ones
+//! of each number.
 
 use crate::call::Call;
 use crate::damage;
 use crate::pair::Pair;
-use crate::plans::{any_memory, bank_count, graph, needed, poster_length, row, sheet_length};
-use crate::plans::{slices, SLICES};
+use crate::plans::{any_cap, any_memory, bank_count, graph, needed, poster_length, row};
+use crate::plans::{sheet_length, slices, store, SLICES};
 use crate::{quick, rounds};
 use independent::plan::MAX_DEGREE;
 use independent::random::Random;
@@ -13,7 +14,9 @@ use independent::random::Random;
 #[derive(Debug, Default)]
 struct Seen {
     /// How many edits got each number.
-    numbers: [usize; 9],
+    numbers: [usize; 21],
+    /// How many caps got each number.
+    caps: [usize; 21],
     adds: usize,
     strikes: usize,
     longest_trail: usize,
@@ -23,11 +26,20 @@ struct Seen {
     full_degrees: usize,
 }
 
+impl Seen {
+    /// Each number that edits and caps can get has come up more often.
+    fn each_number(&self, times: usize) {
+        let all = |numbers: &[usize], of: &[usize]| numbers.iter().all(|&i| of[i] > times);
+        let edits = all(&[0, 1, 2, 3, 4, 5, 6, 7, 8, 20], &self.numbers);
+        assert!(edits && all(&[0, 19, 20], &self.caps), "{self:?}");
+    }
+}
+
 #[test]
 fn sequences_on_few_banks() {
     let seen = sequences(rounds(240), 60, 61, |random| bank_count(random, 100));
     if !quick() {
-        assert!(seen.numbers.iter().all(|&times| times > 20), "{seen:?}");
+        seen.each_number(20);
         assert!(seen.adds > 1000 && seen.strikes > 1000, "{seen:?}");
         assert!(seen.most_waves == 24 && seen.full_degrees > 20, "{seen:?}");
     }
@@ -41,7 +53,7 @@ fn sequences_on_many_banks() {
         *next.next().expect("sizes come round")
     });
     if !quick() {
-        assert!(seen.numbers.iter().all(|&times| times > 4), "{seen:?}");
+        seen.each_number(4);
         assert!(seen.adds > 200 && seen.strikes > 200, "{seen:?}");
         assert!(seen.most_banks == 1024, "{seen:?}");
         assert!(seen.most_waves == 24 && seen.full_degrees > 2, "{seen:?}");
@@ -80,13 +92,14 @@ fn opened(random: &mut Random, n: usize) -> Pair {
         return pair;
     }
     let graph = graph(random, n);
-    pair.model.store_plan(&graph);
+    store(random, &mut pair.model, &graph);
     Pair::new(pair.model, seed)
 }
 
-/// One call: an edit to which no refusal is due, or one that is refused, or a question.
+/// One call: an edit of two banks that can be made if the cap allows it, one that is refused, a cap, or
+/// a question.
 fn step(random: &mut Random, pair: &mut Pair, seen: &mut Seen) {
-    match random.below(10) {
+    match random.below(11) {
         0..=3 => {
             if let Some(call) = good_add(random, pair) {
                 edit(pair, &call, seen);
@@ -98,8 +111,23 @@ fn step(random: &mut Random, pair: &mut Pair, seen: &mut Seen) {
             }
         }
         7 | 8 => refused_edit(random, pair, seen),
+        9 => {
+            let call = some_cap(random, pair);
+            let number = pair.call(&call).number;
+            seen.caps[usize::from(number)] += 1;
+        }
         _ => question(random, pair),
     }
+}
+
+/// A cap that the plan can have, one that is too low, or none.
+pub fn some_cap(random: &mut Random, pair: &Pair) -> Call {
+    let waves = pair.model.tally.waves;
+    Call::SetCap(match random.below(6) {
+        0 => waves.saturating_sub(1),
+        1 => *random.pick(&[0, 25, 256, 65_535]),
+        _ => any_cap(random, waves),
+    })
 }
 
 /// An edit on both, counted.
@@ -156,7 +184,7 @@ fn clash(random: &mut Random, pair: &Pair) -> Option<(u16, u16)> {
     None
 }
 
-/// An edit that is refused with one of the numbers 1 to 8, if the plan has a case of it. Few plans have
+/// An edit that is refused with one of the numbers 1 to 8, whatever the cap is, if the plan has a case of it. Few plans have
 /// one of the last.
 fn refused_edit(random: &mut Random, pair: &mut Pair, seen: &mut Seen) {
     let n = usize::from(pair.model.tally.banks);

@@ -3,6 +3,7 @@
 
 use crate::call::{Answer, Call};
 use crate::damage::DAMAGES;
+use crate::edits::some_cap;
 use crate::pair::Pair;
 use crate::plans::{any_memory, bank_count, blocks, graph, memory_of, row};
 use crate::{quick, rounds};
@@ -24,13 +25,14 @@ fn with_spare(random: &mut Random, bytes: &[u8], spare: usize) -> Vec<u8> {
     bytes.iter().copied().chain(others).collect()
 }
 
-/// The journal replays with no refusal, nothing left over, to the plan of the graph.
+/// The journal replays with no refusal, nothing left over, to the plan of the graph, with cap 24.
 pub fn replays_to(random: &mut Random, journal: &[u8], graph: &Option<Graph>) {
     let n = graph.as_ref().expect("a plan").banks();
     let mut pair = Pair::new(any_memory(random, n), random.draw());
     let answer = pair.call(&Call::Replay(journal.to_vec()));
     assert_eq!((answer.number, &answer.results[..]), (0, &[0, 0][..]));
     assert!(pair.model.held_graph() == *graph, "the present plan");
+    assert_eq!(pair.model.tally.cap, 24);
 }
 
 #[test]
@@ -157,8 +159,8 @@ fn any_entry(random: &mut Random, model: &Memory) -> Entry {
     }
 }
 
-/// Sequences of edits, accepted and refused, until the slice has no space. After each one the
-/// journal replays to the present plan.
+/// Sequences of edits, accepted and refused, until the slice has no space, under caps that come and go.
+/// After each one the journal replays to the present plan in all but the cap.
 #[test]
 fn sequences_of_recorded_edits() {
     let mut random = Random::new(103);
@@ -170,6 +172,10 @@ fn sequences_of_recorded_edits() {
         let spare = random.below(200);
         let mut recorder = Recorder::start(&mut random, memory, spare);
         for _ in 0..40 {
+            if random.one_in(6) {
+                let cap = some_cap(&mut random, &recorder.pair);
+                recorder.pair.call(&cap);
+            }
             let entry = any_entry(&mut random, &recorder.pair.model);
             numbers.insert(recorder.record(entry).number);
             let graph = recorder.pair.model.held_graph();
@@ -177,7 +183,7 @@ fn sequences_of_recorded_edits() {
         }
     }
     if !quick() {
-        assert_eq!(numbers, BTreeSet::from([0, 4, 5, 6, 7, 8, 15]));
+        assert_eq!(numbers, BTreeSet::from([0, 4, 5, 6, 7, 8, 15, 20]));
     }
 }
 

@@ -37,7 +37,8 @@ fn no_plan(random: &mut Random, memory: &Memory, shelf: &[u16]) {
 }
 
 /// Each cell of the shelf with other content: of used places, of unused ones, and beyond the places. In
-/// the plan that is kept no rank decides a tie of neighbours, so that any rank up to 9,999 is right.
+/// the plan that is kept no rank decides a tie of neighbours, so that any rank up to 9,999 is right; it
+/// has two waves, so that each cap from 2 to 24 is.
 #[test]
 fn each_cell_of_a_shelf() {
     let mut random = Random::new(131);
@@ -51,12 +52,15 @@ fn each_cell_of_a_shelf() {
         shelf.extend([1, 1, 1]);
         for i in (0..shelf.len()).step_by(step) {
             let (place, cell) = (i / place_cells(n), i % place_cells(n));
-            for content in [0, 1, 2, 256, 257, shelf[i].wrapping_add(1), 65_535] {
+            let next = shelf[i].wrapping_add(1);
+            for content in [0, 1, 2, 24, 25, 256, 257, next, 65_535] {
                 let mut changed = shelf.clone();
                 changed[i] = content;
-                let rank = cell >= place_cells(n) - n && content <= 9999;
+                let last = place_cells(n) - 1;
+                let rank = (last - n..last).contains(&cell) && content <= 9999;
+                let cap = cell == last && (2..=24).contains(&content);
                 let unread = place > 2 || (cell > 0 && !used[place]);
-                let whole = content == shelf[i] || unread || rank;
+                let whole = content == shelf[i] || unread || rank || cap;
                 if !whole && (cell > 0 || content > 0) {
                     no_plan(&mut random, &memory, &changed);
                     continue;
@@ -76,13 +80,14 @@ fn each_cell_of_a_shelf() {
 /// Writes the memory's cells and tally into a place, as far as its slices go.
 fn put(place: &mut [u16], n: usize, memory: &Memory) {
     let tally = tally_cells(memory);
-    let parts: [(&[u16], usize); 6] = [
+    let parts: [(&[u16], usize); 7] = [
         (&memory.neighbours, 23 * n),
         (&memory.degrees, n),
         (&memory.waves, n),
         (&memory.counts, 24 * n),
-        (&tally, 3),
+        (&tally[..3], 3),
         (&memory.ranks, n),
+        (&tally[3..], 1),
     ];
     let mut rest = &mut place[1..];
     for (slice, width) in parts {
@@ -112,7 +117,7 @@ fn each_rank_of_a_kept_plan() {
         for b in 0..n {
             for rank in [0, 1, 2, 5000, 9999, 10_000, 10_001, 65_535] {
                 let mut shelf = whole.clone();
-                shelf[(place + 1) * place_cells(n) - n + b] = rank;
+                shelf[(place + 1) * place_cells(n) - 1 - n + b] = rank;
                 let new = other.ranked(b, rank.into());
                 let turned = |q: usize| other.earlier(q, b) != new.earlier(q, b);
                 if rank > 9999 || other.neighbours(b).any(turned) {
@@ -129,6 +134,35 @@ fn each_rank_of_a_kept_plan() {
         }
     }
     assert!(quick() || (right > 200 && wrong > 200), "{right}, {wrong}");
+}
+
+/// Each cap of a kept plan: from its waves, and 1, to 24 it comes back; any other is no plan.
+#[test]
+fn each_cap_of_a_kept_plan() {
+    let mut random = Random::new(137);
+    for _ in 0..rounds(60) {
+        let n = bank_count(&mut random, 40);
+        let (present, other) = (graph(&mut random, n), graph(&mut random, n));
+        let memory = memory_of(&mut random, &present);
+        let waves = Plan::of(&other).tally.waves;
+        let place = random.below(3);
+        let mut kept = [None; 3];
+        kept[place] = Some(&other);
+        let whole = shelf_of(&mut random, n, kept);
+        for cap in (0..=26).chain([256 + 24, 65_535]) {
+            let mut shelf = whole.clone();
+            shelf[(place + 1) * place_cells(n) - 1] = cap;
+            if !(waves.max(1)..=24).contains(&cap) {
+                no_plan(&mut random, &memory, &shelf);
+                continue;
+            }
+            let mut pair = Pair::with_shelf(memory.clone(), shelf, random.draw());
+            assert_eq!(pair.call(&keep((place + 1) % 3)).number, 0);
+            assert_eq!(pair.call(&come_back(place)).number, 0);
+            assert_eq!(pair.model.tally.cap, cap);
+            assert_eq!(pair.call(&keep(place)).number, 0);
+        }
+    }
 }
 
 /// Each of the ways to damage a plan, in a place that is used and in one that is not.
@@ -228,8 +262,10 @@ fn the_first_no_on_a_shelf() {
                 memory.waves[n - 1] += 1;
             }
             if fault(3) {
-                let wrong = *random.pick(&[(49 * n + 3, 25), (place_cells(n) - 1, 10_000)]);
-                shelf[wrong.0] = wrong.1;
+                let cap = place_cells(n) - 1;
+                let wrongs = [(49 * n + 3, 25), (cap - 1, 10_000), (cap, 0), (cap, 25)];
+                let (place, wrong) = *random.pick(&wrongs);
+                shelf[place] = wrong;
             }
             if fault(1) && short < 6 {
                 let place = [0, 1, 2, 3, RANKS, 6][short];

@@ -4,7 +4,8 @@
 //! - `call`: a call, made on the library or on the model.
 //! - `pair`: the library's memory and the model's, and a call made on both.
 //! - `plans`: random plans of all sizes, degrees and ranks.
-//! - `edits`: sequences of edits, accepted and refused.
+//! - `edits`: sequences of edits, accepted and refused, and caps.
+//! - `caps`: edits at the waves that they need and one below; the caps that can be set.
 //! - `bounds`: how many waves at most.
 //! - `damage`, `damaged`: memory that holds no plan or is too short, and the calls on it.
 //! - `lists`, `sheets`, `posters`: reading lists, writing sheets and posters.
@@ -12,13 +13,14 @@
 //! - `shelves`, `kept`: sequences of keepings and returns; shelves that are damaged or too short.
 //! - `totals`: runs of all calls with a total kept beside them.
 //! - `short`: tally, result and ranks slices that are too short.
-//! - `marked`: the paper's marked examples, ranks, a journal and a shelf, through the wrapper that owns
-//!   its memory.
+//! - `marked`: the paper's marked examples, ranks, caps, a journal and a shelf, through the wrapper that
+//!   owns its memory.
 //!
 //! With WAVE_PLAN_QUICK set, each test makes fewer calls, for a run under a memory checker.
 
 mod bounds;
 mod call;
+mod caps;
 mod damage;
 mod damaged;
 mod edits;

@@ -1,5 +1,5 @@
-//! The paper's marked examples, its example sheet, ranks, a journal and a shelf, through the wrapper
-//! that owns its memory.
+//! The paper's marked examples, its example sheet, ranks, caps, a journal and a shelf, through the
+//! wrapper that owns its memory.
 
 use library_tests::{Bank, Edit, Name, Plan, Refused, Shelf, Wave};
 
@@ -109,6 +109,40 @@ fn ranks() {
     let mut other = opened(3, &[(0, 1), (1, 2)]);
     assert_eq!(other.come_back(&shelf, Name::Noon), Ok(vec![]));
     assert_eq!(other.ranks(), [0, 300, 0]);
+}
+
+/// M9's strike needs a third wave. The cap is kept with the plan, and no journal has it.
+#[test]
+fn caps() {
+    let clashes = [(0, 4), (0, 2), (2, 3), (1, 3), (1, 5), (2, 5)];
+    let mut plan = opened(6, &clashes);
+    let refused = |number| Refused { number, place: 0 };
+    assert_eq!(plan.cap(), 24);
+    assert_eq!(plan.set_cap(0), Err(refused(19)));
+    assert_eq!(plan.set_cap(25), Err(refused(19)));
+    assert_eq!(plan.set_cap(1), Err(refused(20)));
+    assert_eq!(plan.set_cap(2), Ok(()));
+    let mut journal = plan.start_journal().expect("started");
+    let started = journal.clone();
+    assert_eq!(plan.strike(Bank(2), Bank(5)), Err(refused(20)));
+    let answer = plan.strike_recorded(Bank(2), Bank(5), &mut journal);
+    assert_eq!((answer, &journal), (Err(refused(20)), &started));
+    assert_eq!(plan.add(Bank(2), Bank(4)), Err(refused(20)));
+    assert_eq!(waves(&mut plan, 6), [1, 0, 0, 1, 0, 1]);
+    let mut shelf = Shelf::open(6).expect("opened");
+    assert_eq!(plan.keep(&mut shelf, Name::Morning), Ok(()));
+    assert_eq!(plan.set_cap(3), Ok(()));
+    reach(
+        plan.strike_recorded(Bank(2), Bank(5), &mut journal),
+        &[0, 2, 3, 4, 5],
+        &[0, 2, 3, 4],
+    );
+    assert_eq!((plan.cap(), plan.set_cap(2)), (3, Err(refused(20))));
+    let (mut again, _) = Plan::replay(&journal).expect("replayed");
+    assert_eq!((again.cap(), again.sheet()), (24, plan.sheet()));
+    assert!(plan.come_back(&shelf, Name::Morning).is_ok());
+    assert_eq!(plan.cap(), 2);
+    assert_eq!(plan.strike(Bank(2), Bank(5)), Err(refused(20)));
 }
 
 #[test]

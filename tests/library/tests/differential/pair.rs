@@ -64,7 +64,7 @@ impl Pair {
         let old_result = before.result.content();
         let old_tally = before.tally.content();
         let wanted_result = [&results, &old_result[results.len()..]].concat();
-        let wanted_tally = [&tally_cells(&self.model)[..], &old_tally[3..]].concat();
+        let wanted_tally = [&tally_cells(&self.model)[..], &old_tally[4..]].concat();
         let wanted: [&[u16]; 10] = [
             &self.model.neighbours,
             &self.model.degrees,
@@ -100,6 +100,7 @@ impl Pair {
 }
 
 /// The model's tally as cells.
-pub fn tally_cells(model: &Memory) -> [u16; 3] {
-    [model.tally.banks, model.tally.clashes, model.tally.waves]
+pub fn tally_cells(model: &Memory) -> [u16; 4] {
+    let tally = model.tally;
+    [tally.banks, tally.clashes, tally.waves, tally.cap]
 }

@@ -1,8 +1,8 @@
-//! Random plans of all sizes, of few clashes to full degrees, with ranks of all kinds.
+//! Random plans of all sizes, of few clashes to full degrees, with ranks and caps of all kinds.
 
 use independent::graph::{Bank, Graph};
 use independent::memory::Memory;
-use independent::plan::{Plan, MAX_DEGREE, WAVES};
+use independent::plan::{Plan, MAX_CAP, MAX_DEGREE, WAVES};
 use independent::random::Random;
 use independent::ranks::drawn_ranks;
 use independent::shelf::{kept_cells, place_cells, shelf_cells};
@@ -94,14 +94,31 @@ pub fn any_memory(random: &mut Random, n: usize) -> Memory {
     memory
 }
 
-/// Such memory that holds the plan of a graph.
+/// Such memory that holds the plan of a graph, with a cap.
 pub fn memory_of(random: &mut Random, graph: &Graph) -> Memory {
     let mut memory = any_memory(random, graph.banks());
-    memory.store_plan(graph);
+    store(random, &mut memory, graph);
     memory
 }
 
-/// A shelf for n banks in which these plans are kept. The cells of unused places, and some beyond
+/// Writes the plan of a graph, with a cap.
+pub fn store(random: &mut Random, memory: &mut Memory, graph: &Graph) {
+    memory.store_plan(graph);
+    memory.tally.cap = any_cap(random, memory.tally.waves);
+}
+
+/// A cap that a plan of so many waves can have: often 24, or just its waves.
+pub fn any_cap(random: &mut Random, waves: u16) -> u16 {
+    let least = waves.max(1);
+    match random.below(5) {
+        0 => least,
+        1 => (least + 1).min(MAX_CAP),
+        2 => random.between(least.into(), MAX_CAP.into()) as u16,
+        _ => MAX_CAP,
+    }
+}
+
+/// A shelf for n banks in which these plans are kept, with caps. The cells of unused places, and some beyond
 /// the places, are of any content.
 pub fn shelf_of(random: &mut Random, n: usize, kept: [Option<&Graph>; 3]) -> Vec<u16> {
     let limit = *random.pick(&[2, 24, 1025, 65_536]);
@@ -111,7 +128,11 @@ pub fn shelf_of(random: &mut Random, n: usize, kept: [Option<&Graph>; 3]) -> Vec
         .collect();
     for (place, kept) in shelf.chunks_mut(place_cells(n)).zip(kept) {
         match kept {
-            Some(graph) => place.copy_from_slice(&kept_cells(&Plan::of(graph))),
+            Some(graph) => {
+                let mut plan = Plan::of(graph);
+                plan.tally.cap = any_cap(random, plan.tally.waves);
+                place.copy_from_slice(&kept_cells(&plan));
+            }
             None => place[0] = 0,
         }
     }

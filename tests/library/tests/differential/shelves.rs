@@ -1,11 +1,11 @@
-//! Shelves: sequences of keepings and returns, with edits, lists and replays between; journals after a
-//! return; opening; the names.
+//! Shelves: sequences of keepings and returns, with edits, caps, lists and replays between; journals
+//! after a return; opening; the names.
 
 use crate::call::Call;
-use crate::edits::{good_add, good_strike};
+use crate::edits::{good_add, good_strike, some_cap};
 use crate::journals::replays_to;
 use crate::pair::Pair;
-use crate::plans::{any_memory, bank_count, graph, memory_of, shelf_of};
+use crate::plans::{any_memory, bank_count, graph, memory_of, shelf_of, store};
 use crate::{quick, rounds};
 use independent::graph::Graph;
 use independent::journal::{journal_of, Entry};
@@ -28,14 +28,20 @@ struct Seen {
     most_moved: usize,
     /// How many lists and replays were accepted.
     passes: usize,
+    /// How many edits were refused for the cap, and how many returns changed it.
+    capped: usize,
+    caps_back: usize,
 }
+
+/// A plan that was kept, and its cap.
+type Kept = Option<(Graph, u16)>;
 
 /// A plan, a shelf and room for so many banks.
 struct Day {
     pair: Pair,
     room: usize,
     /// What is kept in each place, if the shelf is open for the present bank count.
-    kept: Option<[Option<Graph>; 3]>,
+    kept: Option<[Kept; 3]>,
 }
 
 impl Day {
@@ -45,7 +51,8 @@ impl Day {
         let shelf = (0..shelf_cells(room) + random.below(20)).map(|_| random.draw() as u16);
         let shelf = shelf.collect();
         let mut memory = any_memory(random, room);
-        memory.store_plan(&graph(random, n));
+        let graph = graph(random, n);
+        store(random, &mut memory, &graph);
         Day {
             pair: Pair::with_shelf(memory, shelf, random.draw()),
             room,
@@ -66,18 +73,20 @@ impl Day {
         if let Some(kept) = &mut self.kept {
             assert_eq!(answer.number, 0);
             seen.replaced += usize::from(kept[place].is_some());
-            kept[place] = self.pair.model.held_graph();
+            kept[place] = present(&self.pair);
         }
     }
 
     fn come_back(&mut self, place: usize, seen: &mut Seen) {
+        let left = self.pair.model.tally.cap;
         let answer = self.pair.call(&Call::ComeBack(NAMES[place].to_vec()));
+        seen.caps_back += usize::from(left != self.pair.model.tally.cap);
         seen.returns[usize::from(answer.number)] += 1;
         seen.moving += usize::from(answer.results[0] > 0);
         seen.most_moved = seen.most_moved.max(answer.results[0]);
         match self.kept.as_ref().map(|kept| &kept[place]) {
             Some(None) => assert_eq!(answer.number, 17),
-            Some(state) => assert!(answer.number == 0 && self.pair.model.held_graph() == *state),
+            Some(state) => assert!(answer.number == 0 && present(&self.pair) == *state),
             None => {}
         }
     }
@@ -114,28 +123,39 @@ impl Day {
         }
     }
 
-    fn edit(&mut self, random: &mut Random) {
+    fn edit(&mut self, random: &mut Random, seen: &mut Seen) {
         let call = match random.below(3) {
             0 => good_strike(random, &self.pair),
             _ => good_add(random, &self.pair),
         };
         if let Some(call) = call {
-            assert_eq!(self.pair.call(&call).number, 0);
+            let number = self.pair.call(&call).number;
+            assert!(number == 0 || number == 20, "{number}");
+            seen.capped += usize::from(number == 20);
         }
     }
 
     fn step(&mut self, random: &mut Random, seen: &mut Seen) {
         let place = random.below(3);
-        match random.below(20) {
-            0..=8 => self.edit(random),
+        match random.below(22) {
+            0..=8 => self.edit(random, seen),
             9..=12 => self.keep(place, seen),
             13..=16 => self.come_back(place, seen),
             17 => self.unknown_name(random, seen),
             18 => self.pass(random, seen),
+            19 | 20 => {
+                self.pair.call(&some_cap(random, &self.pair));
+            }
             _ if self.kept.is_none() || random.one_in(4) => self.open_shelf(),
-            _ => self.edit(random),
+            _ => self.edit(random, seen),
         }
     }
+}
+
+/// The present plan and its cap.
+fn present(pair: &Pair) -> Kept {
+    let graph = pair.model.held_graph()?;
+    Some((graph, pair.model.tally.cap))
 }
 
 /// So many sequences of 60 steps on at least and at most so many banks; a shelf is open as a rule.
@@ -165,6 +185,7 @@ fn varied(seen: &Seen, most_moved: usize) {
         "{seen:?}"
     );
     assert!(seen.most_moved >= most_moved, "{seen:?}");
+    assert!(seen.capped > 0 && seen.caps_back > 20, "{seen:?}");
 }
 
 #[test]
@@ -201,7 +222,9 @@ fn journals_after_a_return() {
                 let edit = Edit::Add;
                 let call = Call::Record(Entry { edit, a, b }, journal.output, length);
                 journal = day.pair.call(&call);
-                length = journal.results[2];
+                if journal.number == 0 {
+                    length = journal.results[2];
+                }
             }
         }
         let left = day.pair.model.held_graph();

@@ -1,4 +1,4 @@
-//! Tally slices of fewer than three cells and result slices of fewer than the call needs: 2 before
+//! Tally slices of fewer than four cells and result slices of fewer than the call needs: 2 before
 //! any other number, and nothing changes. And ranks that are a cell short.
 
 use crate::call::Call;
@@ -34,6 +34,9 @@ fn short_tally_or_result() {
         (Call::Add(9, 9), 2),
         (Call::Strike(0, 1), 2),
         (Call::Strike(0, 3), 2),
+        (Call::SetCap(3), 0),
+        (Call::SetCap(1), 0),
+        (Call::SetCap(25), 0),
         (Call::WaveOf(1), 1),
         (Call::WaveOf(9), 1),
         (Call::ClashesOf(1), 2),
@@ -62,9 +65,9 @@ fn short_tally_or_result() {
     ];
     for memory in [&whole, &too_many_banks, &no_plan, &no_room] {
         for (call, results) in &calls {
-            for tally in 0..=4 {
+            for tally in 0..=5 {
                 for result in 0..=3 {
-                    if tally < 3 || result < *results {
+                    if tally < 4 || result < *results {
                         refused(memory, &shelf, call, tally, result);
                     }
                 }
@@ -89,6 +92,7 @@ fn ranks_a_cell_short() {
             (Call::Open(n as u16), 0),
             (Call::Add(0, 0), 5),
             (Call::Strike(0, 0), 5),
+            (Call::SetCap(24), 0),
             (Call::WaveOf(0), 0),
             (Call::ClashesOf(0), 0),
             (Call::WaveBound, 0),

@@ -26,11 +26,13 @@ struct Run {
     kept: [Option<Kept>; 3],
 }
 
-/// What came up: accepted calls that changed the total, refused ones, returns, passes refused late.
+/// What came up: accepted calls that changed the total, refused ones, those refused for the cap,
+/// returns, passes refused late.
 #[derive(Debug, Default)]
 struct Seen {
     edits: usize,
     refused: usize,
+    capped: usize,
     returns: usize,
     late: usize,
     struck_by_d: usize,
@@ -154,6 +156,7 @@ impl Run {
         match (answer.number, edit) {
             (0, Edit::Add) => *total += 1,
             (0, Edit::Strike) => *total -= 1,
+            (20, _) => return seen.capped += 1,
             _ => return seen.refused += 1,
         }
         seen.edits += 1;
@@ -214,7 +217,7 @@ impl Run {
     fn step(&mut self, random: &mut Random, seen: &mut Seen) -> bool {
         let n = random.below(ROOM + 2) as u16;
         let place = random.below(3);
-        match random.below(24) {
+        match random.below(26) {
             0 => {
                 if self.pair.call(&Call::Open(n)).number == 0 {
                     self.count = Some((usize::from(n), 0));
@@ -230,7 +233,11 @@ impl Run {
             }
             5 | 6 => self.keep(place),
             7 | 8 => return self.come_back(place, seen),
-            9..=12 => {
+            9 | 10 => {
+                let cap = random.below(5) as u16;
+                self.pair.call(&Call::SetCap(cap));
+            }
+            11..=14 => {
                 let entry = any_edit(random);
                 let mut journal = journal_of::<Entry>(n, &[]);
                 let size = journal.len();
@@ -281,10 +288,12 @@ fn runs_with_a_total_beside_them() {
     let Seen {
         edits,
         refused,
+        capped,
         returns,
         late,
         struck_by_d,
     } = seen;
-    let least = edits.min(refused).min(returns).min(late).min(struck_by_d);
+    let counts = [edits, refused, capped, returns, late, struck_by_d];
+    let least = counts.into_iter().min().expect("six counts");
     assert!(quick() || least > 50, "{seen:?}");
 }

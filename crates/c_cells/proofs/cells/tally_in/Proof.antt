@@ -14,6 +14,9 @@ shared-slice-read-t5 c = search needs
 shared-slice-read-t7 : tie.Need-shared-slice-read-t7
 shared-slice-read-t7 c = search needs
 
+shared-slice-read-t9 : tie.Need-shared-slice-read-t9
+shared-slice-read-t9 c = search needs
+
 returns : tie.Need-returns
 unfolding tallyIn
 returns c = refl
@@ -25,4 +28,5 @@ tally-in-spec =
     shared-slice-read-t3
     shared-slice-read-t5
     shared-slice-read-t7
+    shared-slice-read-t9
     returns)

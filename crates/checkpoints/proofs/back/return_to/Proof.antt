@@ -42,7 +42,7 @@ list-moved-requires c κs =
     let at1 = p1 .before .before .before .before .before .before .before .before in
     let n = p1 .wide .result in
     let is-n = p1 .wide .ensures in
-    let l = long (at1 .args .banks) _ (at1 .pre .1) in
+    let l = long (at1 .args .tally .banks) _ (at1 .pre .1) in
     let part = length-lent (1 + n * 24) (1 + n * 24 + n) n (at1 .args .place .now) (omega arith) (omega (arith, at1 .pre .0 .1, is-n)) in
     (omega (arith, at1 .pre .0 .0), omega (arith, l .waves), omega (arith, part, is-n), omega (arith, at1 .pre .0 .2))
 
@@ -82,7 +82,7 @@ returns c =
     let at1 = p3 .before .before .before .before .before .before .before .before in
     let n = p3 .wide .result in
     let is-n = p3 .wide .ensures in
-    let banks = at1 .args .banks in
+    let banks = at1 .args .tally .banks in
     let cells = at1 .args .place .now in
     let s = slicesGiven (at1 .args .neighbours) (at1 .args .degrees) (at1 .args .waves) (at1 .args .counts) (at1 .args .ranks) in
     let waves = lent-waves banks cells s n (1 + n * 24) (1 + n * 24 + n) is-n (omega arith) (omega arith) in

@@ -109,12 +109,67 @@ put-cells-requires-7 c κs =
       ),
     )
 
+slice-aggregate-put-cells-3 : tie.Need-slice-aggregate-put-cells-3
+slice-aggregate-put-cells-3 c = search needs
+
+put-cells-requires-8 : tie.Need-put-cells-requires-8
+put-cells-requires-8 c κs =
+    let ranked = c .before .before .before .before in
+    let tallied = ranked .before .before .before .before in
+    let counts = tallied .before .before .before .before .before in
+    let waves = counts .before .before .before .before in
+    let degrees = waves .before .before .before .before in
+    let rows = degrees .before .before .before .before in
+    let used = rows .before .before .before .before in
+    let told = used .before .before .before in
+    let at1 = told .before .before .before .before .before .before .before in (
+      omega arith,
+      omega (
+        arith,
+        at1 .pre .0,
+        told .wide .ensures,
+        used .put-cells .ensures .next,
+        rows .put-cells2 .ensures .next,
+        degrees .put-cells3 .ensures .next,
+        waves .put-cells4 .ensures .next,
+        counts .put-cells5 .ensures .next,
+        tallied .put-cells6 .ensures .next,
+        ranked .put-cells7 .ensures .next,
+        used .put-cells .kept .0,
+        rows .put-cells2 .kept .0,
+        degrees .put-cells3 .kept .0,
+        waves .put-cells4 .kept .0,
+        counts .put-cells5 .kept .0,
+        tallied .put-cells6 .kept .0,
+        ranked .put-cells7 .kept .0,
+      ),
+    )
+
 same-length : tie.Need-same-length
-same-length c = search needs
+same-length c =
+    let ranked = c .before .before .before .before .before .before .before in
+    let tallied = ranked .before .before .before .before in
+    let counts = tallied .before .before .before .before .before in
+    let waves = counts .before .before .before .before in
+    let degrees = waves .before .before .before .before in
+    let rows = degrees .before .before .before .before in
+    let used = rows .before .before .before .before in
+    omega (
+      arith,
+      used .put-cells .kept .0,
+      rows .put-cells2 .kept .0,
+      degrees .put-cells3 .kept .0,
+      waves .put-cells4 .kept .0,
+      counts .put-cells5 .kept .0,
+      tallied .put-cells6 .kept .0,
+      ranked .put-cells7 .kept .0,
+      c .before .before .put-cells8 .kept .0,
+    )
 
 returns : tie.Need-returns
 returns c =
-    let tallied = c .before .before .before .before .before .before in
+    let ranked = c .before .before .before .before .before .before .before in
+    let tallied = ranked .before .before .before .before in
     let counts = tallied .before .before .before .before .before in
     let waves = counts .before .before .before .before in
     let degrees = waves .before .before .before .before in
@@ -126,10 +181,10 @@ returns c =
     let is-n = told .wide .ensures in
     let s = slicesGiven (at1 .args .neighbours) (at1 .args .degrees) (at1 .args .waves) (at1 .args .counts) (at1 .args .ranks) in
     let l = long (at1 .args .tally .banks) s (at1 .pre .1) in
-    plan-put s (at1 .args .tally) l (at1 .args .at) (at1 .args .shelf .now) (at1 .pre .0) (n * 23) n (n * 24) _ _ _ _ _ _ _ _ _ _ _ _ _ _
+    plan-put s (at1 .args .tally) l (at1 .args .at) (at1 .args .shelf .now) (at1 .pre .0) (n * 23) n (n * 24) _ _ _ _ _ _ _ _ _ _ _ _ _ _ _ _
     (omega (arith, is-n)) is-n (omega (arith, is-n)) (used .put-cells .ensures) (rows .put-cells2 .ensures)
     (degrees .put-cells3 .ensures) (waves .put-cells4 .ensures) (counts .put-cells5 .ensures) (tallied .put-cells6 .ensures)
-    (c .before .before .put-cells7 .ensures)
+    (ranked .put-cells7 .ensures) (c .before .before .put-cells8 .ensures)
 
 pub put-plan-spec : {M : Type 1} → statement M
 put-plan-spec =
@@ -147,5 +202,7 @@ put-plan-spec =
     slice-aggregate-put-cells-2
     put-cells-requires-6
     put-cells-requires-7
+    slice-aggregate-put-cells-3
+    put-cells-requires-8
     same-length
     returns)

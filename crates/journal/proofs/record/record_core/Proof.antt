@@ -2,12 +2,12 @@
 use borrow.Author.Needs.{needs}
 use native.Mathlib.Omega.{arith}
 use Rattle.journal_fields.proofs.Numbers.{space-room}
-use Rattle.journal.proofs.Recording.{record-refused, record-done}
+use Rattle.journal.proofs.Recording.{record-refused, record-late, record-room, record-done}
 use Rattle.journal.proofs.record.record_core.Statement.{statement}
 use Rattle.journal.proofs.record.record_core.Tie as tie
 
-check-edit-requires : tie.Need-check-edit-requires
-check-edit-requires c κs = search needs
+check-record-requires : tie.Need-check-record-requires
+check-record-requires c κs = search needs
 
 refuse-requires : tie.Need-refuse-requires
 refuse-requires c κs = search needs
@@ -35,16 +35,20 @@ same-length-7 c = search needs
 
 returns : tie.Need-returns
 returns c =
-    let test = c .before in
-    rw (c .refuse .ensures .0, c .refuse .ensures .1) (record-refused _ _ _ _ _ _ _ (test .before .check-edit .ensures) (λ z. omega (arith, test .if1 .taken)))
+    let n = c .before in
+    rw (c .refuse .ensures .0, c .refuse .ensures .1) (record-refused _ _ _ _ _ _ _ (n .before .check-record .ensures) (λ z. omega (arith, n .if1 .taken)))
 
-edit-held-requires : tie.Need-edit-held-requires
-edit-held-requires c κs = let test = c .before .before .before .before .before .before in (_, test .before .check-edit .ensures .ready (test .if1 .left))
+add-space-number : tie.Need-add-space-number
+add-space-number c = let n = c .before in omega (arith, n .before .check-record .ensures .few (n .if1 .left))
 
-record-entry-requires : tie.Need-record-entry-requires
-record-entry-requires c κs =
-    let test = c .before .before .before .before .before .before .before .before .before .before .before .before .before .before .before .before .before .before .before .before .before in
-    space-room _ _ (test .before .check-edit .ensures .space (test .if1 .left))
+space-number-requires : tie.Need-space-number-requires
+space-number-requires c κs = search needs
+
+edit-within-requires : tie.Need-edit-within-requires
+edit-within-requires c κs = let n = c .before .before .before .before .before .before .before .before in (_, n .before .check-record .ensures .ready (n .if1 .left))
+
+refuse-requires-2 : tie.Need-refuse-requires-2
+refuse-requires-2 c κs = search needs
 
 same-length-8 : tie.Need-same-length-8
 same-length-8 c = search needs
@@ -69,16 +73,66 @@ same-length-14 c = search needs
 
 returns-2 : tie.Need-returns-2
 returns-2 c =
+    let at1 = c .before .before .before .before .before .before .before .before .before .before in
+    let e = at1 .before .before .before .before .before in
+    let s = e .before .before .before .before .before .before .before in
+    let n = s .before .before in
+    let none = n .if1 .left in
+    let checked = n .before .check-record .ensures in
+    let made = e .edit-within .ensures _ (checked .ready none) in
+    rw (c .refuse2 .ensures .0)
+    (record-late _ _ _ _ _ _ _ checked none _ (s .space-number .ensures) made (c .before .if2 .taken) _ (c .refuse2 .ensures .1))
+
+record-entry-requires : tie.Need-record-entry-requires
+record-entry-requires c κs =
+    let at1 = c .before .before .before .before .before .before .before .before .before .before in
+    let e = at1 .before .before .before .before .before .before in
+    let s = e .before .before .before .before .before .before .before in
+    let n = s .before .before in
+    let none = n .if1 .left in
+    let checked = n .before .check-record .ensures in
+    let made = e .edit-within .ensures _ (checked .ready none) in
+    space-room _ _
+    (record-room _ _ _ _ _ _ _ checked none _ (s .space-number .ensures) made (c .before .before .if2 .left))
+
+same-length-15 : tie.Need-same-length-15
+same-length-15 c = search needs
+
+same-length-16 : tie.Need-same-length-16
+same-length-16 c = search needs
+
+same-length-17 : tie.Need-same-length-17
+same-length-17 c = search needs
+
+same-length-18 : tie.Need-same-length-18
+same-length-18 c = search needs
+
+same-length-19 : tie.Need-same-length-19
+same-length-19 c = search needs
+
+same-length-20 : tie.Need-same-length-20
+same-length-20 c = search needs
+
+same-length-21 : tie.Need-same-length-21
+same-length-21 c = search needs
+
+returns-3 : tie.Need-returns-3
+returns-3 c =
     let entry = c .before .before in
-    let edit = entry .before .before .before .before .before .before .before .before .before .before .before .before .before .before .before in
-    let test = edit .before .before .before .before .before .before .before in
-    record-done _ _ _ _ _ _ _ (test .before .check-edit .ensures) (test .if1 .left) _ _ (edit .edit-held .ensures) _ _ (entry .record-entry .ensures)
+    let e = entry .before .before .before .before .before .before .before .before .before .before .before .before .before .before .before .before .before in
+    let s = e .before .before .before .before .before .before .before in
+    let n = s .before .before in
+    let none = n .if1 .left in
+    let checked = n .before .check-record .ensures in
+    let made = e .edit-within .ensures _ (checked .ready none) in
+    record-done _ _ _ _ _ _ _ checked none _ (s .space-number .ensures) made (entry .before .before .before .if2 .left) _ _
+    (entry .record-entry .ensures)
 
 pub record-core-spec : {M : Type 1} → statement M
 record-core-spec =
     tie.close
     (tie.spec
-    check-edit-requires
+    check-record-requires
     refuse-requires
     same-length
     same-length-2
@@ -88,8 +142,10 @@ record-core-spec =
     same-length-6
     same-length-7
     returns
-    edit-held-requires
-    record-entry-requires
+    add-space-number
+    space-number-requires
+    edit-within-requires
+    refuse-requires-2
     same-length-8
     same-length-9
     same-length-10
@@ -97,4 +153,13 @@ record-core-spec =
     same-length-12
     same-length-13
     same-length-14
-    returns-2)
+    returns-2
+    record-entry-requires
+    same-length-15
+    same-length-16
+    same-length-17
+    same-length-18
+    same-length-19
+    same-length-20
+    same-length-21
+    returns-3)

@@ -1,4 +1,4 @@
--- `tally_in`: the last three cells.
+-- `tally_in`: its three cells before the ranks, and its cap after them.
 use borrow.Author.Needs.{needs}
 use native.Mathlib.Omega.{arith}
 use Rattle.shelf.proofs.Places.{tally-from}
@@ -17,32 +17,44 @@ mul-at c = search needs
 add-at-3 : tie.Need-add-at-3
 add-at-3 c = search needs
 
-mul-t4 : tie.Need-mul-t4
-mul-t4 c = search needs
+add-cap-at : tie.Need-add-cap-at
+add-cap-at c = search needs
 
-shared-slice-read-t8 : tie.Need-shared-slice-read-t8
-shared-slice-read-t8 c = search needs
+add-cap-at-2 : tie.Need-add-cap-at-2
+add-cap-at-2 c = search needs
 
-add-t6 : tie.Need-add-t6
-add-t6 c = search needs
+mul-t7 : tie.Need-mul-t7
+mul-t7 c = search needs
 
-mul-t5 : tie.Need-mul-t5
-mul-t5 c = search needs
+shared-slice-read-t9 : tie.Need-shared-slice-read-t9
+shared-slice-read-t9 c = search needs
 
-shared-slice-read-t10 : tie.Need-shared-slice-read-t10
-shared-slice-read-t10 c = search needs
+add-t5 : tie.Need-add-t5
+add-t5 c = search needs
 
-add-t11 : tie.Need-add-t11
-add-t11 c = search needs
+mul-t6 : tie.Need-mul-t6
+mul-t6 c = search needs
 
-mul-t12 : tie.Need-mul-t12
-mul-t12 c = search needs
+shared-slice-read-t11 : tie.Need-shared-slice-read-t11
+shared-slice-read-t11 c = search needs
 
-shared-slice-read-t14 : tie.Need-shared-slice-read-t14
-shared-slice-read-t14 c = search needs
+add-t12 : tie.Need-add-t12
+add-t12 c = search needs
+
+mul-t13 : tie.Need-mul-t13
+mul-t13 c = search needs
+
+shared-slice-read-t15 : tie.Need-shared-slice-read-t15
+shared-slice-read-t15 c = search needs
+
+mul-t16 : tie.Need-mul-t16
+mul-t16 c = search needs
+
+shared-slice-read-t18 : tie.Need-shared-slice-read-t18
+shared-slice-read-t18 c = search needs
 
 returns : tie.Need-returns
-returns c = let at1 = c .before .before .before in tally-from (at1 .args .n) _ (at1 .args .place .now) (omega arith)
+returns c = let at1 = c .before .before .before .before in tally-from (at1 .args .n) _ _ (at1 .args .place .now) (omega arith) (omega arith)
 
 pub tally-in-spec : {M : Type 1} → statement M
 tally-in-spec =
@@ -52,12 +64,16 @@ tally-in-spec =
     add-at-2
     mul-at
     add-at-3
-    mul-t4
-    shared-slice-read-t8
-    add-t6
-    mul-t5
-    shared-slice-read-t10
-    add-t11
-    mul-t12
-    shared-slice-read-t14
+    add-cap-at
+    add-cap-at-2
+    mul-t7
+    shared-slice-read-t9
+    add-t5
+    mul-t6
+    shared-slice-read-t11
+    add-t12
+    mul-t13
+    shared-slice-read-t15
+    mul-t16
+    shared-slice-read-t18
     returns)
