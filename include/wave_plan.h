@@ -72,14 +72,17 @@ extern "C" {
 #define WAVE_PLAN_MOST_POSTER_BYTES 8200
 
 /* A journal is a row of fields: a one-byte tag, a two-byte length and the value, low byte first. The first field has the bank count
- * as its value, two bytes; each other one four bytes: an edit's two banks in the order given, or a bank and its rank (a K field).
- * K fields come before the first edit; of several for one bank the last counts. */
+ * as its value, two bytes. Each other one is an entry of eight bytes: its edit number, four bytes, counted from 1 over all entries; then
+ * an edit's two banks in the order given, or a bank and its rank (a K field). Entries of four bytes, without the number, are taken too:
+ * the length of a journal's first entry holds for all of it. The calls write entries of eight bytes, but for edits that are recorded in
+ * a journal of entries of four. K fields come before the first edit; of several for one bank the last counts. */
 #define WAVE_PLAN_FIRST_TAG 0x4E
 #define WAVE_PLAN_ADD_TAG 0x2B
 #define WAVE_PLAN_STRIKE_TAG 0x2D
 #define WAVE_PLAN_RANK_TAG 0x4B
 #define WAVE_PLAN_FIRST_BYTES 5
-#define WAVE_PLAN_ENTRY_BYTES 7
+#define WAVE_PLAN_ENTRY_BYTES 11
+#define WAVE_PLAN_PLAIN_ENTRY_BYTES 7
 
 /* A shelf keeps up to three plans of n banks, n being the bank count of the present plan. It is one slice of 16-bit cells: three
  * places, in the order of the names below. A place is a used cell, 0 or 1; then the cells of the plan, neighbours, degrees, waves and
@@ -103,9 +106,9 @@ extern "C" {
  *   read_list                     9, 10, 1, 2; then each row in turn: 11, 18, 4, 5, 6 or 7, 8
  *   write_sheet, write_poster     1, 2, 3, 12
  *   start_journal                 1, 2, 3, 15
- *   add_recorded                  9, 13, 1, 2, 3; each field so far in turn: 14, 18; then 4, 5, 6, 8, 20, 15
- *   strike_recorded               9, 13, 1, 2, 3; each field so far in turn: 14, 18; then 4, 5, 7, 20, 15
- *   replay                        9, 13, 1, 2; then each field in turn: 14, 18, 4, 5, 6 or 7, 8
+ *   add_recorded                  9, 13, 1, 2, 3; each field so far in turn: 14, 21, 18; then 4, 5, 6, 8, 20, 15
+ *   strike_recorded               9, 13, 1, 2, 3; each field so far in turn: 14, 21, 18; then 4, 5, 7, 20, 15
+ *   replay                        9, 13, 1, 2; then each field in turn: 14, 21, 18, 4, 5, 6 or 7, 8
  *   keep                          1, 2, 3, 16
  *   come_back                     1, 2, 3, 16, 17
  */
@@ -130,6 +133,7 @@ extern "C" {
 #define WAVE_PLAN_LATE_RANK 18       /* (list, journal, each K row or K field in turn) Does it come before the first edit? */
 #define WAVE_PLAN_CAP_OUT_OF_SPAN 19 /* (set the cap) Is the cap from 1 to 24? */
 #define WAVE_PLAN_CAP_PASSED 20      /* Is the cap not below the waves: (set the cap) those in use, (edit) those that it would need? */
+#define WAVE_PLAN_WRONG_NUMBER 21    /* (journal, each entry with a number in turn) Is it one above the last, the first being 1? */
 
 /* Opens a plan of `banks` banks with no clash, all waves and ranks 0, the cap 24. */
 uint16_t wave_plan_open(uint16_t *neighbours, size_t neighbours_cells, uint16_t *degrees, size_t degrees_cells,

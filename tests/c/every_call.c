@@ -468,16 +468,27 @@ static void of_write_poster(void) {
 
 enum { FIRST = WAVE_PLAN_FIRST_BYTES, ENTRY = WAVE_PLAN_ENTRY_BYTES, ALL = FIRST + 4 * ENTRY };
 
+/* An entry: tag, length, edit number, and two numbers. And one of length 4. */
+#define FIELD(tag, number, a, low, high) tag, 8, 0, number, 0, 0, 0, a, 0, low, high
+#define PLAIN_FIELD(tag, a, b) tag, 4, 0, a, 0, b, 0
+
 /* The journal of the four banks, lowest pair first, and the first byte of a further add. */
-static const uint8_t journal[ALL + 1] = {
-    WAVE_PLAN_FIRST_TAG, 2, 0, 4, 0,        WAVE_PLAN_ADD_TAG, 4, 0, 0, 0, 1, 0, WAVE_PLAN_ADD_TAG, 4, 0, 0, 0, 3, 0,
-    WAVE_PLAN_ADD_TAG,   4, 0, 1, 0, 2, 0,  WAVE_PLAN_ADD_TAG, 4, 0, 2, 0, 3, 0, WAVE_PLAN_ADD_TAG};
+static const uint8_t journal[ALL + 1] = {WAVE_PLAN_FIRST_TAG, 2, 0, 4, 0,
+                                         FIELD(WAVE_PLAN_ADD_TAG, 1, 0, 1, 0), FIELD(WAVE_PLAN_ADD_TAG, 2, 0, 3, 0),
+                                         FIELD(WAVE_PLAN_ADD_TAG, 3, 1, 2, 0), FIELD(WAVE_PLAN_ADD_TAG, 4, 2, 3, 0),
+                                         WAVE_PLAN_ADD_TAG};
+
+/* The same in fields of length 4. */
+enum { PLAIN_ENTRY = WAVE_PLAN_PLAIN_ENTRY_BYTES, PLAIN_ALL = FIRST + 4 * PLAIN_ENTRY };
+static const uint8_t plain[PLAIN_ALL + ENTRY] = {WAVE_PLAN_FIRST_TAG, 2, 0, 4, 0,
+                                                 PLAIN_FIELD(WAVE_PLAN_ADD_TAG, 0, 1), PLAIN_FIELD(WAVE_PLAN_ADD_TAG, 0, 3),
+                                                 PLAIN_FIELD(WAVE_PLAN_ADD_TAG, 1, 2), PLAIN_FIELD(WAVE_PLAN_ADD_TAG, 2, 3)};
 
 /* A journal with the ranks of banks 0 and 3 and one add. */
 enum { RANKED = FIRST + 3 * ENTRY };
-static const uint8_t ranked[RANKED] = {
-    WAVE_PLAN_FIRST_TAG, 2, 0, 4, 0,         WAVE_PLAN_RANK_TAG, 4, 0, 0, 0, 2, 1,
-    WAVE_PLAN_RANK_TAG,  4, 0, 3, 0, 15, 39, WAVE_PLAN_ADD_TAG,  4, 0, 1, 0, 2, 0};
+static const uint8_t ranked[RANKED] = {WAVE_PLAN_FIRST_TAG, 2, 0, 4, 0,
+                                       FIELD(WAVE_PLAN_RANK_TAG, 1, 0, 2, 1), FIELD(WAVE_PLAN_RANK_TAG, 2, 3, 15, 39),
+                                       FIELD(WAVE_PLAN_ADD_TAG, 3, 1, 2, 0)};
 
 static uint8_t *copy(size_t length) {
     uint8_t *bytes = calloc(length, 1);
@@ -537,7 +548,10 @@ static void refused_records(Recorded *call, uint16_t a, uint16_t b) {
     bytes[FIRST + ENTRY] = WAVE_PLAN_RANK_TAG; /* after an add; the rank is 3 */
     GIVES(18, RECORD(a, b, size, ALL));
     GIVES(18, RECORD(a, 4, size, ALL));
-    bytes[FIRST + 2 * ENTRY - 1] = 255; /* the rank is above 9,999 */
+    bytes[FIRST + ENTRY + 3]++; /* and the number is 3 */
+    GIVES(21, RECORD(a, b, size, ALL));
+    GIVES(21, RECORD(a, 4, size, ALL));
+    bytes[FIRST + 2 * ENTRY - 1] = 255; /* and the rank is above 9,999 */
     GIVES(14, RECORD(a, b, size, ALL));
     bytes[FIRST + 2 * ENTRY - 1] = 0;
     bytes[FIRST] = 'x';
@@ -550,8 +564,23 @@ static void refused_records(Recorded *call, uint16_t a, uint16_t b) {
 
 /* The field after the last one: its tag and its banks. */
 static void entry(const uint8_t *bytes, uint8_t tag, uint8_t a, uint8_t b) {
-    const uint8_t wanted[ENTRY] = {tag, 4, 0, a, 0, b, 0};
+    const uint8_t wanted[ENTRY] = {FIELD(tag, 5, a, b, 0)};
     IS(memcmp(bytes + ALL, wanted, ENTRY), 0);
+}
+
+/* The same after fields of length 4, with one byte less space and with just enough. */
+static void plain_entry(Recorded *call, uint8_t tag, uint8_t a, uint8_t b) {
+    Plan p = four_banks(WAVE_PLAN_RECORD_RESULTS);
+    size_t size = PLAIN_ALL + PLAIN_ENTRY;
+    uint8_t bytes[PLAIN_ALL + ENTRY];
+    const uint8_t wanted[PLAIN_ENTRY] = {PLAIN_FIELD(tag, a, b)};
+    memcpy(bytes, plain, sizeof plain);
+    GIVES(15, RECORD(a, b, size - 1, PLAIN_ALL));
+    GIVES(0, RECORD(a, b, size, PLAIN_ALL));
+    IS(p.result[2], size);
+    IS(memcmp(bytes + PLAIN_ALL, wanted, PLAIN_ENTRY), 0);
+    IS(bytes[size], 0);
+    gone(p);
 }
 
 static void of_add_recorded(void) {
@@ -577,6 +606,7 @@ static void of_add_recorded(void) {
     IS(p.result[1], 4);
     IS(p.result[2], size);
     entry(bytes, WAVE_PLAN_ADD_TAG, 2, 0);
+    plain_entry(call, WAVE_PLAN_ADD_TAG, 2, 0);
     gone(p);
     free(bytes);
 }
@@ -593,6 +623,7 @@ static void of_strike_recorded(void) {
     IS(p.result[1], 4);
     IS(p.result[2], size);
     entry(bytes, WAVE_PLAN_STRIKE_TAG, 3, 0);
+    plain_entry(call, WAVE_PLAN_STRIKE_TAG, 3, 0);
     gone(p);
     p = six_banks(WAVE_PLAN_RECORD_RESULTS); /* in the journal that stands there, of four banks */
     GIVES(0, SET_CAP(2));
@@ -631,7 +662,29 @@ static void of_replay(void) {
     IS(p.tally[1], 3);
     GIVES(13, REPLAY(journal, FIRST - 1));
     IS(p.result[0], 1);
+    GIVES(0, REPLAY(plain, PLAIN_ALL - 1));
+    IS(p.result[0], 0);
+    IS(p.result[1], PLAIN_ENTRY - 1);
+    IS(p.tally[1], 3);
+    GIVES(0, REPLAY(plain, PLAIN_ALL));
+    IS(p.result[1], 0);
+    IS(p.tally[1], 4);
     uint8_t *bytes = copy(ALL);
+    bytes[FIRST + 3] = 0;
+    GIVES(21, REPLAY(bytes, ALL));
+    IS(p.result[0], 2);
+    IS(p.tally[1], 0);
+    bytes[FIRST + 3] = 1;
+    bytes[FIRST + ENTRY + 6] = 1; /* 16,777,218 */
+    GIVES(21, REPLAY(bytes, ALL));
+    IS(p.result[0], 3);
+    IS(p.tally[1], 1);
+    bytes[FIRST + ENTRY + 1] = 4; /* another length than the first's, its value there or not */
+    GIVES(14, REPLAY(bytes, ALL));
+    IS(p.result[0], 3);
+    GIVES(14, REPLAY(bytes, FIRST + ENTRY + 3));
+    bytes[FIRST + ENTRY + 1] = 8;
+    bytes[FIRST + ENTRY + 6] = 0;
     bytes[FIRST + 2 * ENTRY] = WAVE_PLAN_FIRST_TAG;
     GIVES(14, REPLAY(bytes, ALL));
     IS(p.result[0], 4);
@@ -651,19 +704,19 @@ static void of_replay(void) {
     const uint16_t ranks[] = {258, 0, 0, WAVE_PLAN_MOST_RANK};
     for (int b = 0; b < 4; b++) IS(p.ranks[b], ranks[b]);
     IS(p.tally[1], 1);
-    bytes[FIRST + ENTRY + 3] = 4; /* there is no bank 4 */
+    bytes[FIRST + ENTRY + 7] = 4; /* there is no bank 4 */
     GIVES(4, REPLAY(bytes, RANKED));
     IS(p.result[0], 3);
     IS(p.ranks[0] + p.ranks[3], 258); /* the fields before the one refused */
-    bytes[FIRST + ENTRY + 5]++; /* 10,000 */
+    bytes[FIRST + ENTRY + 9]++; /* 10,000 */
     GIVES(14, REPLAY(bytes, RANKED));
     IS(p.result[0], 3);
-    bytes[FIRST + ENTRY + 5]--;
+    bytes[FIRST + ENTRY + 9]--;
     bytes[FIRST] = WAVE_PLAN_ADD_TAG; /* an add of banks 0 and 258 */
     GIVES(4, REPLAY(bytes, RANKED));
     IS(p.result[0], 2);
-    bytes[FIRST + 5] = 1;
-    bytes[FIRST + 6] = 0; /* now of banks 0 and 1 */
+    bytes[FIRST + 9] = 1;
+    bytes[FIRST + 10] = 0; /* now of banks 0 and 1 */
     GIVES(18, REPLAY(bytes, RANKED));
     IS(p.result[0], 3);
     IS(p.tally[1], 1);

@@ -1,7 +1,7 @@
--- The clashes of a plan as adds, bank by bank, and their bytes.
-use mathlib.Core.List.{List, [], _∷_, _++_, map, append-nil, map-append}
-use mathlib.Core.Path.{_≡_, refl, sym, ap, _∙_}
-use Prim.Native.Nat.{ℕ, zero, suc, _+_, _-_, _≤_, _<_}
+-- The clashes of a plan as adds, bank by bank.
+use mathlib.Core.List.{List, [], _∷_, _++_, map, map-append}
+use mathlib.Core.Path.{_≡_, refl, sym, ap, _∙_, subst}
+use Prim.Native.Nat.{ℕ, zero, suc, _+_, _≤_, _<_}
 use native.Mathlib.Numerals.{add-one}
 use native.Mathlib.Omega.{arith}
 use lib.Dec.{ltb}
@@ -17,11 +17,13 @@ use Rattle.memory.specs.declared.Tally.{Tally}
 use Rattle.memory.specs.Plan.{Slices, PlanOf}
 use Rattle.memory.proofs.Views.{tally-banks}
 use Rattle.memory.proofs.Theorems.{held-of}
-use Rattle.journal_fields.specs.Fields.{entryBytes, entriesBytes, rankFits}
+use Rattle.journal_fields.specs.Fields.{rankFits}
 use Rattle.journal_fields.specs.Bounds.{RanksFit}
-use Rattle.journal_fields.proofs.Entries.{entries-append, fit-append}
+use Rattle.journal_fields.proofs.Entries.{fit-append}
 use Rattle.journal.specs.Calls.{entryFor, addsOf, addsBelow}
-use Rattle.journal.proofs.Growing.{grow-empty, grow-bytes, grow-room, grow-count}
+use Rattle.journal.specs.inner.Adds.{PutsEntries, Fit}
+use Rattle.journal.proofs.Writing.{entries-then, fit-fewer, fit-after}
+use Rattle.journal.proofs.Growing.{grow-room, grow-count, grow-fit, grow-put}
 
 -- one bank after others
 pub adds-append : (a : ℕ) (xs ys : List ℕ) → addsOf a (xs ++ ys) ≡ addsOf a xs ++ addsOf a ys
@@ -45,36 +47,31 @@ pub adds-none : (a : ℕ) → addsOf a [] ≡ []
 unfolding addsOf filter
 adds-none a = refl
 
--- the bytes of the adds of one bank
-pub bytes-smaller : (a b : ℕ) → b ≤ a → entriesBytes (addsOf a (b ∷ [])) ≡ []
-unfolding entriesBytes
-bytes-smaller a b h = ap entriesBytes (adds-smaller a b h)
-
-pub bytes-larger : (a b : ℕ) → a < b → entriesBytes (addsOf a (b ∷ [])) ≡ entryBytes (entryFor Adding a b)
-unfolding entriesBytes
-bytes-larger a b h = ap entriesBytes (adds-larger a b h) ∙ append-nil (entryBytes (entryFor Adding a b))
-
-pub bytes-none : (a : ℕ) → entriesBytes (addsOf a []) ≡ []
-unfolding entriesBytes
-bytes-none a = ap entriesBytes (adds-none a)
-
 module _ (a : ℕ) (row : List ℕ) (i : ℕ) (h : i < length row) where
-  pub bytes-next : entriesBytes (addsOf a (take (i + 1) row)) ≡ entriesBytes (addsOf a (take i row)) ++ entriesBytes (addsOf a (getD row i 0 ∷ []))
-  bytes-next = ap entriesBytes (adds-next a row i h) ∙ entries-append (addsOf a (take i row)) (addsOf a (getD row i 0 ∷ []))
-
-  pub bytes-room : length (entriesBytes (addsOf a (take i row))) + length (entriesBytes (addsOf a (getD row i 0 ∷ []))) ≤ length (entriesBytes (addsOf a row))
-  bytes-room =
+  adds-room : length (addsOf a (take i row)) + length (addsOf a (getD row i 0 ∷ [])) ≤ length (addsOf a row)
+  adds-room =
       let front : List ℕ = take (i + 1) row in
       let back : List ℕ = drop (i + 1) row in
-      let all = ap (λ (l : List ℕ). entriesBytes (addsOf a l)) (sym (take-append-drop (i + 1) row)) in
-      let cut = ap entriesBytes (adds-append a front back) ∙ entries-append (addsOf a front) (addsOf a back) in
       omega (
         arith,
-        ap length (all ∙ cut),
-        length-append (entriesBytes (addsOf a front)) (entriesBytes (addsOf a back)),
-        ap length bytes-next,
-        length-append (entriesBytes (addsOf a (take i row))) (entriesBytes (addsOf a (getD row i 0 ∷ []))),
+        ap (λ (l : List ℕ). length (addsOf a l)) (sym (take-append-drop (i + 1) row)),
+        ap length (adds-append a front back),
+        length-append (addsOf a front) (addsOf a back),
+        ap length (adds-next a row i h),
+        length-append (addsOf a (take i row)) (addsOf a (getD row i 0 ∷ [])),
       )
+
+  -- one more is written
+  module _ (k : ℕ) (out : List ℕ) (fit : Fit (addsOf a row) k out) (r₁ : ℕ) (out₁ : List ℕ) (p : PutsEntries (addsOf a (take i row)) k out r₁ out₁) where
+    pub adds-fit-next : length out₁ ≡ length out → Fit (addsOf a (getD row i 0 ∷ [])) r₁ out₁
+    adds-fit-next l = fit-after (addsOf a (take i row)) (addsOf a (getD row i 0 ∷ [])) (addsOf a row) k r₁ out out₁ adds-room fit p l
+
+    pub adds-put : (r₂ : ℕ) (out₂ : List ℕ) → PutsEntries (addsOf a (getD row i 0 ∷ [])) r₁ out₁ r₂ out₂ → PutsEntries (addsOf a (take (i + 1) row)) k out r₂ out₂
+    adds-put r₂ out₂ q =
+        let front : List Entry = addsOf a (take i row) in
+        let one : List Entry = addsOf a (getD row i 0 ∷ []) in
+        let fewer = fit-fewer (front ++ one) (addsOf a row) k out (omega (arith, length-append front one, adds-room)) fit in
+        subst (λ (l : List Entry). PutsEntries l k out r₂ out₂) (sym (adds-next a row i h)) (entries-then front one k out fewer r₁ r₂ out₁ out₂ p q)
 
 -- of all banks below k
 module _ (G : Graph) where
@@ -89,17 +86,11 @@ module _ (G : Graph) where
   unfolding addsBelow
   below-step a = refl
 
-  pub below-empty : entriesBytes (addsBelow G 0) ≡ []
-  below-empty = grow-empty (addsBelow G) of below-none below-step
-
-  pub below-bytes : (a : ℕ) → entriesBytes (addsBelow G (a + 1)) ≡ entriesBytes (addsBelow G a) ++ entriesBytes (of a)
-  below-bytes = grow-bytes (addsBelow G) of below-none below-step
-
-  pub below-room : (a n : ℕ) → a < n → length (entriesBytes (addsBelow G a)) + length (entriesBytes (of a)) ≤ length (entriesBytes (addsBelow G n))
-  below-room = grow-room (addsBelow G) of below-none below-step
+  pub below-room : (a n : ℕ) → a < n → length (addsBelow G a) + length (of a) ≤ length (addsBelow G n)
+  below-room = grow-room (addsBelow G) of below-step
 
   pub below-count : (a : ℕ) → length (addsBelow G (a + 1)) ≡ length (addsBelow G a) + length (of a)
-  below-count = grow-count (addsBelow G) of below-none below-step
+  below-count = grow-count (addsBelow G) of below-step
 
   -- they set no rank
   rows-fit : (a : ℕ) (bs : List ℕ) → RanksFit (map (entryFor Adding a) bs)
@@ -124,10 +115,18 @@ module _ (G : Graph) (s : Slices) (t : Tally) (p : PlanOf G s t) where
   pub plan-ranks : t .banks ≤ length (s .ranks)
   plan-ranks = omega (arith, plan-banks, held-of G s t p .ranked .wide)
 
-  -- a row that names the clashes of a has room for its adds
-  pub row-room : (a : ℕ) → a < t .banks → (row : List ℕ) → row ≡ neighbours G a
-      → length (entriesBytes (addsBelow G a)) + length (entriesBytes (addsOf a row)) ≤ length (entriesBytes (addsBelow G (G .banks)))
-  row-room a h row e = rw e (below-room G a (G .banks) (omega (arith, plan-banks)))
+  -- a row that names the clashes of a: room for its adds, and all of them written
+  module _ (a : ℕ) (h : a < t .banks) (row : List ℕ) (e : row ≡ neighbours G a) (k : ℕ) (out : List ℕ) (fit : Fit (addsBelow G (G .banks)) k out)
+      (r₁ : ℕ) (out₁ : List ℕ) (w : PutsEntries (addsBelow G a) k out r₁ out₁) where
+    below : a < G .banks
+    below = omega (arith, plan-banks)
+
+    pub row-fit : length out₁ ≡ length out → Fit (addsOf a row) r₁ out₁
+    row-fit l = rw e (grow-fit (addsBelow G) (of G) (below-step G) a (G .banks) k below out fit r₁ out₁ w l)
+
+    pub row-put : (r₂ : ℕ) (out₂ : List ℕ) → PutsEntries (addsOf a row) r₁ out₁ r₂ out₂ → PutsEntries (addsBelow G (a + 1)) k out r₂ out₂
+    row-put r₂ out₂ q =
+        grow-put (addsBelow G) (of G) (below-step G) a (G .banks) k below out fit r₁ out₁ w r₂ out₂ (subst (λ (l : List ℕ). PutsEntries (addsOf a l) r₁ out₁ r₂ out₂) e q)
 
   pub row-few : (a : ℕ) → a < t .banks → length (neighbours G a) ≤ 23
   unfolding degree

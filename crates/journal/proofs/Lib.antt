@@ -1,4 +1,5 @@
 -- Theorems: what to cite. The others: its proofs, and laws for the functions' proofs.
+pub mod Writing
 pub mod Growing
 pub mod Ranks
 pub mod Adds
@@ -10,4 +11,5 @@ pub mod AddsInTurn
 pub mod Presents
 pub mod NewJournals
 pub mod RecordedEdits
+pub mod Numbers
 pub mod Theorems

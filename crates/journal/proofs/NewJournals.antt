@@ -57,7 +57,7 @@ module _ (G : Graph) (c : Clashes G) where
       rw (after-append ranks (addsBelow G n) (empty n))
       (adds-same G c ranked (sets-banks (G .rank) n) (sets-clash (G .rank) n) (sets-rank (G .rank) n) of)
 
-  start-fit : RanksFit (startEntries G)
+  pub start-fit : RanksFit (startEntries G)
   unfolding startEntries
   start-fit = fit-append ranks (addsBelow G n) (ranks-fit (G .rank) n (c .ranks)) (adds-fit G n)
 
@@ -65,7 +65,7 @@ module _ (G : Graph) (c : Clashes G) where
   pub start-ends : (m : Memory) → allLong n m ≡ true → length (startBytes G) ≤ 60000 → Ends (m .slices) G 0 (replayed (startBytes G) m)
   unfolding startBytes
   start-ends m room h =
-      ends-same start-same (reads-ends m (journal-reads n (startEntries G) start-fit h) (begin-fine n m (c .most) room) start-none)
+      ends-same start-same (reads-ends m (journal-reads true n (startEntries G) start-fit h) (begin-fine n m (c .most) room) start-none)
 
 -- the call that starts a journal, not refused, puts its bytes at the front
 module _ (s : Slices) (t : Tally) (journal : List ℕ) where
@@ -89,6 +89,11 @@ module _ (s : Slices) (t : Tally) (journal : List ℕ) where
       → take (started s t journal .answer .length) (started s t journal .journal) ≡ startBytes G
   unfolding started
   started-bytes z = by-started (startNumber s t journal) (startBytes G) z .1
+
+  -- their entries have ranks that fit
+  pub started-fit : started s t journal .answer .number ≡ 0 → RanksFit (startEntries G)
+  unfolding started
+  started-fit z = start-fit G (start-passed (by-started (startNumber s t journal) (startBytes G) z .0) .0 .clashes)
 
   pub started-replays : started s t journal .answer .number ≡ 0 → (m : Memory) → allLong (t .banks) m ≡ true
       → ReplaysTo (take (started s t journal .answer .length) (started s t journal .journal)) m s t

@@ -1,19 +1,16 @@
 -- A journal that replays to the present plan does so after an edit that is recorded.
-use mathlib.Core.Bool.{Bool, true, false, _&&_, _||_, not}
-use mathlib.Core.List.{List, [], _∷_, _++_, append-nil}
+use mathlib.Core.Bool.{true, false}
+use mathlib.Core.List.{List, [], _∷_, _++_}
 use mathlib.Core.Path.{_≡_, refl, sym, ap, _∙_, subst}
 use Prim.Native.Nat.{ℕ, zero, suc, _+_, _*_, _≤_, _<_}
 use native.Mathlib.Omega.{arith}
-use lib.Dec.{eqb}
 use lib.ListN.{length, getD, take, drop, length-append, length-drop, take-append-drop, List·getD-append}
 use lib.Seq.{getD-take, take-at, take-append-add, take-append-le, drop-append-le, length-take-le}
-use borrow.Author.Tests.{eqb-true, not-true}
 use Rattle.rule.specs.Lists.{memb}
 use Rattle.rule.specs.Graph.{Graph, empty, Same}
 use Rattle.rule.specs.Reach.{edited}
 use Rattle.rule.specs.declared.Kind.{Kind}
 use Rattle.rule.specs.declared.Entry.{Entry}
-use Rattle.rule.proofs.Booleans.{both-true}
 use Rattle.memory.specs.declared.Tally.{Tally}
 use Rattle.memory.specs.Plan.{Slices, longEnough, graphIn, PlanOf}
 use Rattle.memory.specs.PlanCells.{PlanCells, planCells}
@@ -24,7 +21,6 @@ use Rattle.planner.specs.Calls.{editResult, memoryNumber, editNumber, accepted,
 use Rattle.planner.specs.States.{begin, beginNumber}
 use Rattle.planner.specs.inner.Held.{ReadyIn}
 use Rattle.planner.proofs.Numbers.{memory-passed, number-ready}
-use Rattle.planner.proofs.Outcomes.{acceptable}
 use Rattle.planner.proofs.After.{plan-in, after-plan}
 use Rattle.edit_calls.specs.Calls.{cappedNumber, cappedOf, checkedBy, edit, withCap}
 use Rattle.edit_calls.proofs.Calls.{recapped}
@@ -32,19 +28,19 @@ use Rattle.edit_calls.proofs.EditCalls.{number-agree, edited-same}
 use Rattle.edit_calls.proofs.Theorems.{capped-due}
 use Rattle.planner.proofs.Made.{begin-passed}
 use Rattle.text.specs.Places.{put}
-use Rattle.journal_fields.specs.Fields.{firstSize, entrySize, entryBytes, entriesBytes, hasFirst, banksIn, rankFits, Fields, fields, areWhole}
+use Rattle.journal_fields.specs.Fields.{firstSize, entrySize, entryBytes, hasFirst, banksIn, numbered, rankFits, Fields, fields}
 use Rattle.journal_fields.specs.Numbers.{spaceNumber, headNumber, fieldsNumber}
 use Rattle.journal_fields.specs.Bounds.{RanksFit}
-use Rattle.journal.specs.Calls.{entryFor, clashesIn, recordNumber, RecordResult, recordedAs, recordedBy, recorded}
+use Rattle.journal.specs.Calls.{entryFor, clashesIn, laterIn, nextSize, nextBytes, nextSpace, recordNumber, RecordResult, recordedAs, recordedBy, recorded}
 use Rattle.journal_replay.specs.Replay.{ReplayResult, replayAnswer, replayed}
 use Rattle.journal_fields.proofs.Numbers.{first-zero, space-room, size-inside, size-first}
-use Rattle.journal_fields.proofs.Entries.{length-entry, whole, following, fields-written}
-use Rattle.journal_fields.proofs.Bytes.{first-long, first-same, fields-more, fields-fit}
-use Rattle.journal_fields.proofs.Later.{later-passed}
+use Rattle.journal_fields.proofs.Entries.{length-entry, whole}
+use Rattle.journal_fields.proofs.Bytes.{first-long, first-same, fields-next, fields-fit}
 use Rattle.journal_replay.proofs.Replaying.{replayFrom, Reads, replay-is}
 use Rattle.journal_replay.specs.Ends.{afterEntry, afterEntries}
 use Rattle.journal.specs.Present.{ReplaysTo, editAnswer}
 use Rattle.journal.proofs.Turns.{no-clashes, dueNumber, NoneRefused, begunAfter, after-banks, after-clashes, after-append, none-append, Ends, enter-passed}
+use Rattle.journal.proofs.Recording.{fields-whole}
 use Rattle.journal.proofs.Presents.{reads-ends, ends-same, ends-replay}
 
 -- equal plan cells have equal rows and ranks
@@ -83,36 +79,29 @@ plans-same H G s s′ t p q e =
       rank = λ x hx. sym (cells-give s t H p .rank x (omega arith)) ∙ same-ranks (t .banks) s s′ e x (omega arith) ∙ cells-give s′ t G q .rank x hx;
     }
 
--- whole fields are those of entries
-are-whole : (f : Fields) → areWhole f ≡ true → f ≡ whole (f .entries)
-unfolding areWhole
-are-whole f e =
-    let p = both-true (not (f .wrong)) (eqb (f .leftOver) 0) e in
-    let w = not-true (f .wrong) (p .0) in
-    let l = eqb-true (f .leftOver) 0 (p .1) in
-    λ i. record { entries = f .entries; wrong = w i; leftOver = l i }
-
 -- a journal of whole fields, and one entry more
 module _ {bytes : List ℕ} {n : ℕ} {es : List Entry} (r : Reads bytes n (whole es)) (e : Entry) (fit : rankFits e ≡ true)
-    (space : length bytes + entrySize ≤ 60000) where
+    (space : length bytes + entrySize (numbered (drop firstSize bytes)) ≤ 60000) where
+  abbrev later : List ℕ
+  later = drop firstSize bytes
+
+  abbrev field : List ℕ
+  field = entryBytes (numbered later) (suc (length es)) e
+
   has-first : firstSize ≤ length bytes
   has-first = first-long bytes (r .first)
 
-  same-first : (hasFirst (bytes ++ entryBytes e) ≡ hasFirst bytes) × (banksIn (bytes ++ entryBytes e) ≡ banksIn bytes)
+  same-first : (hasFirst (bytes ++ field) ≡ hasFirst bytes) × (banksIn (bytes ++ field) ≡ banksIn bytes)
   same-first =
-      first-same (bytes ++ entryBytes e) bytes (omega (arith, length-append bytes (entryBytes e), has-first)) has-first (λ i h.
-      List·getD-append bytes (entryBytes e) 0 i (omega (arith, has-first)))
+      first-same (bytes ++ field) bytes (omega (arith, length-append bytes field, has-first)) has-first (λ i h.
+      List·getD-append bytes field 0 i (omega (arith, has-first)))
 
-  more-reads : Reads (bytes ++ entryBytes e) n (whole (es ++ (e ∷ [])))
-  unfolding entriesBytes
+  more-reads : Reads (bytes ++ field) n (whole (es ++ (e ∷ [])))
   more-reads = record {
-    within = omega (arith, length-append bytes (entryBytes e), length-entry e);
+    within = omega (arith, length-append bytes field, length-entry (numbered later) (suc (length es)) e);
     first = same-first .0 ∙ r .first;
     banks = same-first .1 ∙ r .banks;
-    fields-are =
-        ap fields (drop-append-le firstSize bytes (entryBytes e) has-first)
-        ∙ fields-more es (drop firstSize bytes) (entryBytes e) (r .fields-are)
-        ∙ ap (following es) (ap fields (sym (append-nil (entryBytes e))) ∙ fields-written (e ∷ []) (fit, tt));
+    fields-are = ap fields (drop-append-le firstSize bytes field has-first) ∙ fields-next es later e (r .fields-are) fit;
   }
 
 -- what the number 0 of a replay says: its plan was opened, and none of its entries was refused
@@ -122,11 +111,11 @@ unfolding replayFrom begin
 replay-passed {bytes} {n} {es} m r z = by (beginNumber n m) refl (ap (λ (x : ReplayResult). x .answer .number) (sym (replay-is r m)) ∙ z)
   where
     by : (c : ℕ) → beginNumber n m ≡ c → replayFrom c n (whole es) m .answer .number ≡ 0 → (beginNumber n m ≡ 0) × NoneRefused false es (empty n)
-    by zero e z = (e, enter-passed 2 es false 0 (begin n m) z)
+    by zero e z = (e, enter-passed 2 es 0 0 (begin n m) z)
     by (suc c) e z = absurd (omega arith)
 
 -- a journal of whole fields that replays to the present plan, and the entry of an edit of it
-module _ {bytes : List ℕ} {n : ℕ} {es : List Entry} (r : Reads bytes n (whole es)) (space : length bytes + entrySize ≤ 60000)
+module _ {bytes : List ℕ} {n : ℕ} {es : List Entry} (r : Reads bytes n (whole es)) (space : length bytes + entrySize (numbered (drop firstSize bytes)) ≤ 60000)
     (k : Kind) (G : Graph) (a b : ℕ) (m m₀ : Memory) (ready : Ready G m) (due : editNumber k G a b ≡ 0)
     (before : ReplaysTo bytes m₀ (m .slices) (m .tally)) where
   abbrev H : Graph
@@ -160,7 +149,7 @@ module _ {bytes : List ℕ} {n : ℕ} {es : List Entry} (r : Reads bytes n (whol
   unfolding dueNumber
   due-after = (number-agree same-before k a b ∙ due, tt)
 
-  entry-ends : Ends (m₀ .slices) (edited k G a b) 0 (replayed (bytes ++ entryBytes e) m₀)
+  entry-ends : Ends (m₀ .slices) (edited k G a b) 0 (replayed (bytes ++ entryBytes (numbered (drop firstSize bytes)) (suc (length es)) e) m₀)
   unfolding afterEntries afterEntry rankFits
   entry-ends =
       let g : afterEntries (es ++ (e ∷ [])) (empty n) ≡ edited k H a b = after-append es (e ∷ []) (empty n) in
@@ -171,36 +160,32 @@ module _ {bytes : List ℕ} {n : ℕ} {es : List Entry} (r : Reads bytes n (whol
 pub record Passes (k : Kind) (a b : ℕ) (m : Memory) (size : ℕ) (journal : List ℕ) : Type 0 where
   pub inside : size ≤ length journal
   pub first : hasFirst (take size journal) ≡ true
-  pub whole-fields : areWhole (fields (drop firstSize (take size journal))) ≡ true
+  pub whole-fields : fields (laterIn size journal) ≡ whole (fields (laterIn size journal) .entries)
   pub memory : memoryNumber m ≡ 0
   pub ready : ReadyIn m
   pub due : cappedNumber (m .tally .cap) k (clashesIn m) a b ≡ 0
-  pub space : size + entrySize ≤ 60000
+  pub space : size + nextSize size journal ≤ 60000
 
 module _ (k : Kind) (a b : ℕ) (m : Memory) (size : ℕ) (journal : List ℕ) where
-  fields-passed : fieldsNumber size journal ≡ 0 → areWhole (fields (drop firstSize (take size journal))) ≡ true
-  unfolding fieldsNumber
-  fields-passed z = later-passed (fields (drop firstSize (take size journal))) z .1
-
   memory-ready : memoryNumber m ≡ 0 → ReadyIn m
   memory-ready z = let p = memory-passed m z in number-ready m (p .0) (p .1) (p .2)
 
   record-passed : recordNumber k a b m size journal ≡ 0 → Passes k a b m size journal
-  unfolding recordNumber
+  unfolding recordNumber nextSpace
   record-passed z =
       let p = first-zero (headNumber size journal) _ z in
       let q = first-zero (memoryNumber m) _ (p .1) in
       let r = first-zero (fieldsNumber size journal) _ (q .1) in
       let u = first-zero (cappedNumber (m .tally .cap) k (clashesIn m) a b) _ (r .1) in
-      let v = first-zero (spaceNumber (size + entrySize) journal) [] (u .1) in
+      let v = first-zero (spaceNumber (size + nextSize size journal) journal) [] (u .1) in
       record {
         inside = size-inside size journal (p .0);
         first = size-first size journal (p .0);
-        whole-fields = fields-passed (r .0);
+        whole-fields = fields-whole size journal (r .0);
         memory = q .0;
         ready = memory-ready (q .0);
         due = u .0;
-        space = space-room (size + entrySize) journal (v .0) .1;
+        space = space-room (size + nextSize size journal) journal (v .0) .1;
       }
 
   by-recorded : (c : ℕ) → recordedBy c k a b m size journal .answer .number ≡ 0 → (c ≡ 0) × (recordedBy c k a b m size journal ≡ recordedAs k a b m size journal)
@@ -209,14 +194,15 @@ module _ (k : Kind) (a b : ℕ) (m : Memory) (size : ℕ) (journal : List ℕ) w
   by-recorded (suc c) z = absurd (omega arith)
 
   -- the bytes left: those before, and the entry's
-  put-bytes : (e : Entry) → size ≤ length journal → take (size + entrySize) (put (entryBytes e) size journal) ≡ take size journal ++ entryBytes e
-  unfolding put
+  put-bytes : (e : Entry) → size ≤ length journal → take (size + nextSize size journal) (put (nextBytes e size journal) size journal) ≡ take size journal ++ nextBytes e size journal
+  unfolding put nextBytes
   put-bytes e h =
       let n = length-take-le size journal h in
-      let rest = drop (size + length (entryBytes e)) journal in
-      ap (λ (x : ℕ). take (x + entrySize) (take size journal ++ (entryBytes e ++ rest))) (sym n)
-      ∙ take-append-add (take size journal) (entryBytes e ++ rest) entrySize
-      ∙ ap (λ (l : List ℕ). take size journal ++ l) (take-at (entryBytes e) rest entrySize (length-entry e))
+      let field : List ℕ = nextBytes e size journal in
+      let rest = drop (size + length field) journal in
+      ap (λ (x : ℕ). take (x + nextSize size journal) (take size journal ++ (field ++ rest))) (sym n)
+      ∙ take-append-add (take size journal) (field ++ rest) (nextSize size journal)
+      ∙ ap (λ (l : List ℕ). take size journal ++ l) (take-at field rest (nextSize size journal) (length-entry (numbered (laterIn size journal)) _ e))
 
   -- the edit of the call, of a plan that memory holds
   edit-is : memoryNumber m ≡ 0 → cappedNumber (m .tally .cap) k (clashesIn m) a b ≡ 0 → edit k a b m ≡ accepted k (clashesIn m) a b m
@@ -246,7 +232,7 @@ module _ (k : Kind) (a b : ℕ) (m : Memory) (size : ℕ) (journal : List ℕ) w
     pub recorded-edit : edit k a b m ≡ editResult (editAnswer (after .answer)) (after .memory)
     recorded-edit = edit-is (passes .memory) (passes .due) ∙ as-edit after is-as
 
-    is-bytes : bytes ≡ take size journal ++ entryBytes (entryFor k a b)
+    pub is-bytes : bytes ≡ take size journal ++ nextBytes (entryFor k a b) size journal
     unfolding recordedAs
     is-bytes = rw is-as (put-bytes (entryFor k a b) (passes .inside))
 
@@ -256,11 +242,12 @@ module _ (k : Kind) (a b : ℕ) (m : Memory) (size : ℕ) (journal : List ℕ) w
     -- a journal that replayed to the present plan
     module _ (m₀ : Memory) (before : ReplaysTo (take size journal) m₀ (m .slices) (m .tally)) where
       recorded-ends : Ends (m₀ .slices) (edited k (clashesIn m) a b) 0 (replayed bytes m₀)
+      unfolding nextBytes
       recorded-ends =
           let n = length-take-le size journal (passes .inside) in
-          let f = fields (drop firstSize (take size journal)) in
-          let reads : Reads (take size journal) (banksIn (take size journal)) (whole (f .entries)) =
-          record { within = omega (arith, passes .space); first = passes .first; banks = refl; fields-are = are-whole f (passes .whole-fields) } in
+          let es : List Entry = fields (laterIn size journal) .entries in
+          let reads : Reads (take size journal) (banksIn (take size journal)) (whole es) =
+          record { within = omega (arith, passes .space); first = passes .first; banks = refl; fields-are = passes .whole-fields } in
           rw is-bytes (entry-ends reads (omega (arith, passes .space)) k (clashesIn m) a b m m₀ (passes .ready) first-due before)
 
       pub recorded-answer : replayed bytes m₀ .answer ≡ replayAnswer 0 0 0

@@ -1,5 +1,5 @@
 -- Entries in turn, to none of which a refusal is due: the clashes and ranks in which they end, and the plan that is left.
-use mathlib.Core.Bool.{Bool, true, false}
+use mathlib.Core.Bool.{Bool, true}
 use mathlib.Core.List.{List, [], _∷_, _++_}
 use mathlib.Core.Path.{_≡_, refl, sym, ap, _∙_}
 use Prim.Native.Nat.{ℕ, suc, _≤_}
@@ -125,7 +125,7 @@ pub record Ends (first : Slices) (G : Graph) (more : ℕ) (r : ReplayResult) : T
   pub over : Over first G (r .memory)
 
 pub enter-ends : (first : Slices) (i : ℕ) (es : List Entry) (more : ℕ) (s : State) → NoneRefused (s .begun) es (s .graph) → Over first (s .graph) (s .memory)
-    → Ends first (afterEntries es (s .graph)) more (enterAll i es false more s)
+    → Ends first (afterEntries es (s .graph)) more (enterAll i es 0 more s)
 unfolding enterAll ended enterBy afterEntries
 enter-ends first i [] more s d o = record { answer = refl; over = o }
 enter-ends first i (e ∷ es) more s d o =
@@ -133,7 +133,7 @@ enter-ends first i (e ∷ es) more s d o =
     (enter-ends first (suc i) es more (enter e s) (rw (enter-graph e s, ← (enter-begun e s)) (d .1)) (enter-over first e s o))
 
 -- and none is refused where the number is 0
-pub enter-passed : (i : ℕ) (es : List Entry) (wrong : Bool) (more : ℕ) (s : State) → enterAll i es wrong more s .answer .number ≡ 0
+pub enter-passed : (i : ℕ) (es : List Entry) (wrong more : ℕ) (s : State) → enterAll i es wrong more s .answer .number ≡ 0
     → NoneRefused (s .begun) es (s .graph)
 unfolding enterAll
 enter-passed i [] wrong more s z = tt

@@ -1,9 +1,9 @@
--- What starting a journal, and an edit that is recorded, answer and leave, of what they are lent (02, N2, N6 and N9).
-use mathlib.Core.Bool.{cond}
+-- What starting a journal, and an edit that is recorded, answer and leave, of what they are lent (02, N2, N6, N9 and N10).
+use mathlib.Core.Bool.{true, cond}
 use mathlib.Core.List.{List, [], _∷_, _++_, map}
 use Prim.Native.Nat.{ℕ, zero, suc, _+_}
 use lib.Dec.{ltb, eqb}
-use lib.ListN.{length}
+use lib.ListN.{length, take, drop}
 use Rattle.rule.specs.Lists.{filter}
 use Rattle.rule.specs.Graph.{Graph, neighbours}
 use Rattle.rule.specs.declared.Kind.{Kind}
@@ -20,7 +20,7 @@ use Rattle.edit_calls.specs.Calls.{cappedNumber}
 use Rattle.text.specs.Places.{put}
 use Rattle.journal.specs.declared.start.Started.{Started}
 use Rattle.journal.specs.declared.record.Recorded.{Recorded}
-use Rattle.journal_fields.specs.Fields.{entrySize, entryBytes, journalBytes}
+use Rattle.journal_fields.specs.Fields.{firstSize, entrySize, entryBytes, journalBytes, numbered, fields}
 use Rattle.journal_fields.specs.Numbers.{firstOf, spaceNumber, headNumber, fieldsNumber}
 
 -- the entry of an edit
@@ -49,8 +49,9 @@ addsBelow G (suc a) = addsBelow G a ++ addsOf a (neighbours G a)
 unfoldable pub startEntries : Graph → List Entry
 startEntries G = ranksBelow (G .rank) (G .banks) ++ addsBelow G (G .banks)
 
+-- its bytes: the entries are numbered
 unfoldable pub startBytes : Graph → List ℕ
-startBytes G = journalBytes (G .banks) (startEntries G)
+startBytes G = journalBytes true (G .banks) (startEntries G)
 
 -- questions 3 to 5, then 15
 unfoldable pub startNumber : Slices → Tally → List ℕ → ℕ
@@ -77,7 +78,22 @@ started s t journal = startBy (startNumber s t journal) (startBytes (graphIn (t 
 abbrev pub clashesIn : Memory → Graph
 clashesIn m = graphIn (m .tally .banks) (m .slices)
 
--- all questions of an edit that is recorded: those about the journal's later fields, 14 and 18, field by field
+-- the bytes after the first field, of `size` in all
+abbrev pub laterIn : ℕ → List ℕ → List ℕ
+laterIn size journal = drop firstSize (take size journal)
+
+-- the next entry's field: numbered if the others are, and one above the last
+abbrev pub nextSize : ℕ → List ℕ → ℕ
+nextSize size journal = entrySize (numbered (laterIn size journal))
+
+unfoldable pub nextBytes : Entry → ℕ → List ℕ → List ℕ
+nextBytes e size journal = entryBytes (numbered (laterIn size journal)) (suc (length (fields (laterIn size journal) .entries))) e
+
+-- is there space for it?
+unfoldable pub nextSpace : ℕ → List ℕ → ℕ
+nextSpace size journal = spaceNumber (size + nextSize size journal) journal
+
+-- all questions of an edit that is recorded: those about the journal's later fields, 14, 21 and 18, field by field
 unfoldable pub recordNumber : Kind → ℕ → ℕ → Memory → ℕ → List ℕ → ℕ
 recordNumber k a b m size journal =
     firstOf
@@ -85,7 +101,7 @@ recordNumber k a b m size journal =
     ∷ memoryNumber m
     ∷ fieldsNumber size journal
     ∷ cappedNumber (m .tally .cap) k (clashesIn m) a b
-    ∷ spaceNumber (size + entrySize) journal
+    ∷ nextSpace size journal
     ∷ [])
 
 -- what it leaves
@@ -106,9 +122,9 @@ unfoldable pub recordedAs : Kind → ℕ → ℕ → Memory → ℕ → List ℕ
 recordedAs k a b m size journal =
     let e = accepted k (clashesIn m) a b m in
     recordResult
-    (record { number = 0; moved = e .answer .moved; trail = e .answer .trail; length = size + entrySize })
+    (record { number = 0; moved = e .answer .moved; trail = e .answer .trail; length = size + nextSize size journal })
     (e .memory)
-    (put (entryBytes (entryFor k a b)) size journal)
+    (put (nextBytes (entryFor k a b) size journal) size journal)
 
 -- by the number of the first no
 unfoldable pub recordedBy : ℕ → Kind → ℕ → ℕ → Memory → ℕ → List ℕ → RecordResult

@@ -1,9 +1,10 @@
 // The calls that make an edit and record it.
 use edit_calls::edit_within;
-use journal_fields::ENTRY_BYTES;
 use journal_fields::FIRST_BYTES;
+use journal_fields::entry_bytes;
 use journal_fields::fields_number;
 use journal_fields::head_number;
+use journal_fields::is_numbered;
 use journal_fields::put_entry;
 use journal_fields::space_number;
 use memory::Tally;
@@ -13,13 +14,12 @@ use rule::Bank;
 use rule::Entry;
 use rule::Kind;
 ghost use mathlib.Core.Path.{_≡_};
-ghost use Prim.Native.Nat.{_+_, _≤_};
-ghost use lib.ListN.{length};
 ghost use Rattle.rule.specs.declared.Kind.the-variants.{Adding, Striking};
 ghost use Rattle.memory.specs.Lent.{before, after};
-ghost use Rattle.journal_fields.specs.Fields.{entrySize};
-ghost use Rattle.journal.specs.Calls.{noRecord, recordResult, recorded};
-ghost use Rattle.journal.specs.inner.Recording.{Checked, RecordedOf};
+ghost use Rattle.journal_fields.specs.Fields.{numbered as isNumbered};
+ghost use Rattle.journal_fields.specs.Numbers.{headNumber};
+ghost use Rattle.journal.specs.Calls.{noRecord, laterIn, nextSpace, recordResult, recorded};
+ghost use Rattle.journal.specs.inner.Recording.{Checked, AsksEntry, RecordedOf};
 
 // The answer of an edit that is recorded: that of the edit, and the journal's new length, at most 60,000.
 pub struct Recorded {
@@ -70,6 +70,23 @@ fn check_record(
     fields_number(&journal[FIRST_BYTES..size])
 }
 
+// Whether the journal's entries are numbered.
+fn is_numbered_journal(journal: &[u8], size: usize) -> bool
+    requires { ⌜ headNumber size (now journal) ≡ 0 ⌝ }
+    ensures { λ r. ⌜ r ≡ isNumbered (laterIn size (now (journal .entry))) ⌝ }
+{
+    is_numbered(&journal[FIRST_BYTES..size])
+}
+
+// Whether there is space for an entry more.
+fn next_space(journal: &[u8], size: usize) -> u16
+    requires { ⌜ headNumber size (now journal) ≡ 0 ⌝ }
+    ensures { λ r. ⌜ r ≡ nextSpace size (now (journal .entry)) ⌝ }
+{
+    let numbered = is_numbered_journal(journal, size);
+    space_number(journal, size + entry_bytes(numbered))
+}
+
 // A refused call: the number, counts and length 0, the tally as it was.
 fn refuse(number: u16, tally: Tally) -> RecordedEdit
     ensures { λ r. ⌜ (r .answer ≡ noRecord number) × (r .tally ≡ tally) ⌝ }
@@ -85,12 +102,15 @@ fn refuse(number: u16, tally: Tally) -> RecordedEdit
     }
 }
 
-// Writes the entry of an accepted edit after the journal's first `size` bytes. The answer is that of the edit, and the new length.
+// Writes the entry of an accepted edit after the journal's first `size` bytes, in the form of its other entries and with the next number. The
+// answer is that of the edit, and the new length.
 fn record_entry(journal: &mut [u8], size: usize, entry: Entry, answer: Answer) -> Recorded
-    requires { ⌜ (size + entrySize ≤ length (now journal)) × (size + entrySize ≤ 60000) ⌝ }
+    requires { ⌜ AsksEntry size (now journal) ⌝ }
     ensures { λ r. ⌜ RecordedOf entry answer size (now (journal .entry)) r (now (journal .exit)) ⌝ }
 {
-    let next = put_entry(journal, size, entry);
+    let numbered = is_numbered_journal(journal, size);
+    let number = (size - FIRST_BYTES) / entry_bytes(numbered) + 1;
+    let next = put_entry(journal, size, numbered, number, entry);
     Recorded {
         number: 0,
         moved: answer.moved,
@@ -133,7 +153,7 @@ pub fn record_core(
     if checked != 0 {
         return refuse(checked, tally);
     }
-    let space = space_number(journal, size + ENTRY_BYTES);
+    let space = next_space(journal, size);
     let done = edit_within(
         kind,
         neighbours,

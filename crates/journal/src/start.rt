@@ -1,6 +1,6 @@
 // The call that starts a journal.
-use journal_fields::ENTRY_BYTES;
 use journal_fields::FIRST_BYTES;
+use journal_fields::NUMBERED_BYTES;
 use journal_fields::put_entry;
 use journal_fields::put_first;
 use journal_fields::space_number;
@@ -18,9 +18,8 @@ ghost use lib.ListN.{length};
 ghost use Rattle.rule.specs.Graph.{Graph};
 ghost use Rattle.memory.specs.Plan.{PlanOf};
 ghost use Rattle.memory.specs.Lent.{slicesGiven, slicesBefore};
-ghost use Rattle.text.specs.Places.{Room, Wrote};
 ghost use Rattle.journal.specs.Calls.{rankOf, ranksBelow, addsOf, addsBelow, startResult, started};
-ghost use Rattle.journal.specs.inner.Adds.{rankIn, rankBytes, ranksBytes, rowBytes, planBytes};
+ghost use Rattle.journal.specs.inner.Adds.{rankIn, RoomFor, WroteEntries};
 
 // The answer of start_journal: the number, and the journal's length, at most 60,000.
 pub struct Started {
@@ -99,23 +98,38 @@ fn count_adds(
     count
 }
 
-// Writes the rank of b at `at`, if it is other than 0, and answers the place after it.
-fn put_rank(journal: &mut [u8], at: usize, b: Bank, rank: u16) -> usize
-    requires { ⌜ Room (rankBytes (b .0) rank) at journal ⌝ }
-    ensures { λ r. ⌜ Wrote (rankBytes (b .0) rank) at journal r ⌝ }
+// Writes an entry into a new journal after the first `done`, with its number, and answers how many stand there then.
+fn put_new(journal: &mut [u8], done: usize, entry: Entry) -> usize
+    requires { ⌜ RoomFor (entry ∷ []) done journal ⌝ }
+    ensures { λ r. ⌜ WroteEntries (entry ∷ []) done journal r ⌝ }
 {
-    if rank == 0 {
-        return at;
-    }
-    put_entry(journal, at, Entry::Rank(b, rank))
+    put_entry(
+        journal,
+        FIRST_BYTES + NUMBERED_BYTES * done,
+        true,
+        done + 1,
+        entry,
+    );
+    done + 1
 }
 
-// Writes the first n ranks that are other than 0 at `at`, ascending by bank, and answers the place after them.
-fn put_ranks(journal: &mut [u8], at: usize, ranks: &[u16], n: u16) -> usize
-    requires { ⌜ (n ≤ length (now ranks)) × Room (ranksBytes (now ranks) n) at journal ⌝ }
-    ensures { λ r. ⌜ Wrote (ranksBytes (now (ranks .entry)) n) at journal r ⌝ }
+// Writes the rank of b, if it is other than 0.
+fn put_rank(journal: &mut [u8], done: usize, b: Bank, rank: u16) -> usize
+    requires { ⌜ RoomFor (rankOf (b .0) rank) done journal ⌝ }
+    ensures { λ r. ⌜ WroteEntries (rankOf (b .0) rank) done journal r ⌝ }
 {
-    let mut next = at;
+    if rank == 0 {
+        return done;
+    }
+    put_new(journal, done, Entry::Rank(b, rank))
+}
+
+// Writes the first n ranks that are other than 0, ascending by bank.
+fn put_ranks(journal: &mut [u8], done: usize, ranks: &[u16], n: u16) -> usize
+    requires { ⌜ (n ≤ length (now ranks)) × RoomFor (ranksBelow (rankIn (now ranks)) n) done journal ⌝ }
+    ensures { λ r. ⌜ WroteEntries (ranksBelow (rankIn (now (ranks .entry))) n) done journal r ⌝ }
+{
+    let mut next = done;
     let mut b: u16 = 0;
     while b < n {
         next = put_rank(journal, next, Bank(b), ranks[wide(b)]);
@@ -124,23 +138,23 @@ fn put_ranks(journal: &mut [u8], at: usize, ranks: &[u16], n: u16) -> usize
     next
 }
 
-// Writes the clash of a and b as an add at `at`, if b is larger, and answers the place after it.
-fn put_add(journal: &mut [u8], at: usize, a: Bank, b: Bank) -> usize
-    requires { ⌜ Room (rowBytes (a .0) (b .0 ∷ [])) at journal ⌝ }
-    ensures { λ r. ⌜ Wrote (rowBytes (a .0) (b .0 ∷ [])) at journal r ⌝ }
+// Writes the clash of a and b as an add, if b is larger.
+fn put_add(journal: &mut [u8], done: usize, a: Bank, b: Bank) -> usize
+    requires { ⌜ RoomFor (addsOf (a .0) (b .0 ∷ [])) done journal ⌝ }
+    ensures { λ r. ⌜ WroteEntries (addsOf (a .0) (b .0 ∷ [])) done journal r ⌝ }
 {
     if b.0 <= a.0 {
-        return at;
+        return done;
     }
-    put_entry(journal, at, Entry::Clash(Kind::Adding, a, b))
+    put_new(journal, done, Entry::Clash(Kind::Adding, a, b))
 }
 
-// Writes the clashes of a with the larger of these banks as adds at `at`, and answers the place after them.
-fn put_adds_of(journal: &mut [u8], at: usize, row: &[u16], a: Bank) -> usize
-    requires { ⌜ Room (rowBytes (a .0) (now row)) at journal ⌝ }
-    ensures { λ r. ⌜ Wrote (rowBytes (a .0) (now (row .entry))) at journal r ⌝ }
+// Writes the clashes of a with the larger of these banks as adds.
+fn put_adds_of(journal: &mut [u8], done: usize, row: &[u16], a: Bank) -> usize
+    requires { ⌜ RoomFor (addsOf (a .0) (now row)) done journal ⌝ }
+    ensures { λ r. ⌜ WroteEntries (addsOf (a .0) (now (row .entry))) done journal r ⌝ }
 {
-    let mut next = at;
+    let mut next = done;
     let mut i = 0;
     while i < row.len() {
         next = put_add(journal, next, a, Bank(row[i]));
@@ -149,10 +163,10 @@ fn put_adds_of(journal: &mut [u8], at: usize, row: &[u16], a: Bank) -> usize
     next
 }
 
-// Writes the clashes of a plan as adds at `at`, the lowest pair first.
+// Writes the clashes of a plan as adds, the lowest pair first.
 fn put_adds(
     journal: &mut [u8],
-    at: usize,
+    done: usize,
     neighbours: &[u16],
     degrees: &[u16],
     waves: &[u16],
@@ -162,13 +176,13 @@ fn put_adds(
 ) -> usize
     requires { ⌜ ((G : Graph)
         × PlanOf G (slicesGiven neighbours degrees waves counts ranks) tally
-        × Room (planBytes G) at journal) ⌝ }
+        × RoomFor (addsBelow G (G .banks)) done journal) ⌝ }
     ensures { λ r. ⌜ ((G : Graph)
         → PlanOf G (slicesBefore neighbours degrees waves counts ranks) tally
-        → Room (planBytes G) at (journal .entry)
-        → Wrote (planBytes G) at journal r) ⌝ }
+        → RoomFor (addsBelow G (G .banks)) done (journal .entry)
+        → WroteEntries (addsBelow G (G .banks)) done journal r) ⌝ }
 {
-    let mut next = at;
+    let mut next = done;
     let mut a: u16 = 0;
     while a < tally.banks {
         let row = clashes_held(neighbours, degrees, waves, counts, ranks, tally, Bank(a));
@@ -199,7 +213,7 @@ pub fn start_journal(
         };
     }
     let adds = count_adds(neighbours, degrees, waves, counts, ranks, tally);
-    let size = FIRST_BYTES + ENTRY_BYTES * (count_ranks(ranks, tally.banks) + adds);
+    let size = FIRST_BYTES + NUMBERED_BYTES * (count_ranks(ranks, tally.banks) + adds);
     let space = space_number(journal, size);
     if space != 0 {
         return Started {
@@ -207,11 +221,11 @@ pub fn start_journal(
             length: 0,
         };
     }
-    let after_first = put_first(journal, tally.banks);
-    let after_ranks = put_ranks(journal, after_first, ranks, tally.banks);
+    put_first(journal, tally.banks);
+    let ranked = put_ranks(journal, 0, ranks, tally.banks);
     put_adds(
         journal,
-        after_ranks,
+        ranked,
         neighbours,
         degrees,
         waves,

@@ -1,4 +1,4 @@
--- The fields of a journal (02, N2 and N6): a one-byte tag, a two-byte length and the value, low byte first.
+-- The fields of a journal (02, N2, N6 and N10): a one-byte tag, a two-byte length and the value, low byte first.
 use mathlib.Core.Bool.{Bool, true, false, cond, _&&_, _||_, not}
 use mathlib.Core.List.{List, [], _∷_, _++_}
 use Prim.Native.Nat.{ℕ, zero, suc, _+_, _*_, _/_, _%_}
@@ -10,20 +10,25 @@ use Rattle.rule.specs.declared.Kind.the-variants.{Adding, Striking}
 use Rattle.rule.specs.declared.Entry.{Entry}
 use Rattle.rule.specs.declared.Entry.the-variants.{Clash, Rank}
 use Rattle.journal_fields.specs.declared.field.Field.{Field}
-use Rattle.journal_fields.specs.declared.field.Field.the-variants.{Whole, Wrong, Short}
+use Rattle.journal_fields.specs.declared.field.Field.the-variants.{Whole, Wrong, Misnumbered, Short}
 
--- how many bytes: a tag and a length, the first field, an entry's value and its field
+-- how many bytes: a tag and a length, and the first field
 abbrev pub headSize : ℕ
 headSize = 3
 
 abbrev pub firstSize : ℕ
 firstSize = headSize + 2
 
-abbrev pub valueSize : ℕ
-valueSize = 4
+-- an edit number, an entry's value and its field: a journal has numbers in all its entries or in none
+abbrev pub numberSize : Bool → ℕ
+numberSize false = 0
+numberSize true = 4
 
-abbrev pub entrySize : ℕ
-entrySize = headSize + valueSize
+abbrev pub valueSize : Bool → ℕ
+valueSize numbered = numberSize numbered + 4
+
+abbrev pub entrySize : Bool → ℕ
+entrySize numbered = headSize + valueSize numbered
 
 -- the tags of the first field and of a rank: 4E hex and 4B hex
 abbrev pub firstTag : ℕ
@@ -58,6 +63,13 @@ twoBytes x = x % 256 ∷ x / 256 ∷ []
 unfoldable pub numberAt : ℕ → List ℕ → ℕ
 numberAt i bytes = getD bytes i 0 + 256 * getD bytes (i + 1) 0
 
+-- a 32-bit number as four bytes, and the number at place i and the three after it
+unfoldable pub fourBytes : ℕ → List ℕ
+fourBytes x = twoBytes (x % 65536) ++ twoBytes (x / 65536)
+
+unfoldable pub fourAt : ℕ → List ℕ → ℕ
+fourAt i bytes = numberAt i bytes + 65536 * numberAt (i + 2) bytes
+
 -- a field: its tag, the length of its value, its value
 unfoldable pub fieldBytes : ℕ → List ℕ → List ℕ
 fieldBytes tag value = tag ∷ (twoBytes (length value) ++ value)
@@ -66,18 +78,23 @@ fieldBytes tag value = tag ∷ (twoBytes (length value) ++ value)
 unfoldable pub firstBytes : ℕ → List ℕ
 firstBytes n = fieldBytes firstTag (twoBytes n)
 
--- an entry's field: its tag and its two numbers
-unfoldable pub entryBytes : Entry → List ℕ
-entryBytes e = fieldBytes (tagOf e) (twoBytes (firstIn e) ++ twoBytes (secondIn e))
+-- an edit number, where entries have one
+unfoldable pub numberBytes : Bool → ℕ → List ℕ
+numberBytes false i = []
+numberBytes true i = fourBytes i
 
--- the fields of entries, one after the other
-unfoldable pub entriesBytes : List Entry → List ℕ
-entriesBytes [] = []
-entriesBytes (e ∷ es) = entryBytes e ++ entriesBytes es
+-- the field of entry i: its tag, its number and its two numbers
+unfoldable pub entryBytes : Bool → ℕ → Entry → List ℕ
+entryBytes numbered i e = fieldBytes (tagOf e) (numberBytes numbered i ++ (twoBytes (firstIn e) ++ twoBytes (secondIn e)))
 
--- the journal of n banks and these entries
-unfoldable pub journalBytes : ℕ → List Entry → List ℕ
-journalBytes n es = firstBytes n ++ entriesBytes es
+-- the fields of entries from entry i on, one after the other
+unfoldable pub entriesBytes : Bool → ℕ → List Entry → List ℕ
+entriesBytes numbered i [] = []
+entriesBytes numbered i (e ∷ es) = entryBytes numbered i e ++ entriesBytes numbered (suc i) es
+
+-- the journal of n banks and these entries, counted from 1
+unfoldable pub journalBytes : Bool → ℕ → List Entry → List ℕ
+journalBytes numbered n es = firstBytes n ++ entriesBytes numbered 1 es
 
 -- is the first field whole, with its tag and length right?
 unfoldable pub hasFirst : List ℕ → Bool
@@ -104,47 +121,61 @@ unfoldable pub rankFits : Entry → Bool
 rankFits (Clash kind a b) = true
 rankFits (Rank b r) = leb r 9999
 
+-- are the entries of these bytes, those after the first field, numbered? Not if the first has length 4; a journal without entries is new
+unfoldable pub numbered : List ℕ → Bool
+numbered bytes = ltb (length bytes) headSize || not (eqb (numberAt 1 bytes) (valueSize false))
+
 -- are the tag and the length an entry's?
-unfoldable pub isEntry : List ℕ → Bool
-isEntry bytes = isEntryTag (getD bytes 0 0) && eqb (numberAt 1 bytes) valueSize
+unfoldable pub isEntry : Bool → List ℕ → Bool
+isEntry numbered bytes = isEntryTag (getD bytes 0 0) && eqb (numberAt 1 bytes) (valueSize numbered)
 
 -- the entry of a whole field
-unfoldable pub entryIn : List ℕ → Entry
-entryIn bytes = entryOf (getD bytes 0 0) (numberAt headSize bytes) (numberAt (headSize + 2) bytes)
+unfoldable pub entryIn : Bool → List ℕ → Entry
+entryIn numbered bytes =
+    let place = headSize + numberSize numbered in
+    entryOf (getD bytes 0 0) (numberAt place bytes) (numberAt (place + 2) bytes)
 
--- a whole field, by its entry: a rank above 9,999 is wrong
-unfoldable pub wholeOf : Entry → Field
-wholeOf e = cond (rankFits e) (Whole e) Wrong
+-- its edit number: in the field, or, for entry i, implied by its place
+unfoldable pub numberIn : Bool → ℕ → List ℕ → ℕ
+numberIn false i bytes = i
+numberIn true i bytes = fourAt headSize bytes
 
--- what stands at the front: less than a tag and a length, or a right tag and length with a short value, is left over
-unfoldable pub fieldOf : List ℕ → Field
-fieldOf bytes =
-    cond (ltb (length bytes) headSize) Short (cond (isEntry bytes) (cond (ltb (length bytes) entrySize) Short (wholeOf (entryIn bytes))) Wrong)
+-- a whole field, by its entry: a rank above 9,999 is wrong, then comes whether its number is the next
+unfoldable pub wholeOf : Bool → Entry → Field
+wholeOf next e = cond (rankFits e) (cond next (Whole e) Misnumbered) Wrong
 
--- what the bytes after the first field read as: the entries, and then a field that is wrong, or so many bytes left over
+-- what stands at the front, where entry i is due: less than a tag and a length, or a right tag and length with a short value, is left over
+unfoldable pub fieldOf : Bool → ℕ → List ℕ → Field
+fieldOf numbered i bytes =
+    let whole = wholeOf (eqb (numberIn numbered i bytes) i) (entryIn numbered bytes) in
+    cond (ltb (length bytes) headSize) Short (cond (isEntry numbered bytes) (cond (ltb (length bytes) (entrySize numbered)) Short whole) Wrong)
+
+-- what the bytes after the first field read as: the entries, then the number of a field that ends them, 14 or 21, or so many bytes left over
 pub record Fields : Type 0 where
   pub entries : List Entry
-  pub wrong : Bool
+  pub wrong : ℕ
   pub leftOver : ℕ
 
 -- by what stands at the front of this many bytes
 unfoldable pub fieldsBy : Field → ℕ → Fields → Fields
 fieldsBy (Whole e) size rest = record { entries = e ∷ rest .entries; wrong = rest .wrong; leftOver = rest .leftOver }
-fieldsBy Wrong size rest = record { entries = []; wrong = true; leftOver = 0 }
-fieldsBy Short size rest = record { entries = []; wrong = false; leftOver = size }
+fieldsBy Wrong size rest = record { entries = []; wrong = 14; leftOver = 0 }
+fieldsBy Misnumbered size rest = record { entries = []; wrong = 21; leftOver = 0 }
+fieldsBy Short size rest = record { entries = []; wrong = 0; leftOver = size }
 
--- the fields, if they are no more than `depth`
-unfoldable pub fieldsIn : ℕ → List ℕ → Fields
-fieldsIn zero bytes = fieldsBy Short (length bytes) (record { entries = []; wrong = false; leftOver = 0 })
-fieldsIn (suc depth) bytes = fieldsBy (fieldOf bytes) (length bytes) (fieldsIn depth (drop entrySize bytes))
+-- the fields from entry i on, if they are no more than `depth`
+unfoldable pub fieldsIn : ℕ → Bool → ℕ → List ℕ → Fields
+fieldsIn zero numbered i bytes = fieldsBy Short (length bytes) (record { entries = []; wrong = 0; leftOver = 0 })
+fieldsIn (suc depth) numbered i bytes =
+    fieldsBy (fieldOf numbered i bytes) (length bytes) (fieldsIn depth numbered (suc i) (drop (entrySize numbered) bytes))
 
--- the fields: no more than there are bytes
+-- the fields from entry i on: no more than there are bytes
+unfoldable pub fieldsFrom : Bool → ℕ → List ℕ → Fields
+fieldsFrom numbered i bytes = fieldsIn (length bytes) numbered i bytes
+
+-- all fields: the first tells whether they are numbered, and they count from 1
 unfoldable pub fields : List ℕ → Fields
-fields bytes = fieldsIn (length bytes) bytes
-
--- are they whole, with no wrong one and no byte left over?
-unfoldable pub areWhole : Fields → Bool
-areWhole f = not (f .wrong) && eqb (f .leftOver) 0
+fields bytes = fieldsFrom (numbered bytes) 1 bytes
 
 -- does an entry set a rank?
 unfoldable pub isRank : Entry → Bool

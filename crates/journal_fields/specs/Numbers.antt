@@ -1,11 +1,13 @@
--- The numbers of the questions about a journal's bytes (02, N2 and N6).
+-- The numbers of the questions about a journal's bytes (02, N2, N6 and N10).
 use mathlib.Core.Bool.{_&&_}
 use mathlib.Core.List.{List, [], _∷_}
 use Prim.Native.Nat.{ℕ, zero, suc}
-use lib.Dec.{leb}
+use lib.Dec.{leb, eqb}
 use lib.ListN.{length, take, drop}
 use Rattle.planner.specs.Questions.{_else_, firstNo}
-use Rattle.journal_fields.specs.Fields.{firstSize, hasFirst, Fields, fields, areWhole, ranksFirst}
+use Rattle.journal_fields.specs.declared.field.Field.{Field}
+use Rattle.journal_fields.specs.declared.field.Field.the-variants.{Whole, Wrong, Misnumbered, Short}
+use Rattle.journal_fields.specs.Fields.{firstSize, hasFirst, Fields, fields, ranksFirst}
 
 -- the first number that is not 0
 unfoldable pub firstOf : List ℕ → ℕ
@@ -22,9 +24,17 @@ unfoldable pub headNumber : ℕ → List ℕ → ℕ
 headNumber size journal =
     firstNo ((leb size 60000 else 9) ∷ (leb size (length journal) && hasFirst (take size journal) else 13) ∷ [])
 
--- field by field: does no rank follow an edit, and, since entries come before what ends them, is no field wrong and nothing left over?
+-- the number of a field that is no entry, as recording gives it
+unfoldable pub refusal : Field → ℕ
+refusal (Whole e) = 0
+refusal Wrong = 14
+refusal Misnumbered = 21
+refusal Short = 14
+
+-- field by field, since entries come before what ends them: does no rank follow an edit, is no field wrong, and is nothing left over?
 unfoldable pub laterNumber : Fields → ℕ
-laterNumber f = firstNo ((ranksFirst (f .entries) else 18) ∷ (areWhole f else 14) ∷ [])
+laterNumber f =
+    firstOf (firstNo ((ranksFirst (f .entries) else 18) ∷ []) ∷ f .wrong ∷ firstNo ((eqb (f .leftOver) 0 else 14) ∷ []) ∷ [])
 
 -- the same of its fields after the first
 unfoldable pub fieldsNumber : ℕ → List ℕ → ℕ

@@ -1,5 +1,4 @@
 -- The cap after a replay: opening gives 24, and no entry changes it.
-use mathlib.Core.Bool.{Bool}
 use mathlib.Core.List.{List, [], _∷_}
 use mathlib.Core.Path.{_≡_, refl, ap, _∙_}
 use Prim.Native.Nat.{ℕ, zero, suc, _≤_}
@@ -24,7 +23,7 @@ by-cap zero i s rest e = e
 by-cap (suc c) i s rest e = refl
 
 -- entries, refused or not, leave the cap as it was
-all-cap : (i : ℕ) (es : List Entry) (wrong : Bool) (more : ℕ) (s : State) → capIn (enterAll i es wrong more s) ≡ capOf s
+all-cap : (i : ℕ) (es : List Entry) (wrong more : ℕ) (s : State) → capIn (enterAll i es wrong more s) ≡ capOf s
 unfolding enterAll
 all-cap i [] wrong more s = ap (λ (m : Memory). m .tally .cap) (ended-memory wrong i more (s .memory))
 all-cap i (e ∷ es) wrong more s =

@@ -55,13 +55,13 @@ unfolding enterBy
 by-accepted zero i s rest z = (refl, z, refl)
 by-accepted (suc c) i s rest z = absurd (omega arith)
 
-pub ended-memory : (wrong : Bool) (i more : ℕ) (m : Memory) → ended wrong i more m .memory ≡ m
+pub ended-memory : (wrong i more : ℕ) (m : Memory) → ended wrong i more m .memory ≡ m
 unfolding ended
-ended-memory true i more m = refl
-ended-memory false i more m = refl
+ended-memory zero i more m = refl
+ended-memory (suc c) i more m = refl
 
 -- entries that are not refused leave the plan of the clashes and ranks after them
-pub enter-holds : (i : ℕ) (es : List Entry) (wrong : Bool) (more : ℕ) (s : State) → Holding s → RanksFit es → enterAll i es wrong more s .answer .number ≡ 0
+pub enter-holds : (i : ℕ) (es : List Entry) (wrong more : ℕ) (s : State) → Holding s → RanksFit es → enterAll i es wrong more s .answer .number ≡ 0
     → Leaves (afterEntries es (s .graph)) (enterAll i es wrong more s)
 unfolding enterAll afterEntries
 enter-holds i [] wrong more s h f z = rw (ended-memory wrong i more (s .memory)) h

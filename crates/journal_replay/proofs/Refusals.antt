@@ -11,38 +11,21 @@ use Rattle.memory.specs.Plan.{PlanOf}
 use Rattle.memory.specs.Memory.{Memory}
 use Rattle.rule.specs.declared.Entry.{Entry}
 use Rattle.planner.specs.States.{State, entryNumber, enter, begin, beginNumber}
-use Rattle.journal_fields.specs.Fields.{firstSize, entrySize, banksIn, fieldsBy, fields}
+use Rattle.journal_fields.specs.Fields.{firstSize, entrySize, banksIn, numbered, fields}
 use Rattle.journal_replay.specs.Replay.{ReplayResult, replayResult, replayAnswer, ended, enterBy, enterAll}
 use Rattle.journal_replay.specs.Replay.{replayNumber, replayBy, replayed}
-use Rattle.journal_fields.proofs.Reading.{drop-take, fields-step}
-use Rattle.journal_fields.proofs.Forms.{whole-long}
-use Rattle.journal_fields.proofs.Entries.{whole, following, fields-none, fit-take}
-use Rattle.journal_fields.proofs.Bytes.{fields-fit, first-long, first-same, field-same, read-first}
-use Rattle.journal_replay.specs.Ends.{afterFirst, RefusedLater}
+use Rattle.journal_fields.proofs.Reading.{drop-take}
+use Rattle.journal_fields.proofs.Entries.{whole, fit-take}
+use Rattle.journal_fields.proofs.Bytes.{fields-fit, fields-front, first-long, first-same}
+use Rattle.journal_replay.specs.Ends.{afterFirst, sizeOf, RefusedLater}
 use Rattle.journal_replay.proofs.Replaying.{replayFrom, Reads, number-is, replay-is, opened-reads}
 use Rattle.journal_replay.proofs.Holds.{enter-holds, opened-holds}
 
--- the first i entries that bytes read as are those of their first i fields' bytes
-pub fields-front : (i : ℕ) (bytes : List ℕ) (es : List Entry) → fields bytes .entries ≡ es → i ≤ length es → fields (take (entrySize * i) bytes) ≡ whole (take i es)
-unfolding fieldsBy
-fields-front zero bytes es q h = fields-none
-fields-front (suc i) bytes [] q h = absurd (omega arith)
-fields-front (suc i) bytes (e ∷ es) q h =
-    let r = read-first bytes e es q in
-    let l = whole-long bytes e (sym (r .0)) in
-    let j : entrySize * suc i ≡ entrySize + entrySize * i = omega arith in
-    let front : List ℕ = take (entrySize + entrySize * i) bytes in
-    let n : entrySize ≤ length front = omega (arith, length-take (entrySize + entrySize * i) bytes) in
-    let f = field-same front bytes n l (λ k u. getD-take (entrySize + entrySize * i) bytes k 0 (omega arith)) in
-    ap (λ (k : ℕ). fields (take k bytes)) j
-    ∙ fields-step front
-    ∙ rw (f ∙ r .0, drop-take entrySize (entrySize * i) bytes l) (ap (following (e ∷ [])) (fields-front i (drop entrySize bytes) es (r .1) (omega arith)))
-
 -- a refusal at field i + k leaves what the k entries before it leave
 abbrev Before : ℕ → List Entry → State → ReplayResult → Type 0
-Before i es s r = (k : ℕ) × (k ≤ length es) × (r .answer .field ≡ i + k) × (enterAll i (take k es) false 0 s ≡ replayResult (replayAnswer 0 0 0) (r .memory))
+Before i es s r = (k : ℕ) × (k ≤ length es) × (r .answer .field ≡ i + k) × (enterAll i (take k es) 0 0 s ≡ replayResult (replayAnswer 0 0 0) (r .memory))
 
-module _ (wrong : Bool) (leftOver : ℕ) where
+module _ (wrong leftOver : ℕ) where
   by-before : (c i : ℕ) (e : Entry) (es : List Entry) (s : State) → entryNumber e s ≡ c
       → ((enterAll (suc i) es wrong leftOver (enter e s) .answer .number ≡ 0 → ⊥) → Before (suc i) es (enter e s) (enterAll (suc i) es wrong leftOver (enter e s)))
       → (enterBy c i s (enterAll (suc i) es wrong leftOver (enter e s)) .answer .number ≡ 0 → ⊥)
@@ -51,10 +34,10 @@ module _ (wrong : Bool) (leftOver : ℕ) where
   by-before zero i e es s q f z = let b = f z in (suc (b .0), omega (arith, b .1), omega (arith, b .2), rw q (b .3))
   by-before (suc c) i e es s q f z = (0, omega arith, omega arith, refl)
 
-  end-before : (w : Bool) (i : ℕ) (s : State) → (ended w i leftOver (s .memory) .answer .number ≡ 0 → ⊥) → Before i [] s (ended w i leftOver (s .memory))
+  end-before : (w i : ℕ) (s : State) → (ended w i leftOver (s .memory) .answer .number ≡ 0 → ⊥) → Before i [] s (ended w i leftOver (s .memory))
   unfolding enterAll ended
-  end-before true i s z = (0, omega arith, omega arith, refl)
-  end-before false i s z = absurd (z refl)
+  end-before zero i s z = absurd (z refl)
+  end-before (suc c) i s z = (0, omega arith, omega arith, refl)
 
   enter-before : (i : ℕ) (es : List Entry) (s : State) → (enterAll i es wrong leftOver s .answer .number ≡ 0 → ⊥) → Before i es s (enterAll i es wrong leftOver s)
   unfolding enterAll
@@ -76,16 +59,16 @@ late-number (suc c) bytes m h = absurd (first (eqb (suc c) 9) h)
 
 module _ (bytes : List ℕ) (m : Memory) where
   front-reads : Reads bytes (banksIn bytes) (fields (drop firstSize bytes)) → (i : ℕ) → i ≤ length (fields (drop firstSize bytes) .entries)
-      → Reads (take (firstSize + entrySize * i) bytes) (banksIn bytes) (whole (take i (fields (drop firstSize bytes) .entries)))
+      → Reads (take (sizeOf i bytes) bytes) (banksIn bytes) (whole (take i (fields (drop firstSize bytes) .entries)))
   front-reads r i h =
       let five = first-long bytes (r .first) in
-      let n = length-take (firstSize + entrySize * i) bytes in
-      let same = first-same (take (firstSize + entrySize * i) bytes) bytes (omega arith) five (λ k u. getD-take (firstSize + entrySize * i) bytes k 0 (omega arith)) in
+      let n = length-take (sizeOf i bytes) bytes in
+      let same = first-same (take (sizeOf i bytes) bytes) bytes (omega arith) five (λ k u. getD-take (sizeOf i bytes) bytes k 0 (omega arith)) in
       record {
         within = omega (arith, r .within);
         first = same .0 ∙ r .first;
         banks = same .1;
-        fields-are = ap fields (drop-take firstSize (entrySize * i) bytes five) ∙ fields-front i (drop firstSize bytes) (fields (drop firstSize bytes) .entries) refl h;
+        fields-are = ap fields (drop-take firstSize (entrySize (numbered (drop firstSize bytes)) * i) bytes five) ∙ fields-front i (drop firstSize bytes) h;
       }
 
   pub refused-later : (replayed bytes m .answer .number ≡ 0 → ⊥) → 2 ≤ replayed bytes m .answer .field → RefusedLater bytes m
@@ -99,7 +82,7 @@ module _ (bytes : List ℕ) (m : Memory) where
       let q = replay-is r m ∙ ap (λ (c : ℕ). replayFrom c n f m) b in
       let w = enter-before (f .wrong) (f .leftOver) 2 (f .entries) (begin n m) (rw q at z) in
       let k = w .0 in
-      let before = enter-holds 2 (take k (f .entries)) false 0 (begin n m) (opened-holds bytes m o) (fit-take k (f .entries) (fields-fit (drop firstSize bytes)))
+      let before = enter-holds 2 (take k (f .entries)) 0 0 (begin n m) (opened-holds bytes m o) (fit-take k (f .entries) (fields-fit (drop firstSize bytes)))
       (ap (λ (x : ReplayResult). x .answer .number) (w .3)) in
       let q′ = replay-is (front-reads r k (w .1)) m ∙ ap (λ (c : ℕ). replayFrom c n (whole (take k (f .entries))) m) b in
       record {

@@ -179,14 +179,14 @@ refused-memory zero i s rest z = absurd (z refl)
 refused-memory (suc c) i s rest z = refl
 
 pass-beside : (i : ℕ) (es : List Entry) (s : State) → RanksFit es → s .graph .banks ≤ 10000
-    → Beside (pass i (map rowOf (map entryText es)) s) (enterAll i es false 0 s) (AllBelow 10000 es)
+    → Beside (pass i (map rowOf (map entryText es)) s) (enterAll i es 0 0 s) (AllBelow 10000 es)
 unfolding pass enterAll ended
 pass-beside i [] s fit l = record { memory = refl; answer = λ a. refl }
 pass-beside i (e ∷ es) s fit l = by (row-of e (fit .0)) (pass-beside (suc i) es (enter e s) (fit .1) (omega (arith, enter-banks e s)))
   where
-    by : RowOf e → Beside (pass (suc i) (map rowOf (map entryText es)) (enter e s)) (enterAll (suc i) es false 0 (enter e s)) (AllBelow 10000 es)
+    by : RowOf e → Beside (pass (suc i) (map rowOf (map entryText es)) (enter e s)) (enterAll (suc i) es 0 0 (enter e s)) (AllBelow 10000 es)
         → Beside (passBy (rowNumber (rowOf (entryText e)) s) i s (pass (suc i) (map rowOf (map entryText es)) (step (rowOf (entryText e)) s)))
-        (enterBy (entryNumber e s) i s (enterAll (suc i) es false 0 (enter e s))) (AllBelow 10000 (e ∷ es))
+        (enterBy (entryNumber e s) i s (enterAll (suc i) es 0 0 (enter e s))) (AllBelow 10000 (e ∷ es))
     by (reads q) h =
         rw q (unfold rowNumber step changeNumber change in by-beside (entryNumber e s) i s _ _ (AllBelow 10000 es) (AllBelow 10000 (e ∷ es)) (λ a. a .1) h)
     by (fails q f n) h = rw q (unfold rowNumber passBy in record { memory = refused-memory (entryNumber e s) i s _ (f s l); answer = λ a. absurd (n (a .0)) })
@@ -215,7 +215,7 @@ begin-beside (suc c) n es m fit e =
     record { memory = refl; answer = λ a. rw (ne-eqb (suc c) 9 (λ q. omega (arith, begin-small n m))) }
 
 -- the list and the journal of the same edits
-module _ (n : ℕ) (es : List Entry) (m : Memory) (fit : RanksFit es) where
+module _ (w : Bool) (n : ℕ) (es : List Entry) (m : Memory) (fit : RanksFit es) where
   first-beside : (n < 10000) ⊎ (10000 ≤ n)
       → Beside (fromRows (rowsOf (listText n es)) m) (replayFrom (beginNumber n m) n (whole es) m) ((n < 10000) × AllBelow 10000 es)
   first-beside (inl h) = rw (rows-list n es) (unfold fromRows fromFirst in rw (first-reads n h) (begin-beside (beginNumber n m) n es m fit refl))
@@ -224,9 +224,9 @@ module _ (n : ℕ) (es : List Entry) (m : Memory) (fit : RanksFit es) where
       (unfold fromRows fromFirst replayFrom in rw (first-fails n h) (record { memory = refl; answer = λ a. absurd (omega (arith, a .0)) }))
 
   -- and any list whose rows say what those of that list say
-  pub same-edits : length (journalBytes n es) ≤ 60000 → (list : List ℕ) → length list ≤ 60000 → rowsOf list ≡ rowsOf (listText n es)
-      → Beside (readList list m) (replayed (journalBytes n es) m) ((n < 10000) × AllBelow 10000 es)
-  same-edits h list k alike = rw (within list m k, alike, replay-is (journal-reads n es fit h) m) (first-beside (lt-or-ge n 10000))
+  pub same-edits : length (journalBytes w n es) ≤ 60000 → (list : List ℕ) → length list ≤ 60000 → rowsOf list ≡ rowsOf (listText n es)
+      → Beside (readList list m) (replayed (journalBytes w n es) m) ((n < 10000) × AllBelow 10000 es)
+  same-edits h list k alike = rw (within list m k, alike, replay-is (journal-reads w n es fit h) m) (first-beside (lt-or-ge n 10000))
 
 -- what these rows say, where their numbers can stand in a row
 entry-rows : (es : List Entry) → AllBelow 10000 es → map rowOf (map entryText es) ≡ map entryRow es

@@ -1,4 +1,5 @@
 -- Theorems on replays, each restated: what to cite. Their proofs are in the files beside this one.
+use mathlib.Core.Bool.{Bool}
 use mathlib.Core.List.{List, _∷_, map}
 use mathlib.Core.Path.{_≡_, sym, ap}
 use Prim.Native.Nat.{ℕ, _+_, _*_, _/_, _%_, _≤_, _<_}
@@ -23,25 +24,25 @@ use Rattle.journal_replay.proofs.Holds as Holds
 use Rattle.journal_replay.proofs.Refusals as Refusals
 use Rattle.journal_replay.proofs.Caps as Caps
 
--- 1. a journal cut at byte i after its first field replays as the journal of its whole fields does: the same number, field and memory; not
+-- 1. a journal, numbered or not, cut at byte i after its first field replays as the journal of its whole fields does: the same number, field and memory; not
 -- refused, it reports the bytes left over
-pub cut-replays : (n : ℕ) (es : List Entry) (i : ℕ) → RanksFit es → i ≤ entrySize * length es → firstSize + i ≤ 60000 → (m : Memory)
-    → SameButLeftOver (replayed (take (firstSize + i) (journalBytes n es)) m) (replayed (journalBytes n (take (i / entrySize) es)) m) (i % entrySize)
+pub cut-replays : (w : Bool) (n : ℕ) (es : List Entry) (i : ℕ) → RanksFit es → i ≤ entrySize w * length es → firstSize + i ≤ 60000 → (m : Memory)
+    → SameButLeftOver (replayed (take (firstSize + i) (journalBytes w n es)) m) (replayed (journalBytes w n (take (i / entrySize w) es)) m) (i % entrySize w)
 cut-replays = Replaying.cut-replays
 
 -- 2. a journal and any list of the same edits and ranks, each within 60,000 bytes, leave the same memory: plan, tally, trail and moved; and with
 -- numbers below 10,000, which a row can hold, the same number at the same place. The list's rows say what those of `listText` say: padded, with or without the
 -- last line feed
-module _ (n : ℕ) (es : List Entry) (m : Memory) (fit : RanksFit es) (journal : length (journalBytes n es) ≤ 60000)
+module _ (w : Bool) (n : ℕ) (es : List Entry) (m : Memory) (fit : RanksFit es) (journal : length (journalBytes w n es) ≤ 60000)
     (list : List ℕ) (short : length list ≤ 60000) (alike : rowsOf list ≡ rowsOf (listText n es)) where
-  pub same-memory : replayed (journalBytes n es) m .memory ≡ readList list m .memory
-  same-memory = sym (SameEdits.same-edits n es m fit journal list short alike .memory)
+  pub same-memory : replayed (journalBytes w n es) m .memory ≡ readList list m .memory
+  same-memory = sym (SameEdits.same-edits w n es m fit journal list short alike .memory)
 
-  pub same-number : n < 10000 → AllBelow 10000 es → replayed (journalBytes n es) m .answer .number ≡ readList list m .answer .number
-  same-number h k = ap (λ (r : Reading). r .number) (sym (SameEdits.same-edits n es m fit journal list short alike .answer (h, k)))
+  pub same-number : n < 10000 → AllBelow 10000 es → replayed (journalBytes w n es) m .answer .number ≡ readList list m .answer .number
+  same-number h k = ap (λ (r : Reading). r .number) (sym (SameEdits.same-edits w n es m fit journal list short alike .answer (h, k)))
 
-  pub same-place : n < 10000 → AllBelow 10000 es → replayed (journalBytes n es) m .answer .field ≡ readList list m .answer .row
-  same-place h k = ap (λ (r : Reading). r .row) (sym (SameEdits.same-edits n es m fit journal list short alike .answer (h, k)))
+  pub same-place : n < 10000 → AllBelow 10000 es → replayed (journalBytes w n es) m .answer .field ≡ readList list m .answer .row
+  same-place h k = ap (λ (r : Reading). r .row) (sym (SameEdits.same-edits w n es m fit journal list short alike .answer (h, k)))
 
 -- and those say `N n` and the entries in turn: `+ a b`, `- a b`, `K b r`
 pub list-rows : (n : ℕ) (es : List Entry) → n < 10000 → AllBelow 10000 es → rowsOf (listText n es) ≡ Banks n ∷ map entryRow es

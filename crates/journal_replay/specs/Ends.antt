@@ -9,7 +9,7 @@ use Rattle.rule.specs.declared.Entry.{Entry}
 use Rattle.rule.specs.declared.Entry.the-variants.{Clash, Rank}
 use Rattle.memory.specs.Plan.{PlanOf}
 use Rattle.memory.specs.Memory.{Memory}
-use Rattle.journal_fields.specs.Fields.{firstSize, entrySize, banksIn, fields}
+use Rattle.journal_fields.specs.Fields.{firstSize, entrySize, banksIn, numbered, fields}
 use Rattle.journal_replay.specs.Replay.{ReplayResult, replayResult, replayAnswer, replayed}
 
 -- the clashes and ranks after an entry to which no refusal is due: an edit of a clash, or the rank of a bank
@@ -29,6 +29,10 @@ afterFirst i bytes = afterEntries (take i (fields (drop firstSize bytes) .entrie
 abbrev pub endOf : List ℕ → Graph
 endOf bytes = afterEntries (fields (drop firstSize bytes) .entries) (empty (banksIn bytes))
 
+-- the bytes of a journal's first field and of the i entries after it
+abbrev pub sizeOf : ℕ → List ℕ → ℕ
+sizeOf i bytes = firstSize + entrySize (numbered (drop firstSize bytes)) * i
+
 -- memory holds the plan of these clashes and ranks after the replay
 abbrev pub Leaves : Graph → ReplayResult → Type 0
 Leaves G r = PlanOf G (r .memory .slices) (r .memory .tally)
@@ -38,7 +42,7 @@ Leaves G r = PlanOf G (r .memory .slices) (r .memory .tally)
 pub record RefusedLater (bytes : List ℕ) (m : Memory) : Type 0 where
   pub made : ℕ
   pub field : replayed bytes m .answer .field ≡ 2 + made
-  pub same : replayed (take (firstSize + entrySize * made) bytes) m ≡ replayResult (replayAnswer 0 0 0) (replayed bytes m .memory)
+  pub same : replayed (take (sizeOf made bytes) bytes) m ≡ replayResult (replayAnswer 0 0 0) (replayed bytes m .memory)
   pub plan : Leaves (afterFirst made bytes) (replayed bytes m)
 
 -- a replay that differs only in the bytes left over, which are so many if it is not refused

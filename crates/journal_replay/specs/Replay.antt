@@ -1,5 +1,5 @@
--- What a replay answers and leaves, of what it is lent (02, N2 and N6).
-use mathlib.Core.Bool.{Bool, true, false, cond}
+-- What a replay answers and leaves, of what it is lent (02, N2, N6 and N10).
+use mathlib.Core.Bool.{cond}
 use mathlib.Core.List.{List, [], _∷_}
 use Prim.Native.Nat.{ℕ, zero, suc}
 use lib.Dec.{leb, eqb}
@@ -23,10 +23,10 @@ replayResult answer memory = record { answer = answer; memory = memory }
 abbrev pub replayAnswer : ℕ → ℕ → ℕ → Replayed
 replayAnswer number field leftOver = record { number = number; field = field; «left_over» = leftOver }
 
--- after the last entry: a wrong field i gets 14, else the bytes left over are reported
-unfoldable pub ended : Bool → ℕ → ℕ → Memory → ReplayResult
-ended true i leftOver m = replayResult (replayAnswer 14 i 0) m
-ended false i leftOver m = replayResult (replayAnswer 0 0 leftOver) m
+-- after the last entry: field i gets its number, 14 or 21, or the bytes left over are reported
+unfoldable pub ended : ℕ → ℕ → ℕ → Memory → ReplayResult
+ended zero i leftOver m = replayResult (replayAnswer 0 0 leftOver) m
+ended (suc c) i leftOver m = replayResult (replayAnswer (suc c) i 0) m
 
 -- by the number of field i: on to the rest, or the refusal
 unfoldable pub enterBy : ℕ → ℕ → State → ReplayResult → ReplayResult
@@ -34,7 +34,7 @@ enterBy zero i s rest = rest
 enterBy (suc c) i s rest = replayResult (replayAnswer (suc c) i 0) (s .memory)
 
 -- the entries from field i on, in turn, and what ends them: a rank gets 18 after an edit
-unfoldable pub enterAll : ℕ → List Entry → Bool → ℕ → State → ReplayResult
+unfoldable pub enterAll : ℕ → List Entry → ℕ → ℕ → State → ReplayResult
 enterAll i [] wrong leftOver s = ended wrong i leftOver (s .memory)
 enterAll i (e ∷ es) wrong leftOver s = enterBy (entryNumber e s) i s (enterAll (suc i) es wrong leftOver (enter e s))
 

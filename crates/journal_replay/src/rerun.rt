@@ -1,14 +1,17 @@
 // The call that replays a journal.
-use journal_fields::ENTRY_BYTES;
 use journal_fields::FIRST_BYTES;
 use journal_fields::Field;
+use journal_fields::entry_bytes;
 use journal_fields::head_number;
+use journal_fields::is_numbered;
 use journal_fields::number_at;
 use journal_fields::read_field;
+use journal_fields::refusal;
 use memory::Tally;
 use planner::begun_by;
 use planner::enter_held;
 use planner::open_all;
+use rule::wide;
 ghost use mathlib.Core.Path.{_≡_};
 ghost use Prim.Native.Nat.{_<_};
 ghost use lib.ListN.{length};
@@ -41,9 +44,10 @@ pub struct Entered {
     pub tally: Tally,
 }
 
-// Reads the field that starts at `start`, which is field `field`, and enters its entry.
+// Reads the field that starts at `start`, which is field `field`, and enters its entry. The first field has no entry: entries count from 1.
 fn enter_field(
     journal: &[u8],
+    numbered: bool,
     start: usize,
     field: u16,
     neighbours: &mut [u16],
@@ -56,15 +60,17 @@ fn enter_field(
     tally: Tally,
     begun: bool,
 ) -> Entered
-    requires { ⌜ AsksField (now journal) start begun (given neighbours degrees waves counts ranks trail moved tally) ⌝ }
-    ensures { λ r. ⌜ EntersField (now (journal .entry)) start field begun
+    requires { ⌜ AsksField (now journal) numbered start field begun (given neighbours degrees waves counts ranks trail moved tally) ⌝ }
+    ensures { λ r. ⌜ EntersField (now (journal .entry)) numbered start field begun
         (before neighbours degrees waves counts ranks trail moved tally) r
         (after neighbours degrees waves counts ranks trail moved (r .tally)) ⌝ }
 {
-    let next = start + ENTRY_BYTES;
-    let Field::Whole(entry) = read_field(&journal[start..]) else {
+    let next = start + entry_bytes(numbered);
+    let number = wide(field) - 1;
+    let read = read_field(&journal[start..], numbered, number);
+    let Field::Whole(entry) = read else {
         return Entered {
-            number: 14,
+            number: refusal(read),
             field: field,
             begun: begun,
             next: next,
@@ -95,9 +101,9 @@ fn enter_field(
 }
 
 // The answer after the last field that was whole, which has this number, by the bytes that follow it.
-fn ended(rest: &[u8], number: u16, field: u16) -> Replayed
+fn ended(rest: &[u8], numbered: bool, number: u16, field: u16) -> Replayed
     requires { ⌜ (length (now rest) < 65536) × (field < 65535) ⌝ }
-    ensures { λ r. ⌜ r ≡ ending number field (now (rest .entry)) ⌝ }
+    ensures { λ r. ⌜ r ≡ ending numbered number field (now (rest .entry)) ⌝ }
 {
     if number != 0 {
         return Replayed {
@@ -107,7 +113,7 @@ fn ended(rest: &[u8], number: u16, field: u16) -> Replayed
         };
     }
     let bytes = rest.len() as u16;
-    let Field::Wrong = read_field(rest) else {
+    let Field::Wrong = read_field(rest, numbered, wide(field)) else {
         return Replayed {
             number: 0,
             field: 0,
@@ -139,6 +145,8 @@ fn enter_fields(
         (before neighbours degrees waves counts ranks trail moved tally) r
         (after neighbours degrees waves counts ranks trail moved (r .tally)) ⌝ }
 {
+    let numbered = is_numbered(&journal[first..]);
+    let size = entry_bytes(numbered);
     let mut last = Entered {
         number: 0,
         field: 1,
@@ -146,9 +154,10 @@ fn enter_fields(
         next: first,
         tally: tally,
     };
-    while last.number == 0 && ENTRY_BYTES <= journal.len() - last.next {
+    while last.number == 0 && size <= journal.len() - last.next {
         last = enter_field(
             journal,
+            numbered,
             last.next,
             last.field + 1,
             neighbours,
@@ -164,7 +173,7 @@ fn enter_fields(
     }
     let next = last.next;
     let after = last.tally;
-    let answer = ended(&journal[next..], last.number, last.field);
+    let answer = ended(&journal[next..], numbered, last.number, last.field);
     ReplayedPlan {
         answer: answer,
         tally: after,

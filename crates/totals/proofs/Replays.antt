@@ -1,5 +1,5 @@
 -- A replay that opens a plan: the clashes after its entries are the total that is counted of them.
-use mathlib.Core.Bool.{Bool, true, false}
+use mathlib.Core.Bool.{true}
 use mathlib.Core.List.{List, [], _∷_}
 use mathlib.Core.Path.{_≡_, refl, sym, ap, _∙_}
 use Prim.Native.Nat.{ℕ, zero, suc, _≤_}
@@ -47,16 +47,16 @@ by-number (suc c) i e es s h fits z rest f = record {
   late = λ n. omega arith;
 }
 
-at-end : (wrong : Bool) (i more : ℕ) (s : State) → Holding s → Entered i [] s (ended wrong i more (s .memory))
+at-end : (wrong i more : ℕ) (s : State) → Holding s → Entered i [] s (ended wrong i more (s .memory))
 unfolding ended entriesTotal before
-at-end true i more s h = record {
-  clashes = tally-clashes h ∙ ap (λ (l : List Entry). entriesTotal l (clashCount (s .graph))) (sym (before-none i 13 []));
+at-end (suc c) i more s h = record {
+  clashes = tally-clashes h ∙ ap (λ (l : List Entry). entriesTotal l (clashCount (s .graph))) (sym (before-none i c []));
   banks = tally-banks h;
   late = λ n. omega arith;
 }
-at-end false i more s h = record { clashes = tally-clashes h; banks = tally-banks h; late = λ z. absurd (z refl) }
+at-end zero i more s h = record { clashes = tally-clashes h; banks = tally-banks h; late = λ z. absurd (z refl) }
 
-entered : (i : ℕ) (es : List Entry) (wrong : Bool) (more : ℕ) (s : State) → Holding s → RanksFit es
+entered : (i : ℕ) (es : List Entry) (wrong more : ℕ) (s : State) → Holding s → RanksFit es
     → Entered i es s (enterAll i es wrong more s)
 unfolding enterAll
 entered i [] wrong more s h fit = at-end wrong i more s h

@@ -14,9 +14,39 @@ pub const ADD: u8 = 0x2B;
 pub const STRIKE: u8 = 0x2D;
 pub const RANK: u8 = 0x4B;
 
-/// The bytes of the first field, and of every other.
+/// The bytes of the first field.
 pub const FIRST_BYTES: usize = 5;
-pub const ENTRY_BYTES: usize = 7;
+
+/// The form of a journal's fields after the first: with an edit number in front of the value, or
+/// without, the number being implied by the place.
+#[derive(Clone, Copy, Debug, PartialEq, Eq)]
+pub enum Form {
+    Plain,
+    Numbered,
+}
+
+pub const FORMS: [Form; 2] = [Form::Plain, Form::Numbered];
+
+impl Form {
+    /// The length of a value.
+    pub fn value_bytes(self) -> usize {
+        match self {
+            Form::Plain => 4,
+            Form::Numbered => 8,
+        }
+    }
+
+    /// The bytes of a field after the first.
+    pub fn entry_bytes(self) -> usize {
+        3 + self.value_bytes()
+    }
+
+    /// The form that has values of this length.
+    fn of_length(length: u16) -> Option<Form> {
+        let fits = |form: &Form| form.value_bytes() == usize::from(length);
+        FORMS.into_iter().find(fits)
+    }
+}
 
 /// An edit with its two banks in the order given.
 #[derive(Clone, Copy, Debug, PartialEq, Eq)]
@@ -64,29 +94,38 @@ pub struct ReplayAnswer {
     pub left: usize,
 }
 
-/// The bytes of a field: tag, length of the value, value, low byte first.
-fn tagged(tag: u8, value: &[u16]) -> Vec<u8> {
-    let length = cell(2 * value.len());
-    let words = [&[length], value].concat();
-    let bytes = words.iter().flat_map(|word| word.to_le_bytes());
-    std::iter::once(tag).chain(bytes).collect()
+/// The bytes of a field: tag, length of the value, value.
+fn tagged(tag: u8, value: &[u8]) -> Vec<u8> {
+    let [low, high] = cell(value.len()).to_le_bytes();
+    [&[tag, low, high], value].concat()
 }
 
-/// The bytes of a field after the first.
-pub fn field_bytes(field: impl Into<Field>) -> Vec<u8> {
-    match field.into() {
+/// The bytes of a field after the first, with this edit number if it has one.
+pub fn field_bytes(form: Form, number: u32, field: impl Into<Field>) -> Vec<u8> {
+    let (tag, a, b) = match field.into() {
         Field::Edit(Entry { edit, a, b }) => match edit {
-            Edit::Add => tagged(ADD, &[a, b]),
-            Edit::Strike => tagged(STRIKE, &[a, b]),
+            Edit::Add => (ADD, a, b),
+            Edit::Strike => (STRIKE, a, b),
         },
-        Field::Rank { bank, rank } => tagged(RANK, &[bank, rank]),
+        Field::Rank { bank, rank } => (RANK, bank, rank),
+    };
+    let pair = [a.to_le_bytes(), b.to_le_bytes()].concat();
+    match form {
+        Form::Plain => tagged(tag, &pair),
+        Form::Numbered => tagged(tag, &[&number.to_le_bytes()[..], &pair].concat()),
     }
 }
 
+/// The fields after the first, counted from 1.
+pub fn fields_of<F: Copy + Into<Field>>(form: Form, fields: &[F]) -> Vec<u8> {
+    let numbered = (1..).zip(fields);
+    let bytes = numbered.flat_map(|(number, &field)| field_bytes(form, number, field));
+    bytes.collect()
+}
+
 /// The journal of n banks and the given fields after the first.
-pub fn journal_of<F: Copy + Into<Field>>(n: u16, fields: &[F]) -> Vec<u8> {
-    let fields = fields.iter().flat_map(|&field| field_bytes(field));
-    tagged(FIRST, &[n]).into_iter().chain(fields).collect()
+pub fn journal_of<F: Copy + Into<Field>>(form: Form, n: u16, fields: &[F]) -> Vec<u8> {
+    [tagged(FIRST, &n.to_le_bytes()), fields_of(form, fields)].concat()
 }
 
 /// A new journal of a graph: the ranks other than 0, ascending by bank, then its clashes as adds,
@@ -112,7 +151,7 @@ pub fn started(graph: &Graph) -> Vec<u8> {
     let banks = 0..graph.banks();
     let ranks = banks.clone().filter(|&b| graph.rank(b) != 0).map(rank);
     let fields: Vec<Field> = ranks.chain(banks.flat_map(above).map(add)).collect();
-    journal_of(cell(graph.banks()), &fields)
+    journal_of(Form::Numbered, cell(graph.banks()), &fields)
 }
 
 /// The bank count of the first field and the bytes after it, if that field is whole and right.
@@ -123,64 +162,104 @@ fn split_first(journal: &[u8]) -> Option<(u16, &[u8])> {
     }
 }
 
-/// What ends the fields of a journal: a wrong tag or length or a rank above 9,999, or so many bytes
-/// left over.
+/// What ends the fields of a journal: a wrong tag or length or a rank above 9,999, a number that is
+/// not the next, or so many bytes left over.
 #[derive(Clone, Copy, Debug, PartialEq, Eq)]
 enum End {
     Wrong,
+    Misnumbered,
     LeftOver(usize),
 }
 
-/// The fields in the bytes after the first one, and what ends them.
-fn fields(mut bytes: &[u8]) -> (Vec<Field>, End) {
-    let mut fields = Vec::new();
-    loop {
-        match split_field(bytes) {
-            Ok((field, rest)) => {
-                fields.push(field);
-                bytes = rest;
+/// The fields after the first one, their form once there is one, and what ends them.
+struct Fields {
+    fields: Vec<Field>,
+    form: Option<Form>,
+    end: End,
+}
+
+impl Fields {
+    fn read(mut bytes: &[u8]) -> Fields {
+        let (mut fields, mut form, mut last) = (Vec::new(), None, 0);
+        loop {
+            match split_field(bytes, form, last) {
+                Ok((field, found, rest)) => {
+                    fields.push(field);
+                    form = Some(found);
+                    last += 1;
+                    bytes = rest;
+                }
+                Err(end) => return Fields { fields, form, end },
             }
-            Err(end) => return (fields, end),
         }
+    }
+
+    /// The form and the edit number of the field that comes next.
+    fn next(&self) -> (Form, u32) {
+        let form = self.form.unwrap_or(Form::Numbered);
+        (form, self.fields.len() as u32 + 1)
     }
 }
 
-/// The field at the front of the bytes, and the bytes after it.
-fn split_field(bytes: &[u8]) -> Result<(Field, &[u8]), End> {
-    let (tag, value) = match bytes {
+/// The field at the front of the bytes, its form and the bytes after it. The fields before had this
+/// form, if there are any, and the last of them this number.
+fn split_field(bytes: &[u8], form: Option<Form>, last: u32) -> Result<(Field, Form, &[u8]), End> {
+    let (tag, length, value) = match bytes {
         [] | [_] | [_, _] => return Err(End::LeftOver(bytes.len())),
-        [tag @ (ADD | STRIKE | RANK), 4, 0, value @ ..] => (*tag, value),
+        [tag @ (ADD | STRIKE | RANK), low, high, value @ ..] => {
+            (*tag, u16::from_le_bytes([*low, *high]), value)
+        }
         _ => return Err(End::Wrong),
     };
-    let (a, b, rest) = match value {
-        [a, a_high, b, b_high, rest @ ..] => {
-            let a = u16::from_le_bytes([*a, *a_high]);
-            let b = u16::from_le_bytes([*b, *b_high]);
-            (a, b, rest)
-        }
-        _ => return Err(End::LeftOver(bytes.len())),
-    };
-    let edit = |edit| Ok((Field::Edit(Entry { edit, a, b }), rest));
-    match tag {
-        ADD => edit(Edit::Add),
-        STRIKE => edit(Edit::Strike),
-        _ if usize::from(b) > MAX_RANK => Err(End::Wrong),
-        _ => Ok((Field::Rank { bank: a, rank: b }, rest)),
+    let found = Form::of_length(length).ok_or(End::Wrong)?;
+    if form.is_some_and(|form| form != found) {
+        return Err(End::Wrong);
     }
+    if value.len() < found.value_bytes() {
+        return Err(End::LeftOver(bytes.len()));
+    }
+    let (value, rest) = value.split_at(found.value_bytes());
+    let (number, pair) = value.split_at(value.len() - 4);
+    let a = u16::from_le_bytes([pair[0], pair[1]]);
+    let b = u16::from_le_bytes([pair[2], pair[3]]);
+    if tag == RANK && usize::from(b) > MAX_RANK {
+        return Err(End::Wrong);
+    }
+    let number = number.try_into().map(u32::from_le_bytes);
+    if number.is_ok_and(|number| u64::from(number) != u64::from(last) + 1) {
+        return Err(End::Misnumbered);
+    }
+    let field = match tag {
+        ADD => Field::Edit(Entry {
+            edit: Edit::Add,
+            a,
+            b,
+        }),
+        STRIKE => Field::Edit(Entry {
+            edit: Edit::Strike,
+            a,
+            b,
+        }),
+        _ => Field::Rank { bank: a, rank: b },
+    };
+    Ok((field, found, rest))
 }
 
 /// The questions on the fields so far of a journal in which an edit is recorded, field by field: is
-/// it whole and right, and does a rank come before the first edit?
-fn fields_so_far(rest: &[u8]) -> Result<(), u16> {
-    let (fields, end) = fields(rest);
+/// it whole and right, is its number the next, and does a rank come before the first edit? The
+/// answer is the form and the number of the next field.
+fn fields_so_far(rest: &[u8]) -> Result<(Form, u32), u16> {
+    let read = Fields::read(rest);
     let mut begun = false;
-    for field in fields {
+    for field in &read.fields {
         match field {
             Field::Edit(_) => begun = true,
             Field::Rank { .. } => ask(!begun, RANK_AFTER_EDIT)?,
         }
     }
-    ask(end == End::LeftOver(0), NOT_A_FIELD)
+    ask(read.end != End::Misnumbered, WRONG_NUMBER)?;
+    ask(read.end == End::LeftOver(0), NOT_A_FIELD)?;
+    Ok(read.next())
 }
 
 /// Whether a journal of so many bytes is within the slice and the limit.
@@ -212,15 +291,15 @@ impl Memory {
     /// slice and has so many bytes.
     pub fn record(&mut self, entry: Entry, slice: &mut [u8], length: usize) -> RecordAnswer {
         match self.record_questions(entry, slice, length) {
-            Ok((old, new)) => {
+            Ok((old, new, field)) => {
                 let (a, b) = (usize::from(entry.a), usize::from(entry.b));
                 let answer = self.store_edit(entry.edit, a, b, &old, &new);
-                slice[length..][..ENTRY_BYTES].copy_from_slice(&field_bytes(entry));
+                slice[length..][..field.len()].copy_from_slice(&field);
                 RecordAnswer {
                     number: answer.number,
                     moved: answer.moved,
                     trail: answer.trail,
-                    length: length + ENTRY_BYTES,
+                    length: length + field.len(),
                 }
             }
             Err(number) => RecordAnswer {
@@ -230,22 +309,24 @@ impl Memory {
         }
     }
 
-    /// All questions of an edit that is recorded. The answer is the old and the new graph.
+    /// All questions of an edit that is recorded. The answer is the old and the new graph, and the
+    /// bytes of the field.
     fn record_questions(
         &self,
         entry: Entry,
         slice: &[u8],
         length: usize,
-    ) -> Result<(Graph, Graph), u16> {
+    ) -> Result<(Graph, Graph, Vec<u8>), u16> {
         ask(length <= MAX_BYTES, LIST_TOO_LONG)?;
         let journal = slice.get(..length).ok_or(NOT_A_FIRST_FIELD)?;
         let (_, rest) = split_first(journal).ok_or(NOT_A_FIRST_FIELD)?;
         let old = self.memory_questions()?;
-        fields_so_far(rest)?;
+        let (form, number) = fields_so_far(rest)?;
         let new = clash_questions(entry.edit, entry.a.into(), entry.b.into(), &old)?;
         cap_question(&new, self.tally.cap)?;
-        ask(has_space(length + ENTRY_BYTES, slice), NO_SPACE)?;
-        Ok((old, new))
+        let field = field_bytes(form, number, entry);
+        ask(has_space(length + field.len(), slice), NO_SPACE)?;
+        Ok((old, new, field))
     }
 
     /// Replay a journal: open the plan, then set the fields' ranks and make their edits in turn.
@@ -286,7 +367,7 @@ impl Memory {
 
     /// The fields after the first, which is field 1. The answer is how many bytes were left over.
     fn later_fields(&mut self, rest: &[u8], pass: &mut Pass) -> Result<usize, (u16, usize)> {
-        let (fields, end) = fields(rest);
+        let Fields { fields, end, .. } = Fields::read(rest);
         for (place, &field) in (2..).zip(&fields) {
             let made = match field {
                 Field::Edit(Entry { edit, a, b }) => {
@@ -298,6 +379,7 @@ impl Memory {
         }
         match end {
             End::Wrong => Err((NOT_A_FIELD, fields.len() + 2)),
+            End::Misnumbered => Err((WRONG_NUMBER, fields.len() + 2)),
             End::LeftOver(left) => Ok(left),
         }
     }

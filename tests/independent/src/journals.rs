@@ -2,7 +2,7 @@
 //! or damaged.
 
 use crate::journal::{
-    field_bytes, journal_of, Entry, Field, ADD, ENTRY_BYTES, FIRST, FIRST_BYTES, RANK, STRIKE,
+    field_bytes, journal_of, Entry, Field, Form, ADD, FIRST, FIRST_BYTES, FORMS, RANK, STRIKE,
 };
 use crate::plan::{cell, MAX_DEGREE, MAX_RANK};
 use crate::random::Random;
@@ -73,7 +73,7 @@ pub fn same_list<F: Copy + Into<Field>>(n: u16, fields: &[F]) -> Vec<u8> {
     format!("N {n}{rows}").into_bytes()
 }
 
-/// A random journal, damaged in two of three cases.
+/// A random journal of either form, damaged in two of three cases.
 pub fn random_journal(random: &mut Random) -> Vec<u8> {
     let (n, draws) = match random.below(12) {
         0 => (random.between(0, 2), 3),
@@ -87,11 +87,45 @@ pub fn random_journal(random: &mut Random) -> Vec<u8> {
     } else {
         drawn_fields(random, n, hot, draws)
     };
-    let mut journal = journal_of(cell(n), &fields);
+    let form = *random.pick(&FORMS);
+    let mut journal = journal_of(form, cell(n), &fields);
     for _ in 0..random.below(3) {
-        damage(random, n, &mut journal);
+        damage(random, n, form, &mut journal);
     }
     journal
+}
+
+/// Numbers the fields of a journal anew, from 1.
+pub fn renumber(form: Form, journal: &mut [u8]) {
+    if form == Form::Numbered && journal.len() > FIRST_BYTES {
+        let fields = journal[FIRST_BYTES..].chunks_exact_mut(form.entry_bytes());
+        for (number, field) in (1u32..).zip(fields) {
+            field[3..7].copy_from_slice(&number.to_le_bytes());
+        }
+    }
+}
+
+/// Another number than the right one: off by one, zero, with a high bit or byte more, its bytes the
+/// other way round, or any.
+pub fn wrong_number(random: &mut Random, right: u32) -> u32 {
+    let any = random.draw() as u32;
+    let wrong = *random.pick(&[
+        right + 1,
+        right - 1,
+        0,
+        right + 256,
+        right + 65_536,
+        right | 1 << 31,
+        right.wrapping_neg(),
+        right.swap_bytes(),
+        u32::MAX,
+        any,
+    ]);
+    if wrong == right {
+        right + 1
+    } else {
+        wrong
+    }
 }
 
 /// Ranks of n banks, and 24 clashes of one bank, of which the last is refused. There are more than 24
@@ -110,28 +144,42 @@ fn overfull(random: &mut Random, n: usize) -> Vec<Field> {
     fields
 }
 
-/// One damage: a stray field, a byte, a tag, a length, a rank, a bank count or a cut.
-fn damage(random: &mut Random, n: usize, journal: &mut Vec<u8>) {
-    let fields = journal.len().saturating_sub(FIRST_BYTES) / ENTRY_BYTES;
-    let start = FIRST_BYTES + ENTRY_BYTES * random.below(fields + 1);
-    if journal.len() < start + ENTRY_BYTES || random.one_in(3) {
-        let stray = field_bytes(stray_field(random, n));
+/// One damage: a stray field, a field less, a byte, a tag, a length, a number, a rank, a bank count or
+/// a cut. Where fields come or go the others are numbered anew in two of three cases.
+fn damage(random: &mut Random, n: usize, form: Form, journal: &mut Vec<u8>) {
+    let size = form.entry_bytes();
+    let fields = journal.len().saturating_sub(FIRST_BYTES) / size;
+    let place = random.below(fields + 1);
+    let start = FIRST_BYTES + size * place;
+    let number = place as u32 + 1;
+    if journal.len() < start + size || random.one_in(3) {
+        let stray = field_bytes(form, number, stray_field(random, n));
         let start = start.min(journal.len());
         journal.splice(start..start, stray);
+        if !random.one_in(3) {
+            renumber(form, journal);
+        }
         return;
     }
-    match random.below(8) {
+    match random.below(10) {
         0 => journal[start] = *random.pick(&[ADD, STRIKE, RANK, FIRST, b'D']),
-        1 => journal[start + 1] = *random.pick(&[2, 3, 5, 8]),
+        1 => journal[start + 1] = *random.pick(&[2, 3, 4, 5, 8]),
         2 => journal[start + 2] = random.byte(),
-        3 => journal.truncate(start + random.below(ENTRY_BYTES)),
+        3 => journal.truncate(start + random.below(size)),
         4 => {
-            journal.drain(start..start + ENTRY_BYTES);
+            journal.drain(start..start + size);
+            if !random.one_in(3) {
+                renumber(form, journal);
+            }
         }
         5 => journal[random.below(FIRST_BYTES)] = random.byte(),
         6 => {
             let rank = stray_rank(random).to_le_bytes();
-            journal[start + 5..start + 7].copy_from_slice(&rank);
+            journal[start + size - 2..start + size].copy_from_slice(&rank);
+        }
+        7 if form == Form::Numbered => {
+            let number = wrong_number(random, number).to_le_bytes();
+            journal[start + 3..start + 7].copy_from_slice(&number);
         }
         _ => {
             let place = random.below(journal.len());

@@ -21,6 +21,7 @@ pub const NOTHING_KEPT: u16 = 17;
 pub const RANK_AFTER_EDIT: u16 = 18;
 pub const CAP_OUT_OF_SPAN: u16 = 19;
 pub const CAP_PASSED: u16 = 20;
+pub const WRONG_NUMBER: u16 = 21;
 
 /// A question: the given number if the answer is no.
 pub fn ask(yes: bool, number: u16) -> Result<(), u16> {

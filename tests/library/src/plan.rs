@@ -33,9 +33,9 @@ pub(crate) const MAX_BANKS: u16 = 1024;
 /// banks, 17 for its foot.
 const SHEET_BYTES: usize = 4084;
 
-/// The most bytes of a journal, and the bytes of the field of one edit.
+/// The most bytes of a journal, and of the field of one edit.
 const JOURNAL_BYTES: usize = 60_000;
-const ENTRY_BYTES: usize = 7;
+const ENTRY_BYTES: usize = 11;
 
 /// The bytes of the longest poster: four pages.
 const POSTER_BYTES: usize = 8200;

@@ -7,7 +7,7 @@ use crate::shelf::{comes_back, keep, shelf_for, CLOSE, MORNING, NOON};
 use crate::support::{any_graph, memory_of, opened, random_graph, table, waves_by_lookup};
 use independent::calls::EditAnswer;
 use independent::graph::Graph;
-use independent::journal::{journal_of, Entry};
+use independent::journal::{journal_of, Entry, Form};
 use independent::journals::drawn_entries;
 use independent::memory::Memory;
 use independent::random::Random;
@@ -245,21 +245,22 @@ fn the_cap_is_asked_after_the_degrees() {
 fn the_cap_is_asked_before_the_space() {
     let mut memory = opened(6, &M8);
     cap_set(&mut memory, 2);
-    let journal = journal_of(6, &M8.map(|(a, b)| add(a, b)));
+    let journal = journal_of(Form::Numbered, 6, &M8.map(|(a, b)| add(a, b)));
     let length = journal.len();
-    let spare = [&journal[..], &[0xAA; 9]].concat();
-    for slice in [&journal[..], &spare[..length + 6], &spare] {
+    let field = Form::Numbered.entry_bytes();
+    let spare = [&journal[..], &[0xAA; 13]].concat();
+    for slice in [&journal[..], &spare[..length + field - 1], &spare] {
         record_refused(&memory, strike(2, 5), slice, length, 20);
         record_refused(&memory, add(0, 3), slice, length, 20);
         record_refused(&memory, add(0, 0), slice, length, 5);
         record_refused(&memory, strike(2, 5), slice, length - 1, 14);
     }
-    record_refused(&memory, add(4, 5), &spare[..length + 6], length, 15);
+    record_refused(&memory, add(4, 5), &spare[..length + field - 1], length, 15);
     cap_set(&mut memory, 3);
     record_refused(&memory, strike(2, 5), &journal, length, 15);
     let mut slice = spare;
     let answer = memory.record(strike(2, 5), &mut slice, length);
-    assert_eq!((answer.number, answer.length), (0, length + 7));
+    assert_eq!((answer.number, answer.length), (0, length + field));
     assert_eq!(memory.tally.cap, 3);
 }
 
@@ -292,9 +293,14 @@ fn lists_and_replays_leave_cap_24() {
     let answer = by_late_list.read_list(&[&list[..], b"\n+ 3 2"].concat());
     assert_eq!((answer.number, answer.row), (6, 6));
     let mut by_replay = capped.clone();
-    assert_eq!(by_replay.replay(&journal_of(4, &all)).number, 0);
+    assert_eq!(
+        by_replay
+            .replay(&journal_of(Form::Numbered, 4, &all))
+            .number,
+        0
+    );
     let mut by_late_replay = capped.clone();
-    let answer = by_late_replay.replay(&journal_of(4, &late));
+    let answer = by_late_replay.replay(&journal_of(Form::Numbered, 4, &late));
     assert_eq!((answer.number, answer.field), (6, 6));
     for memory in [&by_list, &by_late_list, &by_replay, &by_late_replay] {
         assert_eq!((memory.tally.waves, memory.tally.cap), (3, 24));
@@ -379,8 +385,8 @@ fn a_new_journal_has_no_cap() {
     };
     for cap in 2..=24 {
         cap_set(&mut memory, cap);
-        let mut slice = vec![0; 60];
+        let mut slice = vec![0; 100];
         let length = memory.start_journal(&mut slice).length;
-        assert_eq!(slice[..length], journal_of(6, &entries));
+        assert_eq!(slice[..length], journal_of(Form::Numbered, 6, &entries));
     }
 }

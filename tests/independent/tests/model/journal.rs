@@ -3,7 +3,9 @@
 
 use crate::support::{any_graph, memory_of, opened};
 use independent::graph::Graph;
-use independent::journal::{field_bytes, journal_of, Entry, Field, RecordAnswer, ReplayAnswer};
+use independent::journal::{
+    field_bytes, journal_of, Entry, Field, Form, RecordAnswer, ReplayAnswer, FORMS,
+};
 use independent::journals::{
     drawn_entries, drawn_fields, drawn_rank_fields, random_journal, same_list,
 };
@@ -13,9 +15,24 @@ use independent::reach::Edit;
 use std::collections::BTreeSet;
 
 /// Four banks, 1 and 3 added, 2 and 0 added, 3 and 1 struck.
-pub const JOURNAL: [u8; 26] = [
+const PLAIN: [u8; 26] = [
     0x4E, 2, 0, 4, 0, 0x2B, 4, 0, 1, 0, 3, 0, 0x2B, 4, 0, 2, 0, 0, 0, 0x2D, 4, 0, 3, 0, 1, 0,
 ];
+
+/// The same, numbered.
+const NUMBERED: [u8; 38] = [
+    0x4E, 2, 0, 4, 0, 0x2B, 8, 0, 1, 0, 0, 0, 1, 0, 3, 0, 0x2B, 8, 0, 2, 0, 0, 0, 2, 0, 0, 0, 0x2D,
+    8, 0, 3, 0, 0, 0, 3, 0, 1, 0,
+];
+
+/// The same in a form, and where its fields end.
+pub fn sample(form: Form) -> (&'static [u8], impl Fn(usize) -> usize) {
+    let journal = match form {
+        Form::Plain => &PLAIN[..],
+        Form::Numbered => &NUMBERED,
+    };
+    (journal, move |fields| 5 + fields * form.entry_bytes())
+}
 
 pub fn add(a: u16, b: u16) -> Entry {
     let edit = Edit::Add;
@@ -100,9 +117,16 @@ pub fn record_refused(memory: &Memory, entry: Entry, journal: &[u8], length: usi
 #[test]
 fn the_bytes_of_a_journal() {
     let entries = [add(1, 3), add(2, 0), strike(3, 1)];
-    assert_eq!(journal_of(4, &entries), JOURNAL);
-    let wide = journal_of(1024, &[strike(300, 1023)]);
-    assert_eq!(wide, [0x4E, 2, 0, 0, 4, 0x2D, 4, 0, 44, 1, 255, 3]);
+    for form in FORMS {
+        assert_eq!(journal_of(form, 4, &entries), sample(form).0);
+    }
+    let wide = |form| journal_of(form, 1024, &[strike(300, 1023)]);
+    let plain = [0x4E, 2, 0, 0, 4, 0x2D, 4, 0, 44, 1, 255, 3];
+    let numbered = [0x4E, 2, 0, 0, 4, 0x2D, 8, 0, 1, 0, 0, 0, 44, 1, 255, 3];
+    assert_eq!(wide(Form::Plain), plain);
+    assert_eq!(wide(Form::Numbered), numbered);
+    let late = field_bytes(Form::Numbered, 0x0403_0201, add(5, 6));
+    assert_eq!(late, [0x2B, 8, 0, 1, 2, 3, 4, 5, 0, 6, 0]);
 }
 
 /// 300 is the bytes 44 and 1, the low one first.
@@ -110,25 +134,25 @@ fn the_bytes_of_a_journal() {
 fn a_journal_and_the_list_of_the_same_edits() {
     let entries = [add(300, 1), strike(1, 300)];
     let fields = [0x2B, 4, 0, 44, 1, 1, 0, 0x2D, 4, 0, 1, 0, 44, 1];
-    assert_eq!(journal_of(1024, &entries)[5..], fields);
+    assert_eq!(journal_of(Form::Plain, 1024, &entries)[5..], fields);
     assert_eq!(same_list(1024, &entries), b"N 1024\n+ 300 1\n- 1 300");
 }
 
 #[test]
 fn a_new_journal_lists_the_lowest_pair_first() {
     let memory = opened(4, &[(3, 1), (2, 0), (0, 1)]);
-    let mut slice = [0xAA; 30];
+    let mut slice = [0xAA; 42];
     let answer = memory.start_journal(&mut slice);
-    assert_eq!((answer.number, answer.length), (0, 26));
-    let wanted = journal_of(4, &[add(0, 1), add(0, 2), add(1, 3)]);
-    assert_eq!(slice[..26], wanted);
-    assert_eq!(slice[26..], [0xAA; 4]);
+    assert_eq!((answer.number, answer.length), (0, 38));
+    let wanted = journal_of(Form::Numbered, 4, &[add(0, 1), add(0, 2), add(1, 3)]);
+    assert_eq!(slice[..38], wanted);
+    assert_eq!(slice[38..], [0xAA; 4]);
 }
 
 #[test]
 fn recording_writes_after_the_last_field() {
     let mut memory = opened(4, &[]);
-    let mut slice = [0xAA; 30];
+    let mut slice = [0xAA; 42];
     let mut length = memory.start_journal(&mut slice).length;
     for entry in [add(1, 3), add(2, 0), strike(3, 1)] {
         let mut beside = memory.clone();
@@ -137,36 +161,41 @@ fn recording_writes_after_the_last_field() {
             Edit::Strike => beside.strike(entry.a, entry.b),
         };
         let answer = memory.record(entry, &mut slice, length);
-        assert_eq!((answer.number, answer.length), (0, length + 7));
+        assert_eq!((answer.number, answer.length), (0, length + 11));
         assert_eq!((answer.moved, answer.trail), (edit.moved, edit.trail));
         assert_eq!(memory, beside);
         length = answer.length;
     }
-    assert_eq!(slice[..26], JOURNAL);
-    assert_eq!(slice[26..], [0xAA; 4]);
+    assert_eq!(slice[..38], NUMBERED);
+    assert_eq!(slice[38..], [0xAA; 4]);
 }
 
 #[test]
 fn a_replay_does_what_its_calls_do() {
-    let (answer, by_replay) = replay(&JOURNAL);
-    assert_eq!(answer, ReplayAnswer::default());
     let mut by_calls = Memory::filled(30, 999);
     by_calls.open(4);
     by_calls.add(1, 3);
     by_calls.add(2, 0);
     by_calls.strike(3, 1);
-    assert_eq!(by_replay, by_calls);
-    let (_, none) = replay(&JOURNAL[..5]);
+    for form in FORMS {
+        let (answer, by_replay) = replay(sample(form).0);
+        assert_eq!(answer, ReplayAnswer::default());
+        assert_eq!(by_replay, by_calls);
+    }
+    let (_, none) = replay(&PLAIN[..5]);
     assert_eq!(none.trail, [999; 30]);
     assert_eq!(none.moved, [999; 30]);
 }
 
 #[test]
 fn a_journal_cut_at_each_byte() {
-    for length in 0..=JOURNAL.len() {
-        match length.checked_sub(5) {
-            None => refused_at_once(&JOURNAL[..length], 13, 1),
-            Some(after) => left_over(&JOURNAL[..length], after % 7),
+    for form in FORMS {
+        let (journal, _) = sample(form);
+        for length in 0..=journal.len() {
+            match length.checked_sub(5) {
+                None => refused_at_once(&journal[..length], 13, 1),
+                Some(after) => left_over(&journal[..length], after % form.entry_bytes()),
+            }
         }
     }
 }
@@ -188,42 +217,77 @@ fn wrong_first_fields() {
 
 #[test]
 fn wrong_tags_and_lengths_of_later_fields() {
-    for value in [&[][..], &[1], &[1, 0, 2, 0], &[1, 0, 2, 0, 0x2B, 4]] {
-        for tag in (0..=255).filter(|tag| ![0x2B, 0x2D, 0x4B].contains(tag)) {
-            let wrong = [&JOURNAL[..], &[tag, 4, 0], value].concat();
-            refused_later(&wrong, 14, 5, 26);
-        }
-        for length in (0..=65_535u16).filter(|&length| length != 4).step_by(3) {
-            let [low, high] = length.to_le_bytes();
-            for tag in [0x2B, 0x2D, 0x4B] {
-                let wrong = [&JOURNAL[..12], &[tag, low, high], value].concat();
-                refused_later(&wrong, 14, 3, 12);
+    for form in FORMS {
+        let (journal, end) = sample(form);
+        let right = form.value_bytes() as u8;
+        for value in [
+            &[][..],
+            &[1],
+            &[1, 0, 2, 0],
+            &[1, 0, 2, 0, 0x2B, 4, 0, 0, 9],
+        ] {
+            for tag in (0..=255).filter(|tag| ![0x2B, 0x2D, 0x4B].contains(tag)) {
+                let wrong = [journal, &[tag, right, 0], value].concat();
+                refused_later(&wrong, 14, 5, end(3));
+            }
+            let lengths = (0..=65_535u16).filter(|&length| length != right.into());
+            for length in lengths.filter(|length| *length < 20 || length % 3 == 0) {
+                let [low, high] = length.to_le_bytes();
+                for tag in [0x2B, 0x2D, 0x4B] {
+                    let wrong = [&journal[..end(1)], &[tag, low, high], value].concat();
+                    refused_later(&wrong, 14, 3, end(1));
+                }
             }
         }
+        let first_again = [&journal[..end(1)], &journal[..5]].concat();
+        refused_later(&first_again, 14, 3, end(1));
     }
-    refused_later(&[&JOURNAL[..12], &JOURNAL[..5]].concat(), 14, 3, 12);
+}
+
+/// Of the first entry both lengths are right, and no others.
+#[test]
+fn lengths_of_the_first_entry() {
+    for length in (0..=65_535u16).filter(|&length| length != 4 && length != 8) {
+        let [low, high] = length.to_le_bytes();
+        let wrong = [&PLAIN[..5], &[0x2B, low, high, 1, 0, 2, 0]].concat();
+        refused_later(&wrong, 14, 2, 5);
+    }
 }
 
 #[test]
 fn fewer_than_three_bytes_or_a_short_value_are_left_over() {
-    for left in [
-        &[0x4E][..],
-        &[0, 0],
-        &[0x2B, 9],
-        &[0x2B, 4, 0],
-        &[0x2D, 4, 0, 9, 9, 9],
-        &[0x4B, 4, 0],
-        &[0x4B, 4, 0, 9, 9, 255],
-    ] {
-        left_over(&[&JOURNAL[..], left].concat(), left.len());
+    for form in FORMS {
+        let (journal, end) = sample(form);
+        let right = form.value_bytes() as u8;
+        let short = &vec![9; form.value_bytes() - 1][..];
+        let edit = &[&[0x2D, right, 0], short].concat()[..];
+        let rank = &[&[0x4B, right, 0], short].concat()[..];
+        for left in [
+            &[0x4E][..],
+            &[0, 0],
+            &[0x2B, 9],
+            &[0x2B, right, 0],
+            &[0x4B, right, 0],
+            &[0x4B, 12 - right],
+            edit,
+            rank,
+        ] {
+            for front in [journal, &journal[..end(0)]] {
+                left_over(&[front, left].concat(), left.len());
+            }
+        }
     }
 }
 
 #[test]
 fn numbers_and_fields_of_later_fields() {
     let refused = |entry: Entry, number| {
-        let journal = [&JOURNAL[..12], &field_bytes(entry), &JOURNAL[12..19]].concat();
-        refused_later(&journal, number, 3, 12);
+        for form in FORMS {
+            let (journal, end) = sample(form);
+            let field = field_bytes(form, 2, entry);
+            let journal = [&journal[..end(1)], &field, &journal[end(1)..end(2)]].concat();
+            refused_later(&journal, number, 3, end(1));
+        }
     };
     refused(add(4, 0), 4);
     refused(add(0, 65_535), 4);
@@ -235,59 +299,77 @@ fn numbers_and_fields_of_later_fields() {
     refused(strike(1, 2), 7);
     let mut star: Vec<Entry> = (1..24).map(|q| add(q, 0)).collect();
     star.push(add(24, 0));
-    let journal = journal_of(30, &star);
-    refused_later(&journal, 8, 25, journal.len() - 7);
+    for form in FORMS {
+        let journal = journal_of(form, 30, &star);
+        refused_later(&journal, 8, 25, journal.len() - form.entry_bytes());
+    }
 }
 
 #[test]
 fn the_first_no_of_a_recorded_edit_wins() {
     let plan = opened(4, &[(0, 1)]);
-    let journal = journal_of(4, &[add(0, 1)]);
-    let spare = [&journal[..], &[0xAA; 9]].concat();
     let mut too_many = plan.clone();
     too_many.tally.banks = 2000;
     let mut short = plan.clone();
     short.trail.pop();
     let mut no_plan = plan.clone();
     no_plan.waves[0] += 1;
-    for memory in [&plan, &too_many, &short, &no_plan] {
-        record_refused(memory, add(0, 9), &spare, 60_001, 9);
-        record_refused(memory, add(0, 9), &vec![0; 70_000], 60_001, 9);
-        record_refused(memory, add(0, 9), &spare, usize::MAX, 9);
-        record_refused(memory, add(0, 9), &spare, 60_000, 13);
-        record_refused(memory, add(0, 9), &spare, spare.len() + 1, 13);
-        record_refused(memory, add(0, 9), &spare, 4, 13);
-        record_refused(memory, add(0, 9), &[], 0, 13);
-        record_refused(memory, add(0, 9), &[&[0x2B], &spare[1..]].concat(), 12, 13);
-    }
-    for (memory, number) in [(&too_many, 1), (&short, 2), (&no_plan, 3), (&plan, 14)] {
-        for length in [6, 8, 11, 13, 14, 15, 21] {
-            record_refused(memory, add(0, 9), &spare, length, number);
+    for form in FORMS {
+        let journal = journal_of(form, 4, &[add(0, 1)]);
+        let (end, size) = (journal.len(), form.entry_bytes());
+        let spare = [&journal[..], &vec![0xAA; size + 2]].concat();
+        for memory in [&plan, &too_many, &short, &no_plan] {
+            record_refused(memory, add(0, 9), &spare, 60_001, 9);
+            record_refused(memory, add(0, 9), &vec![0; 70_000], 60_001, 9);
+            record_refused(memory, add(0, 9), &spare, usize::MAX, 9);
+            record_refused(memory, add(0, 9), &spare, 60_000, 13);
+            record_refused(memory, add(0, 9), &spare, spare.len() + 1, 13);
+            record_refused(memory, add(0, 9), &spare, 4, 13);
+            record_refused(memory, add(0, 9), &[], 0, 13);
+            record_refused(memory, add(0, 9), &[&[0x2B], &spare[1..]].concat(), end, 13);
         }
+        for (memory, number) in [(&too_many, 1), (&short, 2), (&no_plan, 3), (&plan, 14)] {
+            for length in [6, 8, end - 1, end + 1, end + 2, end + 3, end + size + 2] {
+                record_refused(memory, add(0, 9), &spare, length, number);
+            }
+        }
+        record_refused(&plan, add(0, 9), &journal, end, 4);
+        record_refused(&plan, strike(2, 2), &journal, end, 5);
+        record_refused(&plan, add(1, 0), &journal, end, 6);
+        record_refused(&plan, strike(1, 2), &journal, end, 7);
+        record_refused(&plan, add(1, 2), &journal, end, 15);
+        record_refused(&plan, add(1, 2), &spare[..end + size - 1], end, 15);
+        let mut slice = spare[..end + size].to_vec();
+        assert_eq!(
+            plan.clone().record(add(1, 2), &mut slice, end).length,
+            end + size
+        );
     }
-    record_refused(&plan, add(0, 9), &journal, 12, 4);
-    record_refused(&plan, strike(2, 2), &journal, 12, 5);
-    record_refused(&plan, add(1, 0), &journal, 12, 6);
-    record_refused(&plan, strike(1, 2), &journal, 12, 7);
-    record_refused(&plan, add(1, 2), &journal, 12, 15);
-    record_refused(&plan, add(1, 2), &spare[..18], 12, 15);
-    record_refused(&plan, add(1, 2), &spare[..11], 5, 15);
-    let mut slice = spare[..19].to_vec();
-    assert_eq!(plan.clone().record(add(1, 2), &mut slice, 12).length, 19);
+    record_refused(&plan, add(1, 2), &NUMBERED[..15], 5, 15);
+    assert_eq!(
+        plan.clone()
+            .record(add(1, 2), &mut NUMBERED[..16].to_vec(), 5)
+            .length,
+        16
+    );
 }
 
 /// The fields are read without their edits, whatever n they name.
 #[test]
 fn recording_makes_no_edit_of_the_journal() {
     let strays = [add(9, 9), add(0, 1), add(0, 1), strike(2, 3)];
-    let mut journal = journal_of(5000, &strays);
-    journal.resize(40, 0);
-    let mut memory = opened(3, &[]);
-    let answer = memory.record(add(2, 1), &mut journal, 33);
-    assert_eq!((answer.number, answer.length), (0, 40));
-    assert_eq!(memory.held_graph(), Some(Graph::of(3, [(1, 2)])));
-    let [old, new] = [&journal_of(5000, &strays)[..], &field_bytes(add(2, 1))];
-    assert_eq!(journal, [old, new].concat());
+    for form in FORMS {
+        let old = journal_of(form, 5000, &strays);
+        let size = old.len() + form.entry_bytes();
+        let mut journal = old.clone();
+        journal.resize(size, 0);
+        let mut memory = opened(3, &[]);
+        let answer = memory.record(add(2, 1), &mut journal, old.len());
+        assert_eq!((answer.number, answer.length), (0, size));
+        assert_eq!(memory.held_graph(), Some(Graph::of(3, [(1, 2)])));
+        let new = field_bytes(form, 5, add(2, 1));
+        assert_eq!(journal, [old, new].concat());
+    }
 }
 
 #[test]
@@ -299,7 +381,7 @@ fn questions_of_starting() {
         assert_eq!((answer.number, answer.length), (number, 0));
         assert!(slice.iter().all(|&byte| byte == 0xAA));
     };
-    refused(&plan, 11, 15);
+    refused(&plan, 15, 15);
     refused(&plan, 0, 15);
     for space in [0, 100] {
         let mut memory = plan.clone();
@@ -312,7 +394,7 @@ fn questions_of_starting() {
     }
     let mut short_trail = plan;
     short_trail.trail.clear();
-    assert_eq!(short_trail.start_journal(&mut [0; 12]).length, 12);
+    assert_eq!(short_trail.start_journal(&mut [0; 16]).length, 16);
 }
 
 /// The first clashes of blocks of 24 banks, as many as given.
@@ -324,20 +406,26 @@ pub fn crowded(clashes: usize) -> Graph {
 #[test]
 fn journals_end_at_60_000_bytes() {
     let mut slice = vec![0; 100_000];
-    let mut most = memory_of(&crowded(8570), 0);
-    assert_eq!(most.start_journal(&mut slice).length, 59_995);
-    record_refused(&most, strike(0, 1), &slice, 59_995, 15);
-    assert_eq!(most.replay(&slice[..60_000]).number, 14, "0 is no tag");
-    assert_eq!(most.replay(&slice[..59_997]).left, 2);
+    let mut most = memory_of(&crowded(5454), 0);
+    assert_eq!(most.start_journal(&mut slice).length, 59_999);
+    record_refused(&most, strike(0, 1), &slice, 59_999, 15);
+    assert_eq!(most.replay(&slice[..60_000]).left, 1);
     assert_eq!(most.replay(&slice[..60_001]).number, 9);
-    let more = memory_of(&crowded(8571), 0);
+    let more = memory_of(&crowded(5455), 0);
     assert_eq!(more.start_journal(&mut slice).number, 15);
-    let mut next = memory_of(&crowded(8569), 0);
+    let mut next = memory_of(&crowded(5453), 0);
     let length = next.start_journal(&mut slice).length;
-    assert_eq!(
-        next.record(add(1000, 999), &mut slice, length).length,
-        59_995
-    );
+    let recorded = next.record(add(1000, 999), &mut slice, length);
+    assert_eq!(recorded.length, 59_999);
+    let turns = [add(0, 1), strike(0, 1)].into_iter().cycle();
+    let turns: Vec<Entry> = turns.take(8570).collect();
+    let plain = journal_of(Form::Plain, 4, &turns);
+    assert_eq!(plain.len(), 59_995);
+    slice[..59_995].copy_from_slice(&plain);
+    record_refused(&opened(4, &[]), add(0, 1), &slice, 59_995, 15);
+    assert_eq!(next.replay(&slice[..60_000]).number, 14, "0 is no tag");
+    let last = opened(4, &[(0, 1)]).record(strike(0, 1), &mut slice, 59_988);
+    assert_eq!(last.length, 59_995);
 }
 
 #[test]
@@ -364,9 +452,16 @@ fn recorded_edits_replay_to_the_plan() {
         let ranks = drawn_rank_fields(&mut random, n).into_iter();
         let before: Vec<Field> = ranks.chain(before.iter().map(|&e| e.into())).collect();
         let mut memory = Memory::filled(30, 5);
-        assert_eq!(memory.replay(&journal_of(n as u16, &before)).number, 0);
-        let mut slice = vec![0; 900];
-        let mut length = memory.start_journal(&mut slice).length;
+        let form = *random.pick(&FORMS);
+        let journal = journal_of(form, n as u16, &before);
+        assert_eq!(memory.replay(&journal).number, 0);
+        let mut slice = vec![0; 1200];
+        let mut length = if random.one_in(2) {
+            memory.start_journal(&mut slice).length
+        } else {
+            slice[..journal.len()].copy_from_slice(&journal);
+            journal.len()
+        };
         for &entry in later {
             length = memory.record(entry, &mut slice, length).length;
             let (answer, replayed) = replay(&slice[..length]);
@@ -383,7 +478,8 @@ fn a_journal_and_its_list_leave_the_same() {
     for _ in 0..60 {
         let n = random.between(2, 30);
         let fields = drawn_fields(&mut random, n, 10, 150);
-        let (answer, by_replay) = replay(&journal_of(n as u16, &fields));
+        let form = *random.pick(&FORMS);
+        let (answer, by_replay) = replay(&journal_of(form, n as u16, &fields));
         let mut by_list = Memory::filled(30, 999);
         let read = by_list.read_list(&same_list(n as u16, &fields));
         assert_eq!((answer.number, read.number), (0, 0));
@@ -397,7 +493,7 @@ fn random_journals_are_varied() {
     let mut random = Random::new(46);
     let mut numbers = BTreeSet::new();
     let (mut accepted, mut left) = (0, BTreeSet::new());
-    for _ in 0..1000 {
+    for _ in 0..2000 {
         let mut memory = Memory::filled(1024, 0);
         memory.open(0);
         let answer = memory.replay(&random_journal(&mut random));
@@ -406,7 +502,8 @@ fn random_journals_are_varied() {
         left.insert(answer.left);
         assert!(memory.holds_plan());
     }
-    assert!((300..800).contains(&accepted), "{accepted} accepted");
-    assert_eq!(left, (0..7).collect());
-    assert_eq!(numbers, BTreeSet::from([0, 1, 4, 5, 6, 7, 8, 13, 14, 18]));
+    assert!((500..1500).contains(&accepted), "{accepted} accepted");
+    assert_eq!(left, (0..11).collect());
+    let all = [0, 1, 4, 5, 6, 7, 8, 13, 14, 18, 21];
+    assert_eq!(numbers, BTreeSet::from(all));
 }

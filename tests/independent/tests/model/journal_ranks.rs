@@ -3,7 +3,7 @@
 
 use crate::journal::{add, crowded, left_over, record_refused, refused_later, replay, strike};
 use crate::support::{memory_of, opened, opened_with};
-use independent::journal::{field_bytes, journal_of, Entry, Field, ReplayAnswer};
+use independent::journal::{field_bytes, journal_of, Entry, Field, Form, ReplayAnswer, FORMS};
 use independent::journals::same_list;
 use independent::memory::Memory;
 
@@ -20,22 +20,31 @@ const RANKED: [u8; 26] = [
     0x4E, 2, 0, 4, 0, 0x4B, 4, 0, 3, 0, 15, 39, 0x4B, 4, 0, 1, 0, 44, 1, 0x2B, 4, 0, 1, 0, 3, 0,
 ];
 
+/// The same in a form, and where its fields end.
+fn ranked(form: Form) -> (Vec<u8>, impl Fn(usize) -> usize) {
+    let fields = [rank(3, 9999), rank(1, 300), edit(add(1, 3))];
+    let end = move |fields| 5 + fields * form.entry_bytes();
+    (journal_of(form, 4, &fields), end)
+}
+
 #[test]
 fn the_bytes_of_a_journal_with_ranks() {
     let fields = [rank(3, 9999), rank(1, 300), edit(add(1, 3))];
-    assert_eq!(journal_of(4, &fields), RANKED);
+    assert_eq!(journal_of(Form::Plain, 4, &fields), RANKED);
     assert_eq!(same_list(4, &fields), b"N 4\nK 3 9999\nK 1 300\n+ 1 3");
 }
 
 #[test]
 fn a_replay_with_ranks_does_what_its_calls_do() {
-    let (answer, by_replay) = replay(&RANKED);
-    assert_eq!(answer, ReplayAnswer::default());
     let mut by_calls = Memory::filled(30, 999);
     by_calls.open(4);
     by_calls.ranks[..4].copy_from_slice(&[0, 300, 0, 9999]);
     by_calls.add(1, 3);
-    assert_eq!(by_replay, by_calls);
+    for form in FORMS {
+        let (answer, by_replay) = replay(&ranked(form).0);
+        assert_eq!(answer, ReplayAnswer::default());
+        assert_eq!(by_replay, by_calls);
+    }
     let (_, ranks_alone) = replay(&RANKED[..19]);
     assert_eq!(ranks_alone.ranks[..5], [0, 300, 0, 9999, 999]);
     assert_eq!(ranks_alone.trail, [999; 30]);
@@ -45,8 +54,11 @@ fn a_replay_with_ranks_does_what_its_calls_do() {
 
 #[test]
 fn a_journal_with_ranks_cut_at_each_byte() {
-    for length in 5..=RANKED.len() {
-        left_over(&RANKED[..length], (length - 5) % 7);
+    for form in FORMS {
+        let (journal, _) = ranked(form);
+        for length in 5..=journal.len() {
+            left_over(&journal[..length], (length - 5) % form.entry_bytes());
+        }
     }
 }
 
@@ -54,69 +66,86 @@ fn a_journal_with_ranks_cut_at_each_byte() {
 #[test]
 fn a_new_journal_has_its_ranks_first() {
     let memory = opened_with(&[7, 0, 9999, 1], &[(3, 1), (2, 0)]);
-    let mut slice = [0xAA; 50];
+    let mut slice = [0xAA; 70];
     let answer = memory.start_journal(&mut slice);
-    assert_eq!((answer.number, answer.length), (0, 40));
+    assert_eq!((answer.number, answer.length), (0, 60));
     let ranks = [rank(0, 7), rank(2, 9999), rank(3, 1)];
     let adds = [edit(add(0, 2)), edit(add(1, 3))];
-    assert_eq!(slice[..40], journal_of(4, &[&ranks[..], &adds].concat()));
-    assert_eq!(slice[40..], [0xAA; 10]);
-    let mut short = [0xAA; 39];
+    let all = [&ranks[..], &adds].concat();
+    assert_eq!(slice[..60], journal_of(Form::Numbered, 4, &all));
+    assert_eq!(slice[60..], [0xAA; 10]);
+    let mut short = [0xAA; 59];
     assert_eq!(memory.start_journal(&mut short).number, 15);
-    assert_eq!(short, [0xAA; 39]);
+    assert_eq!(short, [0xAA; 59]);
     let no_clash = opened_with(&[0, 5], &[]);
-    assert_eq!(no_clash.start_journal(&mut slice).length, 12);
-    assert_eq!(slice[..12], journal_of(2, &[rank(1, 5)]));
+    assert_eq!(no_clash.start_journal(&mut slice).length, 16);
+    assert_eq!(slice[..16], journal_of(Form::Numbered, 2, &[rank(1, 5)]));
 }
 
 /// The last rank of a bank counts.
 #[test]
 fn a_repeated_rank() {
     let fields = [rank(0, 1), rank(1, 5), rank(0, 9), rank(1, 5)];
-    let (answer, memory) = replay(&journal_of(2, &fields));
-    assert_eq!(answer, ReplayAnswer::default());
-    assert_eq!(memory.ranks[..2], [9, 5]);
+    for form in FORMS {
+        let (answer, memory) = replay(&journal_of(form, 2, &fields));
+        assert_eq!(answer, ReplayAnswer::default());
+        assert_eq!(memory.ranks[..2], [9, 5]);
+    }
 }
 
 /// A whole value above 9,999 is 14 at its field. A short value is left over, whatever it starts with.
 #[test]
 fn ranks_above_9999() {
-    for wrong in [10_000, 10_001, 16_383, 32_767, 32_768, 65_535] {
-        for bank in [0, 3, 4, 65_535] {
-            let field = field_bytes(rank(bank, wrong));
-            refused_later(&[&RANKED[..12], &field].concat(), 14, 3, 12);
-            refused_later(&[&RANKED[..12], &field, &RANKED[12..]].concat(), 14, 3, 12);
-            refused_later(&[&RANKED[..], &field].concat(), 14, 5, 26);
-            for length in 3..7 {
-                left_over(&[&RANKED[..12], &field[..length]].concat(), length);
-                left_over(&[&RANKED[..], &field[..length]].concat(), length);
+    for form in FORMS {
+        let (journal, end) = ranked(form);
+        let front = &journal[..end(1)];
+        for wrong in [10_000, 10_001, 16_383, 32_767, 32_768, 65_535] {
+            for bank in [0, 3, 4, 65_535] {
+                let second = field_bytes(form, 2, rank(bank, wrong));
+                let fourth = field_bytes(form, 4, rank(bank, wrong));
+                refused_later(&[front, &second].concat(), 14, 3, end(1));
+                refused_later(
+                    &[front, &second, &journal[end(1)..]].concat(),
+                    14,
+                    3,
+                    end(1),
+                );
+                refused_later(&[&journal[..], &fourth].concat(), 14, 5, end(3));
+                for length in 3..form.entry_bytes() {
+                    left_over(&[front, &second[..length]].concat(), length);
+                    left_over(&[&journal[..], &fourth[..length]].concat(), length);
+                }
             }
         }
+        let most = [&journal[..5], &field_bytes(form, 1, rank(0, 9999))].concat();
+        assert_eq!(replay(&most).1.ranks[0], 9999);
     }
-    let most = [&RANKED[..5], &field_bytes(rank(0, 9999))].concat();
-    assert_eq!(replay(&most).1.ranks[0], 9999);
 }
 
 /// 14, then 18, then 4.
 #[test]
 fn numbers_of_k_fields() {
-    for bank in [4, 1024, 65_535] {
-        let early = [&RANKED[..12], &field_bytes(rank(bank, 1))].concat();
-        refused_later(&early, 4, 3, 12);
-    }
-    for bank in [0, 3, 4, 65_535] {
-        for first in [add(0, 2), strike(1, 3)] {
-            let front = [&RANKED[..], &field_bytes(first)].concat();
-            let late = [&front[..], &field_bytes(rank(bank, 9999))].concat();
-            refused_later(&late, 18, 6, 33);
-            let more = [&late[..], &field_bytes(rank(0, 1)), &[0; 9]].concat();
-            refused_later(&more, 18, 6, 33);
+    for form in FORMS {
+        let (journal, end) = ranked(form);
+        for bank in [4, 1024, 65_535] {
+            let second = field_bytes(form, 2, rank(bank, 1));
+            refused_later(&[&journal[..end(1)], &second].concat(), 4, 3, end(1));
         }
+        for bank in [0, 3, 4, 65_535] {
+            for first in [add(0, 2), strike(1, 3)] {
+                let front = [&journal[..], &field_bytes(form, 4, first)].concat();
+                let late = [&front[..], &field_bytes(form, 5, rank(bank, 9999))].concat();
+                refused_later(&late, 18, 6, end(4));
+                let next = field_bytes(form, 6, rank(0, 1));
+                let more = [&late[..], &next, &[0; 9]].concat();
+                refused_later(&more, 18, 6, end(4));
+            }
+        }
+        let late = journal_of(form, 4, &[rank(0, 1), edit(add(0, 1)), rank(0, 1)]);
+        refused_later(&late, 18, 4, end(2));
+        let refused_before = journal_of(form, 4, &[edit(add(0, 0)), rank(0, 1)]);
+        refused_later(&refused_before, 5, 2, 5);
     }
-    let late = journal_of(4, &[rank(0, 1), edit(add(0, 1)), rank(0, 1)]);
-    refused_later(&late, 18, 4, 19);
-    let refused_before = journal_of(4, &[edit(add(0, 0)), rank(0, 1)]);
-    refused_later(&refused_before, 5, 2, 5);
 }
 
 /// Each tag in the place of a K field's, and each of its lengths but the right one.
@@ -133,24 +162,32 @@ fn damaged_k_fields() {
     }
 }
 
-/// A journal of these fields in which an edit is recorded: the number it gets.
+/// A journal of these fields, in each form, in which an edit is recorded: the number it gets. What is left
+/// over starts with a tag and a length, if it has three bytes; 4 is the right length.
 fn recorded(fields: &[Field], left_over: &[u8], number: u16) {
-    let journal = [&journal_of(4, fields)[..], left_over].concat();
-    let slice = [&journal[..], &[0xAA; 9]].concat();
-    let plan = opened(4, &[(0, 1)]);
-    if number != 0 {
-        record_refused(&plan, add(1, 2), &slice, journal.len(), number);
-        record_refused(&plan, add(9, 9), &slice, journal.len(), number);
-        let mut no_plan = plan;
-        no_plan.ranks[3] = 10_000;
-        record_refused(&no_plan, add(1, 2), &slice, journal.len(), 3);
-        return;
+    for form in FORMS {
+        let left_over: Vec<u8> = match left_over {
+            [tag, 4, rest @ ..] => [&[*tag, form.value_bytes() as u8], rest].concat(),
+            _ => left_over.to_vec(),
+        };
+        let journal = [journal_of(form, 4, fields), left_over].concat();
+        let slice = [&journal[..], &[0xAA; 13]].concat();
+        let plan = opened(4, &[(0, 1)]);
+        if number != 0 {
+            record_refused(&plan, add(1, 2), &slice, journal.len(), number);
+            record_refused(&plan, add(9, 9), &slice, journal.len(), number);
+            let mut no_plan = plan;
+            no_plan.ranks[3] = 10_000;
+            record_refused(&no_plan, add(1, 2), &slice, journal.len(), 3);
+            continue;
+        }
+        let mut bytes = slice.clone();
+        let answer = plan.clone().record(add(1, 2), &mut bytes, journal.len());
+        let new = field_bytes(form, fields.len() as u32 + 1, add(1, 2));
+        let end = journal.len() + new.len();
+        assert_eq!((answer.number, answer.length), (0, end));
+        assert_eq!(bytes, [&journal[..], &new, &slice[end..]].concat());
     }
-    let mut bytes = slice;
-    let answer = plan.clone().record(add(1, 2), &mut bytes, journal.len());
-    assert_eq!((answer.number, answer.length), (0, journal.len() + 7));
-    let wanted = [&journal[..], &field_bytes(add(1, 2)), &[0xAA; 2]].concat();
-    assert_eq!(bytes, wanted);
 }
 
 /// The first field with a no decides, by 14 and then 18. No 4 is given, and no rank is compared with
@@ -177,15 +214,15 @@ fn recording_reads_k_fields() {
     recorded(&[early], &[0x4B, 5, 0, 2, 0, 5, 0, 0], 14);
 }
 
-/// 1,024 ranks and 7,546 clashes fill 59,995 bytes; one more of either does not fit 60,000.
+/// 1,024 ranks and 4,430 clashes fill 59,999 bytes; one more of either does not fit 60,000.
 #[test]
 fn journals_with_ranks_end_at_60_000_bytes() {
     let mut slice = vec![0; 70_000];
     let ranks: Vec<usize> = (1..=1024).collect();
-    let most = memory_of(&crowded(7546).with_ranks(ranks.clone()), 0);
-    assert_eq!(most.start_journal(&mut slice).length, 59_995);
-    let more = memory_of(&crowded(7547).with_ranks(ranks), 0);
+    let most = memory_of(&crowded(4430).with_ranks(ranks.clone()), 0);
+    assert_eq!(most.start_journal(&mut slice).length, 59_999);
+    let more = memory_of(&crowded(4431).with_ranks(ranks), 0);
     assert_eq!(more.start_journal(&mut slice).number, 15);
-    let one_rank = crowded(8570).ranked(1023, 1);
+    let one_rank = crowded(5454).ranked(1023, 1);
     assert_eq!(memory_of(&one_rank, 0).start_journal(&mut slice).number, 15);
 }

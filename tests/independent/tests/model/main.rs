@@ -3,6 +3,7 @@
 mod bounds;
 mod caps;
 mod journal;
+mod journal_numbers;
 mod journal_ranks;
 mod marked;
 mod plan_cells;

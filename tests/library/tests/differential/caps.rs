@@ -7,7 +7,7 @@ use crate::pair::Pair;
 use crate::plans::{any_memory, bank_count, blocks, graph, shelf_of, slices, PLAN_SLICES};
 use crate::{quick, rounds};
 use independent::graph::Graph;
-use independent::journal::{journal_of, started, Entry};
+use independent::journal::{journal_of, started, Entry, Form};
 use independent::memory::Memory;
 use independent::random::Random;
 use independent::reach::Edit;
@@ -181,11 +181,11 @@ fn the_order_of_the_refusals() {
     let star = Graph::of(26, (1..24).map(|q| (0, q)).chain([(1, 24)]));
     let mut memory = uncapped(&mut random, &star);
     memory.tally.cap = 2;
-    let journal = journal_of::<Entry>(26, &[]);
+    let journal = journal_of::<Entry>(Form::Numbered, 26, &[]);
     for (add, number) in [((0, 24), 8), ((24, 0), 8), ((1, 2), 20), ((24, 25), 0)] {
         let (a, b) = add;
         let mut pair = Pair::new(memory.clone(), random.draw());
-        for (spare, last) in [(0, 15), (6, 15), (7, 0)] {
+        for (spare, last) in [(0, 15), (10, 15), (11, 0)] {
             let slice = [&journal[..], &vec![b'#'; spare]].concat();
             let wanted = if number == 0 { last } else { number };
             let call = |length| Call::Record(entry(Edit::Add, a, b), slice.clone(), length);
@@ -244,8 +244,8 @@ fn cap_24_after_opening_lists_and_replays() {
         (Call::Open(4), 0),
         (Call::ReadList(list[..list.len() - 6].to_vec()), 0),
         (Call::ReadList(list), 6),
-        (Call::Replay(journal_of(4, &adds[..3])), 0),
-        (Call::Replay(journal_of(4, &adds)), 6),
+        (Call::Replay(journal_of(Form::Numbered, 4, &adds[..3])), 0),
+        (Call::Replay(journal_of(Form::Numbered, 4, &adds)), 6),
     ];
     for cap in 1..=24 {
         for (call, number) in &calls {

@@ -5,7 +5,7 @@ use crate::damage::DAMAGES;
 use crate::pair::Pair;
 use crate::plans::{bank_count, graph, memory_of, row, sheet_length, shelf_of, slices, SLICES};
 use crate::{quick, rounds};
-use independent::journal::{journal_of, Entry, Field};
+use independent::journal::{journal_of, Entry, Field, Form};
 use independent::memory::Memory;
 use independent::random::Random;
 use independent::reach::Edit;
@@ -197,8 +197,8 @@ fn any_entry(a: u16, b: u16) -> Entry {
 
 /// A journal of the memory's banks without an edit, five bytes, and space for one.
 fn any_journal(memory: &Memory) -> Vec<u8> {
-    let mut journal = journal_of::<Field>(memory.tally.banks, &[]);
-    journal.resize(12, b'#');
+    let mut journal = journal_of::<Field>(Form::Numbered, memory.tally.banks, &[]);
+    journal.resize(16, b'#');
     journal
 }
 

@@ -8,8 +8,8 @@ use crate::pair::Pair;
 use crate::plans::{any_memory, bank_count, blocks, graph, memory_of, row};
 use crate::{quick, rounds};
 use independent::graph::Graph;
-use independent::journal::{journal_of, started, Entry, Field};
-use independent::journals::drawn_fields;
+use independent::journal::{field_bytes, journal_of, started, Entry, Field, Form, FORMS};
+use independent::journals::{drawn_fields, wrong_number};
 use independent::memory::Memory;
 use independent::random::Random;
 use independent::reach::Edit;
@@ -65,7 +65,7 @@ fn new_journals_of_random_plans() {
     }
 }
 
-/// 8,570 ranks and clashes fill 59,995 bytes; one more of either does not fit 60,000.
+/// 5,454 ranks and clashes fill 59,999 bytes; one more of either does not fit 60,000.
 #[test]
 fn new_journals_at_the_limit() {
     let mut random = Random::new(102);
@@ -77,22 +77,22 @@ fn new_journals_at_the_limit() {
     };
     let clashes: Vec<(usize, usize)> = (0..1024).flat_map(clashes).collect();
     for (ranks, count, space, number) in [
-        (0, 8570, 59_994, 15),
-        (0, 8570, 59_995, 0),
-        (0, 8570, 60_000, 0),
-        (0, 8570, 70_000, 0),
-        (0, 8571, 60_000, 15),
-        (0, 8571, 60_002, 15),
-        (0, 8571, 70_000, 15),
-        (0, clashes.len(), 100_000, 15),
-        (1, 8570, 70_000, 15),
-        (1, 8569, 59_994, 15),
-        (1, 8569, 59_995, 0),
-        (1024, 7546, 59_994, 15),
-        (1024, 7546, 59_995, 0),
-        (1024, 7547, 70_000, 15),
-        (1024, 0, 7173, 0),
-        (1024, 0, 7172, 15),
+        (0, 5454, 59_998, 15),
+        (0, 5454, 59_999, 0),
+        (0, 5454, 60_000, 0),
+        (0, 5454, 70_000, 0),
+        (0, 5455, 60_000, 15),
+        (0, 5455, 60_010, 15),
+        (0, 5455, 70_000, 15),
+        (0, clashes.len(), 200_000, 15),
+        (1, 5454, 70_000, 15),
+        (1, 5453, 59_998, 15),
+        (1, 5453, 59_999, 0),
+        (1024, 4430, 59_998, 15),
+        (1024, 4430, 59_999, 0),
+        (1024, 4431, 70_000, 15),
+        (1024, 0, 11_269, 0),
+        (1024, 0, 11_268, 15),
     ] {
         let rank = |b: usize| if b < ranks { 9999 - b } else { 0 };
         let graph = Graph::of(1024, clashes[..count].iter().copied());
@@ -138,6 +138,17 @@ impl Recorder {
         answer
     }
 
+    /// Goes on with the journal of length 4 instead, of the same clashes and ranks.
+    fn in_plain_form(mut self, random: &mut Random) -> Recorder {
+        let numbered = self.slice[5..self.length].chunks_exact(11);
+        let plain = numbered.flat_map(|field| [&[field[0], 4, 0], &field[7..]].concat());
+        let journal: Vec<u8> = self.slice[..5].iter().copied().chain(plain).collect();
+        self.length = journal.len();
+        let spare = random.below(200);
+        self.slice = with_spare(random, &journal, spare);
+        self
+    }
+
     fn journal(&self) -> &[u8] {
         &self.slice[..self.length]
     }
@@ -169,8 +180,11 @@ fn sequences_of_recorded_edits() {
         let n = bank_count(&mut random, 60).max(2);
         let graph = graph(&mut random, n);
         let memory = memory_of(&mut random, &graph);
-        let spare = random.below(200);
+        let spare = random.below(300);
         let mut recorder = Recorder::start(&mut random, memory, spare);
+        if random.one_in(2) {
+            recorder = recorder.in_plain_form(&mut random);
+        }
         for _ in 0..40 {
             if random.one_in(6) {
                 let cap = some_cap(&mut random, &recorder.pair);
@@ -188,9 +202,9 @@ fn sequences_of_recorded_edits() {
 }
 
 /// A journal of ranks and edits on n banks, and memory that holds their plan.
-fn recorded(random: &mut Random, n: usize, draws: usize) -> (Vec<u8>, Memory) {
+fn recorded(random: &mut Random, form: Form, n: usize, draws: usize) -> (Vec<u8>, Memory) {
     let fields = drawn_fields(random, n, n, draws);
-    let journal = journal_of(n as u16, &fields);
+    let journal = journal_of(form, n as u16, &fields);
     let mut memory = any_memory(random, n);
     assert_eq!(memory.replay(&journal).number, 0);
     (journal, memory)
@@ -209,21 +223,24 @@ fn good_add(memory: &Memory) -> Entry {
 #[test]
 fn each_length_of_a_journal() {
     let mut random = Random::new(104);
-    for _ in 0..rounds(8) {
-        let (journal, memory) = recorded(&mut random, 30, 20);
+    for round in 0..rounds(8) {
+        let form = FORMS[round % 2];
+        let size = form.entry_bytes();
+        let (journal, memory) = recorded(&mut random, form, 30, 20);
         let add = good_add(&memory);
-        for spare in [0, 6, 7, 8, 30] {
+        for spare in [0, 6, 7, 8, 10, 11, 12, 30] {
             let slice = with_spare(&mut random, &journal, spare);
             for length in 0..=slice.len() + 2 {
                 let mut pair = Pair::new(memory.clone(), random.draw());
                 let number = pair.call(&Call::Record(add, slice.clone(), length)).number;
-                let whole = length >= 5 && (length - 5) % 7 == 0;
+                let whole = length >= 5 && (length - 5) % size == 0;
+                let needed = if length == 5 { 11 } else { size };
                 let wanted = match length {
                     0..=4 => 13,
                     _ if length > slice.len() => 13,
                     _ if length > journal.len() => number,
                     _ if !whole => 14,
-                    _ if slice.len() < length + 7 => 15,
+                    _ if slice.len() < length + needed => 15,
                     _ => 0,
                 };
                 assert_eq!(number, wanted, "length {length} of {}", slice.len());
@@ -246,28 +263,90 @@ fn each_length_of_a_journal() {
     }
 }
 
-/// The last field that 60,000 bytes take ends at byte 59,995.
+/// The last field that 60,000 bytes take ends at byte 59,995, or at 59,999 where fields are numbered.
 #[test]
 fn recording_at_the_limit() {
     let mut random = Random::new(105);
     let (a, b) = (entry(Edit::Add, 0, 1), entry(Edit::Strike, 1, 0));
-    let entries: Vec<Entry> = [a, b].into_iter().cycle().take(8569).collect();
-    let journal = journal_of(9, &entries);
-    let memory = memory_of(&mut random, &Graph::of(9, [(0, 1)]));
-    for space in [59_994, 59_995, 60_000, 60_002, 70_000] {
-        let slice = with_spare(&mut random, &journal, space - journal.len());
-        let mut recorder = Recorder {
-            pair: Pair::new(memory.clone(), random.draw()),
-            slice,
-            length: journal.len(),
-        };
-        let (first, next) = if space < 59_995 { (15, b) } else { (0, a) };
-        assert_eq!(recorder.record(b).number, first, "{space} bytes");
-        assert_eq!(recorder.record(next).number, 15, "{space} bytes");
+    for (form, fields, last) in [(Form::Plain, 8569, 59_995), (Form::Numbered, 5453, 59_999)] {
+        let entries: Vec<Entry> = [a, b].into_iter().cycle().take(fields).collect();
+        let journal = journal_of(form, 9, &entries);
+        let memory = memory_of(&mut random, &Graph::of(9, [(0, 1)]));
+        for space in [last - 1, last, 60_000, 60_012, 70_000] {
+            let slice = with_spare(&mut random, &journal, space - journal.len());
+            let mut recorder = Recorder {
+                pair: Pair::new(memory.clone(), random.draw()),
+                slice,
+                length: journal.len(),
+            };
+            let (first, next) = if space < last { (15, b) } else { (0, a) };
+            assert_eq!(recorder.record(b).number, first, "{space} bytes");
+            assert_eq!(recorder.record(next).number, 15, "{space} bytes");
+        }
+        let slice = with_spare(&mut random, &journal, 10_000);
+        let call = Call::Record(b, slice, 60_001);
+        assert_eq!(Pair::new(memory, 105).call(&call).number, 9);
     }
-    let slice = with_spare(&mut random, &journal, 10_000);
-    let call = Call::Record(b, slice, 60_001);
-    assert_eq!(Pair::new(memory, 105).call(&call).number, 9);
+}
+
+/// Journals of numbered fields with one wrong number, with a field of the other length, or both: 14, then
+/// 21, then 18, at the first such field, and nothing is recorded.
+#[test]
+fn wrong_numbers_and_lengths_so_far() {
+    let mut random = Random::new(108);
+    let mut numbers = BTreeSet::new();
+    for _ in 0..rounds(3000) {
+        let graph = graph(&mut random, 5);
+        let memory = memory_of(&mut random, &graph);
+        let form = *random.pick(&[Form::Numbered, Form::Numbered, Form::Plain]);
+        let mut journal = journal_of::<Field>(form, 5, &[]);
+        let mut wanted = None;
+        let mut begun = false;
+        for number in 1..=random.below(5) as u32 {
+            let rank = random.one_in(4);
+            let field = if rank {
+                let (bank, rank) = (4, *random.pick(&[1, 9999, 10_000]));
+                Field::Rank { bank, rank }
+            } else {
+                Field::Edit(entry(Edit::Add, 9, 9))
+            };
+            let other = number > 1 && random.one_in(8);
+            let off = form == Form::Numbered && random.one_in(6);
+            let written = if off {
+                wrong_number(&mut random, number)
+            } else {
+                number
+            };
+            let is = match (form, other) {
+                (Form::Numbered, false) | (Form::Plain, true) => Form::Numbered,
+                _ => Form::Plain,
+            };
+            let above = matches!(field, Field::Rank { rank: 10_000, .. });
+            let no = match (other || above, off, rank && begun) {
+                (true, _, _) => Some(14),
+                (_, true, _) => Some(21),
+                (_, _, true) => Some(18),
+                _ => None,
+            };
+            wanted = wanted.or(no);
+            begun |= !rank;
+            journal.extend(field_bytes(is, written, field));
+        }
+        let add = any_entry(&mut random, &memory);
+        let slice = with_spare(&mut random, &journal, 11);
+        let mut pair = Pair::new(memory, random.draw());
+        let number = pair.call(&Call::Record(add, slice, journal.len())).number;
+        match wanted {
+            Some(wanted) => assert_eq!(number, wanted, "{journal:?}"),
+            None => assert!(![14, 18, 21].contains(&number), "{journal:?}"),
+        }
+        numbers.insert(number);
+    }
+    if !quick() {
+        for number in [0, 4, 5, 14, 18, 21] {
+            assert!(numbers.contains(&number), "no {number}");
+        }
+    }
 }
 
 /// Recording into journals with K fields in all places: the first field with a no decides, by 14 and
@@ -291,10 +370,16 @@ fn k_fields_so_far() {
             _ => Field::Edit(entry(*random.pick(&[Edit::Add, Edit::Strike]), 9, 9)),
         };
         let fields: Vec<Field> = (0..random.below(5)).map(|_| field(&mut random)).collect();
-        let mut journal = journal_of(random.below(2000) as u16, &fields);
+        let form = *random.pick(&FORMS);
+        let size = form.entry_bytes();
+        let mut journal = journal_of(form, random.below(2000) as u16, &fields);
         if random.one_in(8) {
-            let left = random.between(1, 6);
-            let field = [0x4B, 4, 0, 1, 0, 1];
+            let left = random.between(1, size - 1);
+            let field = field_bytes(
+                form,
+                fields.len() as u32 + 1,
+                Field::Rank { bank: 1, rank: 1 },
+            );
             journal.extend(&field[..left]);
         }
         let mut begun = false;
@@ -306,10 +391,10 @@ fn k_fields_so_far() {
             Field::Rank { rank, .. } if *rank > 9999 => Some(14),
             Field::Rank { .. } => begun.then_some(18),
         });
-        let whole = (journal.len() - 5) % 7 == 0;
+        let whole = (journal.len() - 5) % size == 0;
         let wanted = wanted.or(if whole { None } else { Some(14) });
         let add = any_entry(&mut random, &memory);
-        let slice = with_spare(&mut random, &journal, 7);
+        let slice = with_spare(&mut random, &journal, 11);
         let mut pair = Pair::new(memory, random.draw());
         let number = pair.call(&Call::Record(add, slice, journal.len())).number;
         match wanted {
@@ -332,9 +417,10 @@ fn damaged_journals_and_memory() {
     let mut random = Random::new(106);
     let mut numbers = BTreeSet::new();
     for _ in 0..rounds(400) {
-        let (mut slice, mut memory) = recorded(&mut random, 12, 20);
+        let form = *random.pick(&FORMS);
+        let (mut slice, mut memory) = recorded(&mut random, form, 12, 20);
         let length = slice.len();
-        slice = with_spare(&mut random, &slice, 14);
+        slice = with_spare(&mut random, &slice, 22);
         let add = any_entry(&mut random, &memory);
         if random.one_in(2) {
             random.pick(&DAMAGES)(&mut random, &mut memory);
@@ -347,7 +433,7 @@ fn damaged_journals_and_memory() {
         }
         if random.one_in(2) {
             let place = random.below(length.min(20));
-            slice[place] = *random.pick(&[0, 1, 2, 4, 0x2B, 0x2D, 0x4B, 0x4E, 255]);
+            slice[place] = *random.pick(&[0, 1, 2, 4, 8, 0x2B, 0x2D, 0x4B, 0x4E, 255]);
         }
         let length = length - if random.one_in(4) { random.below(5) } else { 0 };
         let mut pair = Pair::new(memory, random.draw());
@@ -355,7 +441,7 @@ fn damaged_journals_and_memory() {
         numbers.insert(pair.call(&Call::Record(add, slice, length)).number);
     }
     if !quick() {
-        for number in [0, 1, 2, 3, 4, 5, 13, 14] {
+        for number in [0, 1, 2, 3, 4, 5, 13, 14, 21] {
             assert!(numbers.contains(&number), "no {number}");
         }
     }

@@ -92,15 +92,17 @@ fn ranks() {
     let journal = plan.start_journal().expect("started");
     let fields = [
         &[0x4E, 2, 0, 3, 0][..],
-        &[0x4B, 4, 0, 1, 0, 44, 1],
-        &[0x2B, 4, 0, 0, 0, 1, 0],
-        &[0x2B, 4, 0, 1, 0, 2, 0],
+        &[0x4B, 8, 0, 1, 0, 0, 0, 1, 0, 44, 1],
+        &[0x2B, 8, 0, 2, 0, 0, 0, 0, 0, 1, 0],
+        &[0x2B, 8, 0, 3, 0, 0, 0, 1, 0, 2, 0],
     ];
     assert_eq!(journal, fields.concat());
     let (again, left) = Plan::replay(&journal).expect("replayed");
     assert_eq!((again.ranks(), left), (plan.ranks(), 0));
-    let late = [&journal[..], &journal[5..12]].concat();
+    let mut late = [&journal[..], &journal[5..16]].concat();
     let refused = |number, place| Some(Refused { number, place });
+    assert_eq!(Plan::replay(&late).err(), refused(21, 5));
+    late[41] = 4;
     assert_eq!(Plan::replay(&late).err(), refused(18, 5));
     let late = b"N 3\nD 0\nK 1 300";
     assert_eq!(Plan::read_list(late).err(), refused(18, 3));
@@ -159,19 +161,38 @@ fn a_journal() {
     assert!(plan.strike_recorded(Bank(1), Bank(2), &mut journal).is_ok());
     let fields = [
         &[0x4E, 2, 0, 4, 0][..],
-        &[0x2B, 4, 0, 1, 0, 2, 0],
-        &[0x2B, 4, 0, 1, 0, 0, 0],
-        &[0x2D, 4, 0, 1, 0, 2, 0],
+        &[0x2B, 8, 0, 1, 0, 0, 0, 1, 0, 2, 0],
+        &[0x2B, 8, 0, 2, 0, 0, 0, 1, 0, 0, 0],
+        &[0x2D, 8, 0, 3, 0, 0, 0, 1, 0, 2, 0],
     ];
     assert_eq!(journal, fields.concat());
     let (mut again, left) = Plan::replay(&journal).expect("replayed");
     assert_eq!((again.sheet(), left), (plan.sheet(), 0));
-    let (mut cut, left) = Plan::replay(&journal[..25]).expect("replayed");
-    assert_eq!((waves(&mut cut, 4), left), (vec![1, 0, 1, 0], 6));
-    journal[13] = 5;
-    let wrong = Plan::replay(&journal).err();
-    let (number, place) = (14, 3);
-    assert_eq!(wrong, Some(Refused { number, place }));
+    let (mut cut, left) = Plan::replay(&journal[..37]).expect("replayed");
+    assert_eq!((waves(&mut cut, 4), left), (vec![1, 0, 1, 0], 10));
+    let refused = |number, place| Some(Refused { number, place });
+    journal[19] = 5;
+    assert_eq!(Plan::replay(&journal).err(), refused(21, 3));
+    journal[17] = 4;
+    assert_eq!(Plan::replay(&journal).err(), refused(14, 3));
+}
+
+/// A journal whose fields have length 4 still replays, and is continued so.
+#[test]
+fn a_journal_without_numbers() {
+    let fields = [
+        &[0x4E, 2, 0, 4, 0][..],
+        &[0x2B, 4, 0, 1, 0, 2, 0],
+        &[0x2B, 4, 0, 1, 0, 0, 0],
+    ];
+    let mut journal = fields.concat();
+    let (mut plan, left) = Plan::replay(&journal).expect("replayed");
+    assert_eq!((waves(&mut plan, 4), left), (vec![1, 0, 1, 0], 0));
+    assert!(plan.strike_recorded(Bank(1), Bank(2), &mut journal).is_ok());
+    let field = [0x2D, 4, 0, 1, 0, 2, 0];
+    assert_eq!(journal, [&fields.concat()[..], &field].concat());
+    let (mut again, left) = Plan::replay(&journal).expect("replayed");
+    assert_eq!((again.sheet(), left), (plan.sheet(), 0));
 }
 
 /// M5 is kept in the morning, M6 at noon.

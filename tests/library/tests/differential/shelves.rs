@@ -8,7 +8,7 @@ use crate::pair::Pair;
 use crate::plans::{any_memory, bank_count, graph, memory_of, shelf_of, store};
 use crate::{quick, rounds};
 use independent::graph::Graph;
-use independent::journal::{journal_of, Entry};
+use independent::journal::{journal_of, Entry, FORMS};
 use independent::journals::{drawn_fields, same_list};
 use independent::plan::MAX_BANKS;
 use independent::random::Random;
@@ -114,7 +114,7 @@ impl Day {
         let fields = drawn_fields(random, n, 12, 40);
         let call = match random.below(2) {
             0 => Call::ReadList(same_list(n as u16, &fields)),
-            _ => Call::Replay(journal_of(n as u16, &fields)),
+            _ => Call::Replay(journal_of(*random.pick(&FORMS), n as u16, &fields)),
         };
         assert_eq!(self.pair.call(&call).number, 0);
         seen.passes += 1;

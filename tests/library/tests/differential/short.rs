@@ -6,7 +6,7 @@ use crate::guarded::{assert_same, Guarded, Slices};
 use crate::pair::{tally_cells, Pair};
 use crate::plans::{graph, memory_of, shelf_of, slices, RANKS};
 use independent::graph::Graph;
-use independent::journal::{journal_of, Entry, Field};
+use independent::journal::{journal_of, Entry, Field, Form};
 use independent::memory::Memory;
 use independent::random::Random;
 use independent::reach::Edit;
@@ -25,7 +25,7 @@ fn short_tally_or_result() {
     no_room.degrees.clear();
     let entry = |edit| Entry { edit, a: 0, b: 2 };
     let (add, strike) = (entry(Edit::Add), entry(Edit::Strike));
-    let mut journal = journal_of::<Field>(4, &[]);
+    let mut journal = journal_of::<Field>(Form::Numbered, 4, &[]);
     journal.resize(20, b'#');
     let calls = [
         (Call::Open(4), 0),
@@ -85,7 +85,7 @@ fn ranks_a_cell_short() {
         let graph = graph(&mut random, n);
         let whole = memory_of(&mut random, &graph);
         let shelf = shelf_of(&mut random, n, [None, Some(&graph), None]);
-        let journal = journal_of::<Field>(n as u16, &[]);
+        let journal = journal_of::<Field>(Form::Plain, n as u16, &[]);
         let slice = [&journal[..], &[b'#'; 7]].concat();
         let entry = |edit| Entry { edit, a: 0, b: 0 };
         for (call, number) in [

@@ -5,7 +5,7 @@ use crate::call::{Answer, Call};
 use crate::pair::Pair;
 use crate::plans::any_memory;
 use crate::{quick, rounds};
-use independent::journal::{journal_of, Entry, Field};
+use independent::journal::{journal_of, Entry, Field, Form, FORMS};
 use independent::random::Random;
 use independent::reach::Edit;
 use independent::shelf::{shelf_cells, NAMES};
@@ -175,7 +175,8 @@ impl Run {
     fn replay(&mut self, random: &mut Random, seen: &mut Seen) {
         let n = random.below(ROOM + 2);
         let fields = any_fields(random);
-        let journal = journal_of(n as u16, &fields);
+        let form = *random.pick(&FORMS);
+        let journal = journal_of(form, n as u16, &fields);
         let answer = self.pair.call(&Call::Replay(journal));
         if let Some(made) = made(&answer, fields.len(), seen) {
             let are = |edit: Edit| {
@@ -239,9 +240,9 @@ impl Run {
             }
             11..=14 => {
                 let entry = any_edit(random);
-                let mut journal = journal_of::<Entry>(n, &[]);
+                let mut journal = journal_of::<Entry>(Form::Numbered, n, &[]);
                 let size = journal.len();
-                journal.extend([0; 7]);
+                journal.extend([0; 11]);
                 let answer = self.pair.call(&Call::Record(entry, journal, size));
                 self.edit(entry.edit, &answer, seen);
             }

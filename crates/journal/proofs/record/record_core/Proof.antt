@@ -1,7 +1,6 @@
 -- `record_core` meets its contract: refused it leaves all as it was, else it makes the edit and writes its entry.
 use borrow.Author.Needs.{needs}
 use native.Mathlib.Omega.{arith}
-use Rattle.journal_fields.proofs.Numbers.{space-room}
 use Rattle.journal.proofs.Recording.{record-refused, record-late, record-room, record-done}
 use Rattle.journal.proofs.record.record_core.Statement.{statement}
 use Rattle.journal.proofs.record.record_core.Tie as tie
@@ -38,11 +37,8 @@ returns c =
     let n = c .before in
     rw (c .refuse .ensures .0, c .refuse .ensures .1) (record-refused _ _ _ _ _ _ _ (n .before .check-record .ensures) (λ z. omega (arith, n .if1 .taken)))
 
-add-space-number : tie.Need-add-space-number
-add-space-number c = let n = c .before in omega (arith, n .before .check-record .ensures .few (n .if1 .left))
-
-space-number-requires : tie.Need-space-number-requires
-space-number-requires c κs = search needs
+next-space-requires : tie.Need-next-space-requires
+next-space-requires c κs = let n = c .before in n .before .check-record .ensures .head (n .if1 .left)
 
 edit-within-requires : tie.Need-edit-within-requires
 edit-within-requires c κs = let n = c .before .before .before .before .before .before .before .before in (_, n .before .check-record .ensures .ready (n .if1 .left))
@@ -81,7 +77,7 @@ returns-2 c =
     let checked = n .before .check-record .ensures in
     let made = e .edit-within .ensures _ (checked .ready none) in
     rw (c .refuse2 .ensures .0)
-    (record-late _ _ _ _ _ _ _ checked none _ (s .space-number .ensures) made (c .before .if2 .taken) _ (c .refuse2 .ensures .1))
+    (record-late _ _ _ _ _ _ _ checked none _ (s .next-space .ensures) made (c .before .if2 .taken) _ (c .refuse2 .ensures .1))
 
 record-entry-requires : tie.Need-record-entry-requires
 record-entry-requires c κs =
@@ -92,8 +88,7 @@ record-entry-requires c κs =
     let none = n .if1 .left in
     let checked = n .before .check-record .ensures in
     let made = e .edit-within .ensures _ (checked .ready none) in
-    space-room _ _
-    (record-room _ _ _ _ _ _ _ checked none _ (s .space-number .ensures) made (c .before .before .if2 .left))
+    record-room _ _ _ _ _ _ _ checked none _ (s .next-space .ensures) made (c .before .before .if2 .left)
 
 same-length-15 : tie.Need-same-length-15
 same-length-15 c = search needs
@@ -125,7 +120,7 @@ returns-3 c =
     let none = n .if1 .left in
     let checked = n .before .check-record .ensures in
     let made = e .edit-within .ensures _ (checked .ready none) in
-    record-done _ _ _ _ _ _ _ checked none _ (s .space-number .ensures) made (entry .before .before .before .if2 .left) _ _
+    record-done _ _ _ _ _ _ _ checked none _ (s .next-space .ensures) made (entry .before .before .before .if2 .left) _ _
     (entry .record-entry .ensures)
 
 pub record-core-spec : {M : Type 1} → statement M
@@ -142,8 +137,7 @@ record-core-spec =
     same-length-6
     same-length-7
     returns
-    add-space-number
-    space-number-requires
+    next-space-requires
     edit-within-requires
     refuse-requires-2
     same-length-8

@@ -1,31 +1,30 @@
 -- `put_add` meets its contract: b gives one add if it is larger, else none.
-use lib.ListN.{length}
-use mathlib.Core.Path.{ap}
-use Rattle.rule.specs.declared.Kind.the-variants.{Adding}
-use Rattle.journal.proofs.Adds.{bytes-smaller, bytes-larger}
-use Rattle.journal_fields.proofs.Entries.{length-entry}
 use borrow.Author.Needs.{needs}
+use Rattle.journal.proofs.Adds.{adds-smaller, adds-larger}
+use Rattle.journal.proofs.Writing.{entries-none, fit-fewer}
+use Rattle.journal.specs.Calls.{addsOf}
+use mathlib.Core.List.{[], _∷_}
+use mathlib.Core.Path.{ap}
 use native.Mathlib.Omega.{arith}
-use Rattle.journal.specs.Calls.{entryFor}
-use Rattle.text.proofs.Putting.{puts-none}
+use lib.ListN.{length}
 use Rattle.journal.proofs.start.put_add.Statement.{statement}
 use Rattle.journal.proofs.start.put_add.Tie as tie
 
 returns : tie.Need-returns
-returns c = rw (bytes-smaller _ _ (c .if1 .taken)) (puts-none _ _)
+returns c = entries-none _ _ _ (adds-smaller _ _ (c .if1 .taken))
 
-put-entry-requires : tie.Need-put-entry-requires
-put-entry-requires c κs =
+put-new-requires : tie.Need-put-new-requires
+put-new-requires c κs =
     let test = c .before in
     let start = test .before .before .before .before in
-    let e = bytes-larger (start .args .a .0) (start .args .b .0) (test .if1 .left) in
-    omega (arith, ap length e, length-entry (entryFor Adding (start .args .a .0) (start .args .b .0)), start .pre)
+    let one = adds-larger (start .args .a .0) (start .args .b .0) (test .if1 .left) in
+    fit-fewer _ (addsOf (start .args .a .0) (start .args .b .0 ∷ [])) _ _ (omega (arith, ap length one)) (start .pre)
 
 same-length : tie.Need-same-length
 same-length c = search needs
 
 returns-2 : tie.Need-returns-2
-returns-2 c = let put = c .before .before in rw (bytes-larger _ _ (put .before .before .if1 .left)) (put .put-entry .ensures)
+returns-2 c = let put = c .before .before in rw (adds-larger _ _ (put .before .before .if1 .left)) (put .put-new .ensures)
 
 pub put-add-spec : {M : Type 1} → statement M
-put-add-spec = tie.close (tie.spec returns put-entry-requires same-length returns-2)
+put-add-spec = tie.close (tie.spec returns put-new-requires same-length returns-2)

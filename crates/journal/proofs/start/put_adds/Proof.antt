@@ -1,31 +1,30 @@
 -- The loop has written the adds of the banks below a.
 use mathlib.Core.Path.{_≡_, refl, _∙_}
 use lib.ListN.{length}
-use Rattle.journal.proofs.Adds.{below-empty, below-bytes, row-room, plan-banks}
+use Rattle.journal.proofs.Adds.{below-none, row-fit, row-put, plan-banks}
+use Rattle.journal.proofs.Writing.{entries-none}
+use Rattle.journal.specs.inner.Adds.{PutsEntries, Fit}
 use Rattle.journal.specs.Calls.{addsBelow}
-use Rattle.journal_fields.specs.Fields.{entriesBytes}
 use Rattle.memory.specs.Plan.{slicesOf, PlanOf}
 use Rattle.rule.specs.Graph.{Graph, neighbours}
 use borrow.Author.Needs.{needs}
 use native.Mathlib.Omega.{arith}
-use Prim.Native.Nat.{_+_, _-_, _≤_}
-use Rattle.text.proofs.Putting.{puts-none, puts-then}
-use Rattle.text.specs.Places.{Puts}
+use Prim.Native.Nat.{_-_, _≤_}
 use Rattle.journal.proofs.start.put_adds.Statement.{statement}
 use Rattle.journal.proofs.start.put_adds.Tie as tie
 
 abbrev Inv-loop : tie.InvT-loop
-Inv-loop journal₀ at neighbours degrees waves counts ranks tally next₀ a₀ journal next a =
-    ((G : Graph) → PlanOf G (slicesOf neighbours degrees waves counts ranks) tally → at + length (entriesBytes (addsBelow G (G .banks))) ≤ length journal₀
-    → Puts (entriesBytes (addsBelow G a)) at journal₀ next journal)
+Inv-loop journal₀ done neighbours degrees waves counts ranks tally next₀ a₀ journal next a =
+    ((G : Graph) → PlanOf G (slicesOf neighbours degrees waves counts ranks) tally → Fit (addsBelow G (G .banks)) done journal₀
+    → PutsEntries (addsBelow G a) done journal₀ next journal)
     × (a ≤ tally .banks)
     × (length journal ≡ length journal₀)
 
 abbrev μ-loop : tie.MeasureT-loop
-μ-loop journal₀ at neighbours degrees waves counts ranks tally next₀ a₀ journal next a = tally .banks - a
+μ-loop journal₀ done neighbours degrees waves counts ranks tally next₀ a₀ journal next a = tally .banks - a
 
 loop-holds : tie.Need-loop-holds Inv-loop μ-loop
-loop-holds c = (λ G p r. rw (below-empty G) (puts-none _ _), omega arith, refl)
+loop-holds c = (λ G p r. entries-none _ _ _ (below-none G), omega arith, refl)
 
 clashes-held-requires : tie.Need-clashes-held-requires Inv-loop μ-loop
 clashes-held-requires c κs = let p = c .before .before .before .before .before .before .before .before .before .pre in ((p .0, p .1), c .if1 .taken)
@@ -36,13 +35,7 @@ put-adds-of-requires c κs =
     let at = row .before .before .before in
     let p = at .before .before .before .before .before .before .before .pre in
     let w = at .loop in
-    omega (
-      arith,
-      row-room (p .0) _ _ (p .1) (w .a) (row .before .if1 .taken) _ (row .clashes-held .ensures (p .0) (p .1)),
-      w .inv .0 (p .0) (p .1) (p .2) .next,
-      w .inv .2,
-      p .2,
-    )
+    row-fit (p .0) _ _ (p .1) (w .a) (row .before .if1 .taken) _ (row .clashes-held .ensures (p .0) (p .1)) _ _ (p .2) _ _ (w .inv .0 (p .0) (p .1) (p .2)) (w .inv .2)
 
 add-a : tie.Need-add-a Inv-loop μ-loop
 add-a c = omega arith
@@ -56,10 +49,7 @@ loop-again c =
     let row = put .before .before in
     let at = row .before .before .before in
     let w = at .loop in (
-      λ G p r.
-          let e = row .clashes-held .ensures G p in
-          rw (below-bytes G (w .a), ← e)
-          (puts-then _ _ _ _ (omega (arith, r, row-room G _ _ p (w .a) (row .before .if1 .taken) _ e)) _ _ _ _ (w .inv .0 G p r) (put .put-adds-of .ensures)),
+      λ G p r. row-put G _ _ p (w .a) (row .before .if1 .taken) _ (row .clashes-held .ensures G p) _ _ r _ _ (w .inv .0 G p r) _ _ (put .put-adds-of .ensures),
       omega arith,
       put .put-adds-of .kept .0 ∙ w .inv .2,
     )

@@ -1,27 +1,26 @@
 -- The loop has written the adds of the first i cells of the row.
-use mathlib.Core.List.{[], _∷_}
 use mathlib.Core.Path.{_≡_, refl, _∙_}
-use lib.ListN.{length, getD, take}
+use lib.ListN.{length, take}
 use lib.Seq.{take-all}
-use Rattle.journal.specs.inner.Adds.{rowBytes}
-use Rattle.journal.proofs.Adds.{bytes-none, bytes-next, bytes-room}
+use Rattle.journal.specs.Calls.{addsOf}
+use Rattle.journal.specs.inner.Adds.{PutsEntries}
+use Rattle.journal.proofs.Adds.{adds-none, adds-fit-next, adds-put}
+use Rattle.journal.proofs.Writing.{entries-none}
 use borrow.Author.Needs.{needs}
 use native.Mathlib.Omega.{arith}
 use Prim.Native.Nat.{_-_, _≤_}
-use Rattle.text.proofs.Putting.{puts-none, puts-then}
-use Rattle.text.specs.Places.{Puts}
 use Rattle.journal.proofs.start.put_adds_of.Statement.{statement}
 use Rattle.journal.proofs.start.put_adds_of.Tie as tie
 
 abbrev Inv-loop : tie.InvT-loop
-Inv-loop journal₀ at row a next₀ i₀ journal next i =
-    Puts (rowBytes (a .0) (take i row)) at journal₀ next journal × (i ≤ length row) × (length journal ≡ length journal₀)
+Inv-loop journal₀ done row a next₀ i₀ journal next i =
+    PutsEntries (addsOf (a .0) (take i row)) done journal₀ next journal × (i ≤ length row) × (length journal ≡ length journal₀)
 
 abbrev μ-loop : tie.MeasureT-loop
-μ-loop journal₀ at row a next₀ i₀ journal next i = length row - i
+μ-loop journal₀ done row a next₀ i₀ journal next i = length row - i
 
 loop-holds : tie.Need-loop-holds Inv-loop μ-loop
-loop-holds c = (rw (bytes-none (c .before .before .args .a .0)) (puts-none _ _), omega arith, refl)
+loop-holds c = (entries-none _ _ _ (adds-none _), omega arith, refl)
 
 mul-t7 : tie.Need-mul-t7 Inv-loop μ-loop
 mul-t7 c = search needs
@@ -34,7 +33,7 @@ put-add-requires c κs =
     let test = c .before .before in
     let w = test .before .loop in
     let start = test .before .before .before .before in
-    omega (arith, bytes-room (start .args .a .0) (start .args .row .now) (w .i) (test .loop-test .taken), w .inv .0 .next, w .inv .2, start .pre)
+    adds-fit-next (start .args .a .0) (start .args .row .now) (w .i) (test .loop-test .taken) _ (start .args .journal .now) (start .pre) _ _ (w .inv .0) (w .inv .2)
 
 add-i : tie.Need-add-i Inv-loop μ-loop
 add-i c = search needs
@@ -48,12 +47,8 @@ loop-again c =
     let test = put .before .before .before in
     let w = test .before .loop in
     let start = test .before .before .before .before in
-    let a = start .args in
-    let row = a .row .now in
-    let room = bytes-room (a .a .0) row (w .i) (test .loop-test .taken) in (
-      rw (bytes-next (a .a .0) row (w .i) (test .loop-test .taken))
-          (puts-then (rowBytes (a .a .0) (take (w .i) row)) (rowBytes (a .a .0) (getD row (w .i) 0 ∷ [])) (a .at) (a .journal .now)
-          (omega (arith, room, start .pre)) _ _ _ _ (w .inv .0) (put .put-add .ensures)),
+    let a = start .args in (
+      adds-put (a .a .0) (a .row .now) (w .i) (test .loop-test .taken) (a .done) (a .journal .now) (start .pre) _ _ (w .inv .0) _ _ (put .put-add .ensures),
       omega arith,
       put .put-add .kept .0 ∙ w .inv .2,
     )

@@ -1,24 +1,24 @@
 -- The loop has written the ranks of the banks below b.
-use mathlib.Core.Path.{_≡_, refl, ap, _∙_}
-use lib.ListN.{length, getD}
-use Rattle.journal.proofs.Ranks.{ranks-empty, ranks-room, ranks-put}
-use Rattle.journal.specs.inner.Adds.{rankIn, rankBytes, ranksBytes}
+use mathlib.Core.Path.{_≡_, refl, _∙_}
+use lib.ListN.{length}
+use Rattle.journal.proofs.Ranks.{ranks-none, rank-fit, rank-put}
+use Rattle.journal.proofs.Writing.{entries-none}
+use Rattle.journal.specs.Calls.{ranksBelow}
+use Rattle.journal.specs.inner.Adds.{rankIn, PutsEntries}
 use borrow.Author.Needs.{needs}
 use native.Mathlib.Omega.{arith}
-use Prim.Native.Nat.{ℕ, _-_, _≤_}
-use Rattle.text.proofs.Putting.{puts-none}
-use Rattle.text.specs.Places.{Puts}
+use Prim.Native.Nat.{_-_, _≤_}
 use Rattle.journal.proofs.start.put_ranks.Statement.{statement}
 use Rattle.journal.proofs.start.put_ranks.Tie as tie
 
 abbrev Inv-loop : tie.InvT-loop
-Inv-loop journal₀ at ranks n next₀ b₀ journal next b = Puts (ranksBytes ranks b) at journal₀ next journal × (b ≤ n) × (length journal ≡ length journal₀)
+Inv-loop journal₀ done ranks n next₀ b₀ journal next b = PutsEntries (ranksBelow (rankIn ranks) b) done journal₀ next journal × (b ≤ n) × (length journal ≡ length journal₀)
 
 abbrev μ-loop : tie.MeasureT-loop
-μ-loop journal₀ at ranks n next₀ b₀ journal next b = n - b
+μ-loop journal₀ done ranks n next₀ b₀ journal next b = n - b
 
 loop-holds : tie.Need-loop-holds Inv-loop μ-loop
-loop-holds c = (rw (ranks-empty (rankIn (c .before .before .args .ranks .now))) (puts-none _ _), omega arith, refl)
+loop-holds c = (entries-none _ _ _ (ranks-none _), omega arith, refl)
 
 wide-requires : tie.Need-wide-requires Inv-loop μ-loop
 wide-requires c κs = search needs
@@ -35,9 +35,7 @@ put-rank-requires c κs =
     let test = wide .before .before in
     let w = test .before .loop in
     let start = test .before .before .before .before in
-    let cells = start .args .ranks .now in
-    let is = ap (λ (x : ℕ). length (rankBytes (w .b) (getD cells x 0))) (wide .wide .ensures) in
-    omega (arith, ranks-room (rankIn cells) (w .b) (start .args .n) (test .loop-test .taken), is, w .inv .0 .next, w .inv .2, start .pre .1)
+    rank-fit (start .args .ranks .now) (w .b) (start .args .n) _ (test .loop-test .taken) (start .args .journal .now) (start .pre .1) _ (wide .wide .ensures) _ _ (w .inv .0) (w .inv .2)
 
 add-b : tie.Need-add-b Inv-loop μ-loop
 add-b c = search needs
@@ -52,9 +50,8 @@ loop-again c =
     let test = wide .before .before in
     let w = test .before .loop in
     let start = test .before .before .before .before in
-    let a = start .args in
-    let cells = a .ranks .now in (
-      ranks-put cells (w .b) (a .n) (a .at) (a .journal .now) (test .loop-test .taken) (start .pre .1) _ (wide .wide .ensures) _ _ _ _ (w .inv .0) (put .put-rank .ensures),
+    let a = start .args in (
+      rank-put (a .ranks .now) (w .b) (a .n) (a .done) (test .loop-test .taken) (a .journal .now) (start .pre .1) _ (wide .wide .ensures) _ _ (w .inv .0) _ _ (put .put-rank .ensures),
       omega arith,
       put .put-rank .kept .0 ∙ w .inv .2,
     )

@@ -1,5 +1,5 @@
 -- `start_journal` meets its contract: each return is one case of `started`.
-use Rattle.journal.proofs.Starting.{start-size, ranks-room, adds-room, start-refused, start-full, start-done}
+use Rattle.journal.proofs.Starting.{start-size, all-fit, ranks-fit, adds-fit, start-refused, start-full, start-done}
 use mathlib.Core.Path.{sym, _∙_}
 use Rattle.journal.proofs.Adds.{plan-few, plan-ranks}
 use Rattle.journal_fields.proofs.Numbers.{space-room}
@@ -65,7 +65,8 @@ put-ranks-requires c κs =
     let count = test .before .before .before in
     let plan = count .before .before .before .check-plan .ensures .1 (count .before .before .if1 .left) in
     let room = space-room _ _ (sym (test .before .space-number .ensures) ∙ test .if2 .left) in
-    (plan-ranks _ _ _ plan, ranks-room _ _ _ _ _ _ _ (count .count-ranks .ensures .0) (count .before .count-adds .ensures _ plan .0) (room .0) (first .put-first .ensures) (first .put-first .kept .0))
+    let start = count .before .before .before .before .before .before .before .before .before .before in
+    (plan-ranks _ _ _ plan, ranks-fit _ _ _ _ (start .args .journal .now) _ (count .count-ranks .ensures .0) (count .before .count-adds .ensures _ plan .0) room (first .put-first .kept .0))
 
 put-adds-requires : tie.Need-put-adds-requires
 put-adds-requires c κs =
@@ -74,15 +75,16 @@ put-adds-requires c κs =
     let test = first .before .before in
     let count = test .before .before .before in
     let plan = count .before .before .before .check-plan .ensures .1 (count .before .before .if1 .left) in
+    let start = count .before .before .before .before .before .before .before .before .before .before in
     let room = space-room _ _ (sym (test .before .space-number .ensures) ∙ test .if2 .left) in (
       _,
       plan,
-      adds-room _ _ _ _ _ _ _ (count .count-ranks .ensures .0) (count .before .count-adds .ensures _ plan .0) (room .0) (first .put-first .ensures) (first .put-first .kept .0)
-          _ _ (ranks .put-ranks .ensures) (ranks .put-ranks .kept .0),
+      adds-fit _ _ _ _ (start .args .journal .now) _ (count .count-ranks .ensures .0) (count .before .count-adds .ensures _ plan .0) room (first .put-first .kept .0) _ _ (ranks .put-ranks .ensures)
+          (ranks .put-ranks .kept .0),
     )
 
-cast-t26 : tie.Need-cast-t26
-cast-t26 c =
+cast-t25 : tie.Need-cast-t25
+cast-t25 c =
     let test = c .before .before .before .before .before .before .before .before .before .before .before .before in
     omega (arith, space-room _ _ (sym (test .before .space-number .ensures) ∙ test .if2 .left) .1)
 
@@ -103,9 +105,10 @@ returns-3 c =
     let space = test .before .space-number .ensures in
     let room = space-room _ _ (sym space ∙ test .if2 .left) in
     let kept = first .put-first .kept .0 in
-    start-done _ _ _ (sym (plan .0) ∙ zero) _ (start-size _ _ _ _ r n) (sym (test .if2 .left) ∙ space) _ _ _ _ _ _ kept (first .put-first .ensures) (ranks .put-ranks .ensures)
-    (adds .put-adds .ensures _ (plan .1 zero)
-    (adds-room _ _ _ _ _ _ _ r n (room .0) (first .put-first .ensures) kept _ _ (ranks .put-ranks .ensures) (ranks .put-ranks .kept .0)))
+    let journal = count .before .before .before .before .before .before .before .before .before .before .args .journal .now in
+    start-done _ _ _ (sym (plan .0) ∙ zero) _ (start-size _ _ _ _ r n) (sym (test .if2 .left) ∙ space) _ _ _ _ _ _ (all-fit _ _ _ _ journal _ r n room kept) (first .put-first .ensures)
+    (ranks .put-ranks .ensures)
+    (adds .put-adds .ensures _ (plan .1 zero) (adds-fit _ _ _ _ journal _ r n room kept _ _ (ranks .put-ranks .ensures) (ranks .put-ranks .kept .0)))
 
 pub start-journal-spec : {M : Type 1} → statement M
 start-journal-spec =
@@ -124,6 +127,6 @@ start-journal-spec =
     put-first-requires
     put-ranks-requires
     put-adds-requires
-    cast-t26
+    cast-t25
     same-length-2
     returns-3)

@@ -3,9 +3,20 @@ use borrow.Author.Needs.{needs}
 use Rattle.journal_fields.specs.Fields.{entryIn}
 use Rattle.journal_fields.proofs.field.entry_in.Statement.{statement}
 use Rattle.journal_fields.proofs.field.entry_in.Tie as tie
+use Rattle.journal_fields.proofs.field.entry_in.Reads as reads
+use Rattle.journal_fields.proofs.field.entry_in.Lts as lts
+use Rattle.journal_fields.proofs.field.entry_of.Reads as entry-of-reads
+use Rattle.journal_fields.proofs.field.number_at.Reads as number-at-reads
+use Rattle.journal_fields.proofs.field.pair_place.Reads as pair-place-reads
+
+pair-place-requires : tie.Need-pair-place-requires
+pair-place-requires c κs = search needs
 
 number-at-requires : tie.Need-number-at-requires
 number-at-requires c κs = search needs
+
+add-number-at : tie.Need-add-number-at
+add-number-at c = search needs
 
 number-at-requires-2 : tie.Need-number-at-requires-2
 number-at-requires-2 c κs = search needs
@@ -18,13 +29,17 @@ entry-of-requires c κs = search needs
 
 returns : tie.Need-returns
 unfolding entryIn
-returns c = let y = c .before .before in rw (c .entry-of .ensures, y .before .number-at .ensures, y .number-at2 .ensures)
+returns c =
+    let y = c .before .before in
+    rw (c .entry-of .ensures, y .before .number-at .ensures, y .number-at2 .ensures, y .before .before .pair-place .ensures)
 
 pub entry-in-spec : {M : Type 1} → statement M
 entry-in-spec =
     tie.close
     (tie.spec
+    pair-place-requires
     number-at-requires
+    add-number-at
     number-at-requires-2
     shared-slice-read-entry-of
     entry-of-requires

@@ -1,24 +1,38 @@
--- The loop has passed whole entries, no rank after an edit: the number of the bytes is that of those from `at` on.
+-- The loop has passed whole entries, numbered in turn, no rank after an edit: the number of the bytes is that of those from `at` on.
 use mathlib.Core.Logic.{⊎-elim}
 use mathlib.Core.Path.{_≡_, sym, _∙_}
 use lib.ListN.{length, drop}
-use Rattle.journal_fields.specs.Fields.{fields}
+use Rattle.journal_fields.specs.Fields.{fieldsFrom, fields}
 use Rattle.journal_fields.specs.Numbers.{laterNumber}
-use Rattle.journal_fields.proofs.Later.{numberFrom, later-start, later-end, later-other, later-long, later-late, later-next, no-rank, none-begun}
+use Rattle.journal_fields.proofs.Later.{numberFrom, later-first, later-end, later-other, later-long, later-late, later-next, no-rank, none-begun}
 use borrow.Author.Needs.{needs}
 use native.Mathlib.Omega.{arith}
-use Prim.Native.Nat.{_-_, _≤_}
+use Prim.Native.Nat.{_+_, _*_, _-_, _≤_}
 use Rattle.journal_fields.proofs.field.fields_number.Statement.{statement}
 use Rattle.journal_fields.proofs.field.fields_number.Tie as tie
+use Rattle.journal_fields.proofs.field.fields_number.Reads as reads
+use Rattle.journal_fields.proofs.field.fields_number.Lts as lts
+use Rattle.journal_fields.proofs.field.entry_bytes.Reads as entry-bytes-reads
+use Rattle.journal_fields.proofs.field.is_numbered.Reads as is-numbered-reads
+use Rattle.journal_fields.proofs.field.is_rank.Reads as is-rank-reads
+use Rattle.journal_fields.proofs.field.read_field.Reads as read-field-reads
+use Rattle.journal_fields.proofs.field.refusal.Reads as refusal-reads
 
 abbrev Inv-loop : tie.InvT-loop
-Inv-loop bytes at₀ begun₀ at begun = (laterNumber (fields bytes) ≡ numberFrom begun (fields (drop at bytes))) × (at ≤ length bytes)
+Inv-loop bytes numbered size at₀ number₀ begun₀ at number begun =
+    (laterNumber (fields bytes) ≡ numberFrom begun (fieldsFrom numbered number (drop at bytes))) × (at ≤ length bytes) × (7 * number ≤ at + 7)
 
 abbrev μ-loop : tie.MeasureT-loop
-μ-loop bytes at₀ begun₀ at begun = length bytes - at
+μ-loop bytes numbered size at₀ number₀ begun₀ at number begun = length bytes - at
+
+is-numbered-requires : tie.Need-is-numbered-requires Inv-loop μ-loop
+is-numbered-requires c κs = search needs
+
+entry-bytes-requires : tie.Need-entry-bytes-requires Inv-loop μ-loop
+entry-bytes-requires c κs = search needs
 
 loop-holds : tie.Need-loop-holds Inv-loop μ-loop
-loop-holds c = (later-start _, omega arith)
+loop-holds c = (later-first _ _ (c .before .is-numbered .ensures), omega arith, omega arith)
 
 sub-read-field : tie.Need-sub-read-field Inv-loop μ-loop
 sub-read-field c = search needs
@@ -32,14 +46,17 @@ part-read-field-end c = search needs
 read-field-requires : tie.Need-read-field-requires Inv-loop μ-loop
 read-field-requires c κs = search needs
 
-enum-known-entry : tie.Need-enum-known-entry Inv-loop μ-loop
-enum-known-entry c = search needs
+enum-known-field : tie.Need-enum-known-field Inv-loop μ-loop
+enum-known-field c = search needs
+
+refusal-requires : tie.Need-refusal-requires Inv-loop μ-loop
+refusal-requires c κs = search needs
 
 returns : tie.Need-returns Inv-loop μ-loop
 returns c =
-    let read = c .before in
+    let read = c .before .before in
     let test = read .before .before in
-    later-other _ _ (test .loop-test .taken) _ (read .read-field .ensures) _ (c .match .keys2) ∙ sym (test .before .loop .inv .0)
+    c .refusal .ensures ∙ later-other _ _ _ _ (test .loop-test .taken) _ (read .read-field .ensures) _ (c .before .match .keys2) ∙ sym (test .before .loop .inv .0)
 
 is-rank-requires : tie.Need-is-rank-requires Inv-loop μ-loop
 is-rank-requires c κs = search needs
@@ -50,7 +67,7 @@ returns-2 c =
     let entry = rank .before .before in
     let read = entry .before .before in
     let test = read .before .before in
-    later-late _ _ (test .loop-test .taken) _ (read .read-field .ensures) _ (entry .entry .given .1) _ _ (rank .is-rank .ensures) (c .before .if1 .taken) (c .if2 .taken)
+    later-late _ _ _ _ (test .loop-test .taken) _ (read .read-field .ensures) _ (entry .field .given .1) _ _ (rank .is-rank .ensures) (c .before .if1 .taken) (c .if2 .taken)
     ∙ sym (test .before .loop .inv .0)
 
 add-at : tie.Need-add-at Inv-loop μ-loop
@@ -58,18 +75,25 @@ add-at c =
     let entry = c .before .before .before in
     let read = entry .before .before in
     let test = read .before .before in
-    let s = test .before .before .before .args .bytes .now in
-    let l = later-long s _ (test .loop-test .taken) _ (read .read-field .ensures) _ (entry .entry .given .1) in
-    omega arith
+    let size = test .before .before in
+    let s = size .before .before .before .args .bytes .now in
+    let l = later-long _ _ s _ (test .loop-test .taken) _ (read .read-field .ensures) _ (entry .field .given .1) in
+    omega (arith, size .entry-bytes .ensures)
+
+add-number : tie.Need-add-number Inv-loop μ-loop
+add-number c =
+    let test = c .before .before .before .before .before .before .before in
+    omega (arith, test .loop-test .taken, test .before .loop .inv .2)
 
 loop-less : tie.Need-loop-less Inv-loop μ-loop
 loop-less c =
     let entry = c .before .before .before in
     let read = entry .before .before in
     let test = read .before .before in
-    let s = test .before .before .before .args .bytes .now in
-    let l = later-long s _ (test .loop-test .taken) _ (read .read-field .ensures) _ (entry .entry .given .1) in
-    omega arith
+    let size = test .before .before in
+    let s = size .before .before .before .args .bytes .now in
+    let l = later-long _ _ s _ (test .loop-test .taken) _ (read .read-field .ensures) _ (entry .field .given .1) in
+    omega (arith, size .entry-bytes .ensures)
 
 loop-again : tie.Need-loop-again Inv-loop μ-loop
 loop-again c =
@@ -77,18 +101,21 @@ loop-again c =
     let entry = rank .before .before in
     let read = entry .before .before in
     let test = read .before .before in
-    let s = test .before .before .before .args .bytes .now in
+    let size = test .before .before in
+    let s = size .before .before .before .args .bytes .now in
     let below = test .loop-test .taken in
-    let e = entry .entry .given .1 in
+    let e = entry .field .given .1 in
     let begun = test .before .loop .begun in
     let is = rank .is-rank .result in
-    let h = ⊎-elim (λ h. no-rank begun is (h .1 .left)) (λ h. none-begun begun is (h .left)) (c .if1 .came) in (
-      test .before .loop .inv .0 ∙ later-next s _ below _ (read .read-field .ensures) _ e begun is (rank .is-rank .ensures) h,
-      later-long s _ below _ (read .read-field .ensures) _ e,
+    let h = ⊎-elim (λ h. no-rank begun is (h .1 .left)) (λ h. none-begun begun is (h .left)) (c .if1 .came) in
+    let l = later-long _ _ s _ below _ (read .read-field .ensures) _ e in (
+      test .before .loop .inv .0 ∙ later-next _ _ s _ below _ (read .read-field .ensures) _ e begun is (rank .is-rank .ensures) h _ (size .entry-bytes .ensures),
+      omega (arith, size .entry-bytes .ensures),
+      omega (arith, size .entry-bytes .ensures, test .before .loop .inv .2),
     )
 
 returns-3 : tie.Need-returns-3 Inv-loop μ-loop
-returns-3 c = later-end _ _ _ (c .loop-test .left) ∙ sym (c .before .loop .inv .0)
+returns-3 c = later-end _ _ _ _ _ (c .loop-test .left) ∙ sym (c .before .loop .inv .0)
 
 pub fields-number-spec : {M : Type 1} → statement M
 fields-number-spec =
@@ -96,16 +123,20 @@ fields-number-spec =
     (tie.spec
     Inv-loop
     μ-loop
+    is-numbered-requires
+    entry-bytes-requires
     loop-holds
     sub-read-field
     part-read-field-start
     part-read-field-end
     read-field-requires
-    enum-known-entry
+    enum-known-field
+    refusal-requires
     returns
     is-rank-requires
     returns-2
     add-at
+    add-number
     loop-less
     loop-again
     returns-3)

@@ -13,19 +13,23 @@ is-entry-tag-requires : tie.Need-is-entry-tag-requires
 is-entry-tag-requires c κs = search needs
 
 returns : tie.Need-returns
-returns c = entry-tag _ (sym (c .before .is-entry-tag .ensures) ∙ not-true _ (c .if1 .taken))
+returns c = entry-tag _ _ (sym (c .before .is-entry-tag .ensures) ∙ not-true _ (c .if1 .taken))
 
 number-at-requires : tie.Need-number-at-requires
 number-at-requires c κs = search needs
+
+value-bytes-requires : tie.Need-value-bytes-requires
+value-bytes-requires c κs = search needs
 
 wide-byte-requires : tie.Need-wide-byte-requires
 wide-byte-requires c κs = search needs
 
 returns-2 : tie.Need-returns-2
 returns-2 c =
-    let tag = c .before .before in
-    rw (c .before .number-at .ensures, c .wide-byte .ensures .0)
-    (entry-length _ (sym (tag .before .is-entry-tag .ensures) ∙ not-false _ (tag .if1 .left)))
+    let number = c .before .before in
+    let tag = number .before in
+    rw (number .number-at .ensures, c .wide-byte .ensures .0 ∙ c .before .value-bytes .ensures)
+    (entry-length _ _ (sym (tag .before .is-entry-tag .ensures) ∙ not-false _ (tag .if1 .left)))
 
 pub is-entry-spec : {M : Type 1} → statement M
 is-entry-spec =
@@ -35,5 +39,6 @@ is-entry-spec =
     is-entry-tag-requires
     returns
     number-at-requires
+    value-bytes-requires
     wide-byte-requires
     returns-2)

@@ -2,12 +2,19 @@
 use borrow.Author.Tests.{not-true, not-false}
 use borrow.Author.Needs.{needs}
 use mathlib.Core.Path.{sym, _∙_}
-use Rattle.journal_fields.proofs.Forms.{field-head, field-wrong, field-short, field-entry, rank-wrong, rank-right}
+use Rattle.journal_fields.proofs.Forms.{field-head, field-wrong, field-short, field-entry}
 use Rattle.journal_fields.proofs.field.read_field.Statement.{statement}
 use Rattle.journal_fields.proofs.field.read_field.Tie as tie
+use Rattle.journal_fields.proofs.field.read_field.Reads as reads
+use Rattle.journal_fields.proofs.field.read_field.Lts as lts
+use Rattle.journal_fields.proofs.field.entry_bytes.Reads as entry-bytes-reads
+use Rattle.journal_fields.proofs.field.entry_in.Reads as entry-in-reads
+use Rattle.journal_fields.proofs.field.is_entry.Reads as is-entry-reads
+use Rattle.journal_fields.proofs.field.number_in.Reads as number-in-reads
+use Rattle.journal_fields.proofs.field.whole.Reads as whole-reads
 
 returns : tie.Need-returns
-returns c = field-head _ (c .if1 .taken)
+returns c = field-head _ _ _ (c .if1 .taken)
 
 is-entry-requires : tie.Need-is-entry-requires
 is-entry-requires c κs = search needs
@@ -15,34 +22,35 @@ is-entry-requires c κs = search needs
 returns-2 : tie.Need-returns-2
 returns-2 c =
     let entry = c .before in
-    field-wrong _ (entry .before .if1 .left) (sym (entry .is-entry .ensures) ∙ not-true _ (c .if2 .taken))
+    field-wrong _ _ _ (entry .before .if1 .left) (sym (entry .is-entry .ensures) ∙ not-true _ (c .if2 .taken))
+
+entry-bytes-requires : tie.Need-entry-bytes-requires
+entry-bytes-requires c κs = search needs
 
 returns-3 : tie.Need-returns-3
 returns-3 c =
-    let entry = c .before .before in
-    field-short _ (entry .before .if1 .left) (sym (entry .is-entry .ensures) ∙ not-false _ (c .before .if2 .left)) (c .if3 .taken)
+    let test = c .before .before in
+    let entry = test .before in
+    field-short _ _ _ (entry .before .if1 .left) (sym (entry .is-entry .ensures) ∙ not-false _ (test .if2 .left)) (rw (c .before .entry-bytes .ensures) at (c .if3 .taken))
 
 entry-in-requires : tie.Need-entry-in-requires
-entry-in-requires c κs = search needs
+entry-in-requires c κs = rw (c .before .entry-bytes .ensures) at (c .if3 .left)
 
-rank-fits-requires : tie.Need-rank-fits-requires
-rank-fits-requires c κs = search needs
+number-in-requires : tie.Need-number-in-requires
+number-in-requires c κs = let long = c .before in rw (long .before .entry-bytes .ensures) at (long .if3 .left)
+
+whole-requires : tie.Need-whole-requires
+whole-requires c κs = search needs
 
 returns-4 : tie.Need-returns-4
 returns-4 c =
-    let rank = c .before in
-    let long = rank .before .before in
-    let entry = long .before .before in
-    rank-wrong _ (sym (rank .rank-fits .ensures) ∙ not-true _ (c .if4 .taken))
-    ∙ field-entry _ (entry .before .if1 .left) (sym (entry .is-entry .ensures) ∙ not-false _ (long .before .if2 .left)) (long .if3 .left) _ (rank .before .entry-in .ensures)
-
-returns-5 : tie.Need-returns-5
-returns-5 c =
-    let rank = c .before in
-    let long = rank .before .before in
-    let entry = long .before .before in
-    rank-right _ (sym (rank .rank-fits .ensures) ∙ not-false _ (c .if4 .left))
-    ∙ field-entry _ (entry .before .if1 .left) (sym (entry .is-entry .ensures) ∙ not-false _ (long .before .if2 .left)) (long .if3 .left) _ (rank .before .entry-in .ensures)
+    let number = c .before in
+    let long = number .before .before in
+    let test = long .before .before in
+    let entry = test .before in
+    c .whole .ensures
+    ∙ field-entry _ _ _ (entry .before .if1 .left) (sym (entry .is-entry .ensures) ∙ not-false _ (test .if2 .left)) (rw (long .before .entry-bytes .ensures) at (long .if3 .left)) _
+    (number .before .entry-in .ensures) _ (number .number-in .ensures)
 
 pub read-field-spec : {M : Type 1} → statement M
 read-field-spec =
@@ -51,8 +59,9 @@ read-field-spec =
     returns
     is-entry-requires
     returns-2
+    entry-bytes-requires
     returns-3
     entry-in-requires
-    rank-fits-requires
-    returns-4
-    returns-5)
+    number-in-requires
+    whole-requires
+    returns-4)

@@ -5,10 +5,13 @@ use Rattle.journal_replay.proofs.rerun.ended.Statement.{statement}
 use Rattle.journal_replay.proofs.rerun.ended.Tie as tie
 
 returns : tie.Need-returns
-returns c = ending-some _ _ _ (c .if1 .taken)
+returns c = ending-some _ _ _ _ (c .if1 .taken)
 
 cast-bytes : tie.Need-cast-bytes
 cast-bytes c = search needs
+
+wide-requires : tie.Need-wide-requires
+wide-requires c κs = search needs
 
 read-field-requires : tie.Need-read-field-requires
 read-field-requires c κs = search needs
@@ -17,15 +20,19 @@ enum-told : tie.Need-enum-told
 enum-told c = search needs
 
 returns-2 : tie.Need-returns-2
-returns-2 c = let read = c .before in ending-other _ _ _ _ (read .before .if1 .left) (read .read-field .ensures) (c .match .keys2)
+returns-2 c =
+    let read = c .before in
+    ending-other _ _ _ _ _ (read .before .before .if1 .left) (rw (read .before .wide .ensures) at (read .read-field .ensures)) (c .match .keys2)
 
-add-t8 : tie.Need-add-t8
-add-t8 c = search needs
+add-t9 : tie.Need-add-t9
+add-t9 c = search needs
 
 returns-3 : tie.Need-returns-3
-returns-3 c = let read = c .before .before in ending-wrong _ _ _ _ (read .before .if1 .left) (read .read-field .ensures) (c .enum-told .given .1)
+returns-3 c =
+    let read = c .before .before in
+    ending-wrong _ _ _ _ _ (read .before .before .if1 .left) (rw (read .before .wide .ensures) at (read .read-field .ensures)) (c .enum-told .given .1)
 
 pub ended-spec : {M : Type 1} → statement M
 ended-spec =
     tie.close
-    (tie.spec returns cast-bytes read-field-requires enum-told returns-2 add-t8 returns-3)
+    (tie.spec returns cast-bytes wide-requires read-field-requires enum-told returns-2 add-t9 returns-3)

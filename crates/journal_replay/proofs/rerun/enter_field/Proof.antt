@@ -1,18 +1,36 @@
 -- `enter_field` meets its contract: the field is no entry, or its entry is entered.
 use borrow.Author.Needs.{needs}
-use mathlib.Core.Path.{refl}
+use native.Mathlib.Omega.{arith}
+use Prim.Native.Nat.{ℕ, _+_, _-_}
+use mathlib.Core.Path.{_≡_, refl, ap}
 use Rattle.journal_replay.proofs.Passing.{enters-none, enters-one, read-fits}
 use Rattle.journal_replay.proofs.rerun.enter_field.Statement.{statement}
 use Rattle.journal_replay.proofs.rerun.enter_field.Tie as tie
 
+-- where the next field starts, and the entry's number
+next-of : (start size w : ℕ) → size ≡ w → start + size ≡ start + w
+next-of start size w e = ap (_+_ start) e
+
+number-of : (n i : ℕ) → n ≡ i → n - 1 ≡ i - 1
+number-of n i e = ap (λ (k : ℕ). k - 1) e
+
+entry-bytes-requires : tie.Need-entry-bytes-requires
+entry-bytes-requires c κs = search needs
+
 add-next : tie.Need-add-next
-add-next c = search needs
+add-next c = let start = c .before .before .before .before .before .before .before .before .before in omega (arith, c .entry-bytes .ensures, start .pre .inside)
+
+wide-requires : tie.Need-wide-requires
+wide-requires c κs = search needs
+
+sub-number : tie.Need-sub-number
+sub-number c = let start = c .before .before .before .before .before .before .before .before .before .before in omega (arith, c .wide .ensures, start .pre .later)
 
 sub-read-field : tie.Need-sub-read-field
-sub-read-field c = search needs
+sub-read-field c = let start = c .before .before .before .before .before .before .before .before .before .before in omega (arith, start .pre .inside)
 
 part-read-field-start : tie.Need-part-read-field-start
-part-read-field-start c = search needs
+part-read-field-start c = let start = c .before .before .before .before .before .before .before .before .before .before in omega (arith, start .pre .inside)
 
 part-read-field-end : tie.Need-part-read-field-end
 part-read-field-end c = search needs
@@ -20,18 +38,25 @@ part-read-field-end c = search needs
 read-field-requires : tie.Need-read-field-requires
 read-field-requires c κs = search needs
 
-enum-known-entry : tie.Need-enum-known-entry
-enum-known-entry c = search needs
+enum-known-read : tie.Need-enum-known-read
+enum-known-read c = search needs
+
+refusal-requires : tie.Need-refusal-requires
+refusal-requires c κs = search needs
 
 returns : tie.Need-returns
-returns c = enters-none _ _ _ (c .before .read-field .ensures) _ _ _ _ refl refl (c .match .keys2) refl
+returns c =
+    let read = c .before .before in
+    let size = read .before .before .before in
+    enters-none _ _ _ _ _ (number-of _ _ (read .before .before .wide .ensures)) _ (read .read-field .ensures) _ _ _ refl (next-of _ _ _ (size .entry-bytes .ensures)) (c .before .match .keys2)
+    (c .refusal .ensures)
 
 enter-held-requires : tie.Need-enter-held-requires
 enter-held-requires c κs =
     let entry = c .before .before .before .before .before .before .before .before in
     let read = entry .before .before in
-    let start = read .before .before .before .before .before .before .before .before .before .before in
-    record { held = start .pre .held; fits = read-fits (start .args .journal .now) (start .args .start) _ (read .read-field .ensures) _ (entry .entry .given .1) }
+    let start = read .before .before .before .before .before .before .before .before .before .before .before .before in
+    record { held = start .pre .held; fits = read-fits _ _ (start .args .journal .now) (start .args .start) _ (read .read-field .ensures) _ (entry .read .given .1) }
 
 begun-by-requires : tie.Need-begun-by-requires
 begun-by-requires c κs = search needs
@@ -61,18 +86,25 @@ returns-2 : tie.Need-returns-2
 returns-2 c =
     let made = c .before .before .before .before .before .before .before .before .before .before .before .before .before .before .before .before .before in
     let entry = made .before .before .before .before .before .before .before .before .before in
-    enters-one _ _ _ (entry .before .before .read-field .ensures) _ _ _ _ refl refl _ (entry .entry .given .1) _ _ (made .enter-held .ensures) refl (c .begun-by .ensures)
+    let read = entry .before .before in
+    let size = read .before .before .before in
+    enters-one _ _ _ _ _ (number-of _ _ (read .before .before .wide .ensures)) _ (read .read-field .ensures) _ _ _ refl (next-of _ _ _ (size .entry-bytes .ensures)) _ (entry .read .given .1)
+    _ _ (made .enter-held .ensures) refl (c .begun-by .ensures)
 
 pub enter-field-spec : {M : Type 1} → statement M
 enter-field-spec =
     tie.close
     (tie.spec
+    entry-bytes-requires
     add-next
+    wide-requires
+    sub-number
     sub-read-field
     part-read-field-start
     part-read-field-end
     read-field-requires
-    enum-known-entry
+    enum-known-read
+    refusal-requires
     returns
     enter-held-requires
     begun-by-requires

@@ -14,34 +14,52 @@ use Prim.Native.Nat.{ℕ, _+_, _-_, _<_, _≤_}
 use mathlib.Core.List.{List}
 use mathlib.Core.Path.{_≡_, refl}
 use lib.ListN.{length}
-use Rattle.journal_fields.specs.Fields.{entrySize}
 use Rattle.journal_replay.proofs.rerun.enter_fields.Statement.{statement}
 use Rattle.journal_replay.proofs.rerun.enter_fields.Tie as tie
 
 -- a field at `at` lies within the journal, and what is left of it falls
-module _ (journal : List ℕ) (at : ℕ) (long : entrySize ≤ length journal - at) where
-  fits : at + entrySize ≤ length journal
+module _ (journal : List ℕ) (at size w : ℕ) (is : size ≡ w) (some : 0 < w) (long : size ≤ length journal - at) where
+  fits : at + w ≤ length journal
   fits = omega arith
 
-  falls : (next : ℕ) → next ≡ at + entrySize → length journal - next < length journal - at
+  falls : (next : ℕ) → next ≡ at + w → length journal - next < length journal - at
   falls next e = omega arith
 
+stops : (n size w : ℕ) → size ≡ w → n < size → n < w
+stops n size w e h = omega arith
+
 abbrev Inv-loop : tie.InvT-loop
-Inv-loop journal first neighbours₀ degrees₀ waves₀ counts₀ ranks₀ trail₀ moved₀ last₀ neighbours degrees waves counts ranks trail moved last =
+Inv-loop journal first neighbours₀ degrees₀ waves₀ counts₀ ranks₀ trail₀ moved₀ numbered size last₀ neighbours degrees waves counts ranks trail moved last =
     let m₀ = memoryOf (slicesOf neighbours₀ degrees₀ waves₀ counts₀ ranks₀) trail₀ moved₀ (last₀ .tally) in
     let m = memoryOf (slicesOf neighbours degrees waves counts ranks) trail moved (last .tally) in
-    ((G : Graph) → Ready G m₀ → Fresh false G → Ahead journal first G m₀ last m)
+    ((G : Graph) → Ready G m₀ → Fresh false G → Ahead journal numbered first G m₀ last m)
     × SameLengths m₀ m
     × (last .next ≤ length journal)
     × (last .field < last .next)
+    × (1 ≤ last .field)
 
 abbrev μ-loop : tie.MeasureT-loop
-μ-loop journal first neighbours₀ degrees₀ waves₀ counts₀ ranks₀ trail₀ moved₀ last₀ neighbours degrees waves counts ranks trail moved last = length journal - last .next
+μ-loop journal first neighbours₀ degrees₀ waves₀ counts₀ ranks₀ trail₀ moved₀ numbered size last₀ neighbours degrees waves counts ranks trail moved last = length journal - last .next
+
+sub-is-numbered : tie.Need-sub-is-numbered Inv-loop μ-loop
+sub-is-numbered c = let start = c .before .before .before .before .before .before .before .before in start .pre .inside
+
+part-is-numbered-start : tie.Need-part-is-numbered-start Inv-loop μ-loop
+part-is-numbered-start c = let start = c .before .before .before .before .before .before .before .before in start .pre .inside
+
+part-is-numbered-end : tie.Need-part-is-numbered-end Inv-loop μ-loop
+part-is-numbered-end c = search needs
+
+is-numbered-requires : tie.Need-is-numbered-requires Inv-loop μ-loop
+is-numbered-requires c κs = search needs
+
+entry-bytes-requires : tie.Need-entry-bytes-requires Inv-loop μ-loop
+entry-bytes-requires c κs = search needs
 
 loop-holds : tie.Need-loop-holds Inv-loop μ-loop
 loop-holds c =
-    let p = c .before .before .before .before .before .before .before .before .pre in
-    (λ G h f. ahead-start _ _ G _ h f _ refl refl refl refl, same _, p .inside, p .later)
+    let p = c .before .before .before .before .before .before .before .before .before .before .before .pre in
+    (λ G h f. ahead-start _ _ _ G _ h f (c .before .is-numbered .ensures) _ refl refl refl refl, same _, p .inside, p .later, omega arith)
 
 sub-if2 : tie.Need-sub-if2 Inv-loop μ-loop
 sub-if2 c = c .before .before .before .loop .inv .2
@@ -49,18 +67,19 @@ sub-if2 c = c .before .before .before .loop .inv .2
 add-enter-field : tie.Need-add-enter-field Inv-loop μ-loop
 add-enter-field c =
     let at = c .before .before .before .before .before in
-    let p = at .before .before .before .before .before .before .before .before .before .pre in
+    let p = at .before .before .before .before .before .before .before .before .before .before .before .before .pre in
     omega (arith, at .loop .inv .3, at .loop .inv .2, p .few)
 
 enter-field-requires : tie.Need-enter-field-requires Inv-loop μ-loop
 enter-field-requires c κs =
     let test = c .before .before .before .before .before .before .before .before in
     let at = test .before .before .before .before in
-    let start = at .before .before .before .before .before .before .before .before .before in
+    let start = at .before .before .before .before .before .before .before .before .before .before .before .before in
     let h = start .pre .held in
     record {
-      held = ahead-holds _ _ (h .0) _ _ _ (at .loop .inv .0 (h .0) (h .1) (h .2)) (test .before .before .if1 .taken);
-      inside = fits (start .args .journal .now) (at .loop .last .next) (leb-true _ _ (test .if2 .taken));
+      held = ahead-holds _ _ _ (h .0) _ _ _ (at .loop .inv .0 (h .0) (h .1) (h .2)) (test .before .before .if1 .taken);
+      inside = fits (start .args .journal .now) (at .loop .last .next) _ _ (at .before .entry-bytes .ensures) (omega arith) (leb-true _ _ (test .if2 .taken));
+      later = omega (arith, at .loop .inv .4);
     }
 
 loop-less : tie.Need-loop-less Inv-loop μ-loop
@@ -68,7 +87,9 @@ loop-less c =
     let done = c .before .before .before .before .before .before .before .before .before .before .before .before .before .before in
     let test = done .before .before .before .before .before .before .before .before .before in
     let at = test .before .before .before .before in
-    falls (at .before .before .before .before .before .before .before .before .before .args .journal .now) (at .loop .last .next) (leb-true _ _ (test .if2 .taken)) _ (done .enter-field .ensures .next)
+    let start = at .before .before .before .before .before .before .before .before .before .before .before .before in
+    falls (start .args .journal .now) (at .loop .last .next) _ _ (at .before .entry-bytes .ensures) (omega arith) (leb-true _ _ (test .if2 .taken)) _
+    (done .enter-field .ensures .next)
 
 loop-again : tie.Need-loop-again Inv-loop μ-loop
 loop-again c =
@@ -77,14 +98,16 @@ loop-again c =
     let at = test .before .before .before .before in
     let i = at .loop .inv in
     let f = done .enter-field in
-    let k = f .kept .1 .1 .1 in
+    let k = f .kept .1 .1 .1 .1 in
+    let size = at .before .entry-bytes .ensures in
     let l = leb-true _ _ (test .if2 .taken) in
-    let inside = fits (at .before .before .before .before .before .before .before .before .before .args .journal .now) (at .loop .last .next) l in (
-      λ G h r. ahead-turn _ _ G _ _ _ (i .0 G h r) (test .before .before .if1 .taken) l _ _ (f .ensures),
+    let inside = fits (at .before .before .before .before .before .before .before .before .before .before .before .before .args .journal .now) (at .loop .last .next) _ _ size (omega arith) l in (
+      λ G h r. ahead-turn _ _ _ G _ _ _ (i .0 G h r) (test .before .before .if1 .taken) (rw size at l) _ _ (f .ensures),
       then _ _ _ (i .1)
           (record { neighbours = k .0; degrees = k .1 .0; waves = k .1 .1 .0; counts = k .1 .1 .1 .0; ranks = k .1 .1 .1 .1 .0; trail = k .1 .1 .1 .1 .1 .0; moved = k .1 .1 .1 .1 .1 .1 .0 }),
       omega (arith, f .ensures .next, inside),
       omega (arith, f .ensures .next, f .ensures .field, i .3),
+      omega (arith, f .ensures .field),
     )
 
 sub-ended : tie.Need-sub-ended Inv-loop μ-loop
@@ -99,7 +122,7 @@ part-ended-end c = search needs
 ended-requires : tie.Need-ended-requires Inv-loop μ-loop
 ended-requires c κs =
     let at = c .before .before .before .before in
-    let start = at .before .before .before .before .before .before .before .before .before in
+    let start = at .before .before .before .before .before .before .before .before .before .before .before .before in
     let i = at .loop .inv in
     (rest-few (start .args .journal .now) _ (start .pre .few) (i .2), omega (arith, i .3, i .2, start .pre .few))
 
@@ -127,9 +150,10 @@ same-length-7 c = search needs
 returns : tie.Need-returns Inv-loop μ-loop
 returns c =
     let stop = c .before .before .before in
+    let at = stop .before .before in
     record {
-      of = λ G h f. ahead-end _ _ G _ _ _ (stop .before .before .loop .inv .0 G h f)
-          (λ z. ⊎-elim (λ w. leb-false _ _ (w .2 .left)) (λ w. absurd (w .left z)) (stop .if1 .came)) _ (c .ended .ensures);
+      of = λ G h f. ahead-end _ _ _ G _ _ _ (at .loop .inv .0 G h f)
+          (λ z. stops _ _ _ (at .before .entry-bytes .ensures) (⊎-elim (λ w. leb-false _ _ (w .2 .left)) (λ w. absurd (w .left z)) (stop .if1 .came))) _ (c .ended .ensures);
     }
 
 pub enter-fields-spec : {M : Type 1} → statement M
@@ -138,6 +162,11 @@ enter-fields-spec =
     (tie.spec
     Inv-loop
     μ-loop
+    sub-is-numbered
+    part-is-numbered-start
+    part-is-numbered-end
+    is-numbered-requires
+    entry-bytes-requires
     loop-holds
     sub-if2
     add-enter-field

@@ -1,0 +1,61 @@
+-- `number_in` meets its contract: the number due, or the one in the field.
+use borrow.Author.Needs.{needs}
+use native.Mathlib.Omega.{arith}
+use borrow.Author.Tests.{not-true, not-false}
+use Rattle.journal_fields.specs.Fields.{fourAt, numberIn}
+use Rattle.journal_fields.proofs.field.number_in.Statement.{statement}
+use Rattle.journal_fields.proofs.field.number_in.Tie as tie
+use Rattle.journal_fields.proofs.field.number_in.Reads as reads
+use Rattle.journal_fields.proofs.field.number_in.Lts as lts
+use Rattle.journal_fields.proofs.field.number_at.Reads as number-at-reads
+use Rattle.rule.proofs.wide.Reads as wide-reads
+
+returns : tie.Need-returns
+unfolding numberIn
+returns c = rw (not-true (c .before .before .args .numbered) (c .if1 .taken))
+
+number-at-requires : tie.Need-number-at-requires
+number-at-requires c κs = let start = c .before .before in omega (arith, rw (not-false (start .args .numbered) (c .if1 .left)) at (start .pre))
+
+wide-requires : tie.Need-wide-requires
+wide-requires c κs = search needs
+
+add-number-at : tie.Need-add-number-at
+add-number-at c = search needs
+
+number-at-requires-2 : tie.Need-number-at-requires-2
+number-at-requires-2 c κs =
+    let test = c .before .before in
+    let start = test .before .before in
+    omega (arith, rw (not-false (start .args .numbered) (test .if1 .left)) at (start .pre))
+
+wide-requires-2 : tie.Need-wide-requires-2
+wide-requires-2 c κs = search needs
+
+mul-result : tie.Need-mul-result
+mul-result c = search needs
+
+add-result : tie.Need-add-result
+add-result c = search needs
+
+returns-2 : tie.Need-returns-2
+unfolding numberIn fourAt
+returns-2 c =
+    let low = c .before .before in
+    let test = low .before .before in
+    rw (not-false (test .before .before .args .numbered) (test .if1 .left))
+    (omega (arith, c .wide2 .ensures, c .before .number-at2 .ensures, low .wide .ensures, low .before .number-at .ensures))
+
+pub number-in-spec : {M : Type 1} → statement M
+number-in-spec =
+    tie.close
+    (tie.spec
+    returns
+    number-at-requires
+    wide-requires
+    add-number-at
+    number-at-requires-2
+    wide-requires-2
+    mul-result
+    add-result
+    returns-2)
