@@ -51,12 +51,14 @@ extern "C" {
 #define WAVE_PLAN_COUNT_CELLS 24
 #define WAVE_PLAN_UNUSED 65535
 #define WAVE_PLAN_TALLY_CELLS 4
+#define WAVE_PLAN_MOST_BANKS_BY_RULE 16
 
 /* The cells of the result slice of each call. */
 #define WAVE_PLAN_EDIT_RESULTS 2
 #define WAVE_PLAN_WAVE_RESULTS 1
 #define WAVE_PLAN_CLASHES_RESULTS 2
 #define WAVE_PLAN_BOUND_RESULTS 1
+#define WAVE_PLAN_BY_RULE_RESULTS 1
 #define WAVE_PLAN_LIST_RESULTS 1
 #define WAVE_PLAN_SHEET_RESULTS 1
 #define WAVE_PLAN_START_RESULTS 1
@@ -103,6 +105,7 @@ extern "C" {
  *   set_cap                       1, 2, 3, 19, 20
  *   wave_of, clashes_of           1, 2, 3, 4
  *   wave_bound                    1, 2, 3
+ *   wave_by_rule                  1, 2, 3, 22, 4
  *   read_list                     9, 10, 1, 2; then each row in turn: 11, 18, 4, 5, 6 or 7, 8
  *   write_sheet, write_poster     1, 2, 3, 12
  *   start_journal                 1, 2, 3, 15
@@ -134,6 +137,7 @@ extern "C" {
 #define WAVE_PLAN_CAP_OUT_OF_SPAN 19 /* (set the cap) Is the cap from 1 to 24? */
 #define WAVE_PLAN_CAP_PASSED 20      /* Is the cap not below the waves: (set the cap) those in use, (edit) those that it would need? */
 #define WAVE_PLAN_WRONG_NUMBER 21    /* (journal, each entry with a number in turn) Is it one above the last, the first being 1? */
+#define WAVE_PLAN_MANY_BANKS_BY_RULE 22 /* (wave by rule) Is the bank count at most 16? */
 
 /* Opens a plan of `banks` banks with no clash, all waves and ranks 0, the cap 24. */
 uint16_t wave_plan_open(uint16_t *neighbours, size_t neighbours_cells, uint16_t *degrees, size_t degrees_cells,
@@ -178,6 +182,14 @@ uint16_t wave_plan_wave_bound(const uint16_t *neighbours, size_t neighbours_cell
                               const uint16_t *waves, size_t waves_cells, const uint16_t *counts, size_t counts_cells,
                               const uint16_t *ranks, size_t ranks_cells, const uint16_t *tally, size_t tally_cells,
                               uint16_t *result, size_t result_cells);
+
+/* The wave of bank b in a plan of at most 16 banks, read straight off the rule: the wave of each earlier neighbour is looked up, which is
+ * found in the same manner, and the lowest one free is taken. The search reads neighbours, degrees and ranks alone; waves and counts serve
+ * only to tell that the memory holds a plan (3). result[0]: the wave, which is that of wave_plan_wave_of. */
+uint16_t wave_plan_wave_by_rule(const uint16_t *neighbours, size_t neighbours_cells, const uint16_t *degrees, size_t degrees_cells,
+                                const uint16_t *waves, size_t waves_cells, const uint16_t *counts, size_t counts_cells,
+                                const uint16_t *ranks, size_t ranks_cells, const uint16_t *tally, size_t tally_cells,
+                                uint16_t *result, size_t result_cells, uint16_t b);
 
 /* Reads a list: opens the plan of its first row, then sets the ranks and makes the edits of the others. result[0]: the row that was
  * refused, counted from 1; 0 if the list was accepted or is too long (9). Where a later row is refused, the plan, tally, trail and

@@ -1,9 +1,9 @@
 //! Plan memory, and the calls of the static libraries that are timed.
 
 use crate::raw::{
-    wave_plan_add, wave_plan_open, wave_plan_set_cap, wave_plan_strike, wave_plan_wave_of,
+    wave_plan_add, wave_plan_open, wave_plan_set_cap, wave_plan_strike, wave_plan_wave_by_rule,
+    wave_plan_wave_of,
 };
-use crate::BANKS;
 
 /// An edit by the C interface: seven slices, tally, result, and the two banks.
 type EditCall = unsafe extern "C" fn(
@@ -97,16 +97,17 @@ pub struct Memory {
 }
 
 impl Memory {
-    /// A plan of 1,024 banks of these ranks without a clash.
+    /// A plan of banks of these ranks without a clash.
     pub fn opened(ranks: &[u16]) -> Memory {
+        let banks = ranks.len();
         let mut memory = Memory {
-            neighbours: vec![0; 23 * BANKS],
-            degrees: vec![0; BANKS],
-            waves: vec![0; BANKS],
-            counts: vec![0; 24 * BANKS],
-            ranks: vec![0; BANKS],
-            trail: vec![0; BANKS],
-            moved: vec![0; BANKS],
+            neighbours: vec![0; 23 * banks],
+            degrees: vec![0; banks],
+            waves: vec![0; banks],
+            counts: vec![0; 24 * banks],
+            ranks: vec![0; banks],
+            trail: vec![0; banks],
+            moved: vec![0; banks],
             tally: [0; 4],
             result: [0; 2],
         };
@@ -125,7 +126,7 @@ impl Memory {
                 memory.ranks.len(),
                 memory.tally.as_mut_ptr(),
                 memory.tally.len(),
-                BANKS as u16,
+                banks as u16,
             )
         };
         assert_eq!(number, 0);
@@ -199,6 +200,32 @@ impl Memory {
         // Sound: each slice is valid for its length, and no two overlap.
         let number = unsafe {
             wave_plan_wave_of(
+                self.neighbours.as_ptr(),
+                self.neighbours.len(),
+                self.degrees.as_ptr(),
+                self.degrees.len(),
+                self.waves.as_ptr(),
+                self.waves.len(),
+                self.counts.as_ptr(),
+                self.counts.len(),
+                self.ranks.as_ptr(),
+                self.ranks.len(),
+                self.tally.as_ptr(),
+                self.tally.len(),
+                self.result.as_mut_ptr(),
+                self.result.len(),
+                b,
+            )
+        };
+        assert_eq!(number, 0);
+        self.result[0]
+    }
+
+    /// The wave of a bank: question 5, then the search straight off the rule.
+    pub fn wave_by_rule(&mut self, b: u16) -> u16 {
+        // Sound: each slice is valid for its length, and no two overlap.
+        let number = unsafe {
+            wave_plan_wave_by_rule(
                 self.neighbours.as_ptr(),
                 self.neighbours.len(),
                 self.degrees.as_ptr(),

@@ -7,10 +7,12 @@
 //! - `clashes`: clashes, and random edits of them.
 //! - `clock`: processor time.
 //! - `edits`: the measurements on one plan.
+//! - `by_rule`: waves read straight off the rule, in complete plans.
 //! - `program`: the list, and the measurements of programs.
 //! - `spread`: median and quartiles.
 //! - `report`, `plot`: the document and its plot.
 
+mod by_rule;
 mod clashes;
 mod clock;
 mod edits;
@@ -28,7 +30,7 @@ mod spread;
 use std::path::Path;
 use std::{env, fs, io};
 
-/// The most banks of a plan, and the bank count of all plans here.
+/// The most banks of a plan, and the bank count of all plans here but those of `by_rule`.
 pub const BANKS: usize = 1024;
 
 /// The numbers of clashes of the plans, from few to many. Edits of the fourth have an average
@@ -49,6 +51,7 @@ fn run() -> io::Result<()> {
     let programs = program::measure();
     let docs = Path::new(env!("CARGO_MANIFEST_DIR")).join("../docs");
     fs::write(docs.join("benchmarks.svg"), plot::svg(&plans))?;
-    let document = report::document(&plans, &programs);
+    let straight: Vec<by_rule::Measured> = by_rule::BANKS.map(by_rule::measure).into();
+    let document = report::document(&plans, &straight, &programs);
     fs::write(docs.join("BENCHMARKS.md"), document)
 }

@@ -1,5 +1,6 @@
 //! The document: what was measured, as tables of ratios.
 
+use crate::by_rule::{self, LOOK_UPS};
 use crate::edits::{Measured, EDITS, REPEATS};
 use crate::program::{Programs, MODEL_RUNS, RUNS};
 use crate::spread::{figure, Spread};
@@ -40,7 +41,14 @@ waves that they lead to. The refused ones (20) are edits that would lead to more
 compared with the same edits, and their inverses, at cap 24. A core edit asks about no cap:
 ";
 
-pub fn document(plans: &[Measured], programs: &Programs) -> String {
+const STRAIGHT: &str = "\
+## Waves read straight off the rule
+
+`wave_plan_wave_by_rule` for the last bank of a complete plan, whose each bank clashes with all others: it walks each chain of ever earlier
+neighbours, and each bank more doubles them. `wave_plan_wave_of` answers the kept wave of the same bank; both ask question 5. No goal is set:
+";
+
+pub fn document(plans: &[Measured], straight: &[by_rule::Measured], programs: &Programs) -> String {
     let repeats = format!(
         "A repeat times {EDITS} edits, adds and strikes in turn and then their inverses, so that \
          the plan at its end is the one at its start.\nThere are {REPEATS} repeats.\n"
@@ -66,6 +74,8 @@ pub fn document(plans: &[Measured], programs: &Programs) -> String {
         "![Times relative to a colouring from scratch](benchmarks.svg)\n".to_string(),
         goals(plans),
         program_part(programs),
+        STRAIGHT.to_string(),
+        straight_table(straight),
     ]
     .join("\n")
 }
@@ -77,6 +87,23 @@ fn bases(plan: &Measured) -> [(&'static str, &Vec<f64>); 3] {
         ("colouring, standard sort", &plan.standard_sort),
         ("whole plan from scratch", &plan.whole_plan),
     ]
+}
+
+fn straight_table(straight: &[by_rule::Measured]) -> String {
+    let row = |measured: &by_rule::Measured| {
+        let each = |times: &[f64]| times.iter().map(|t| t * 1e6 / LOOK_UPS as f64).collect();
+        let times: Vec<f64> = each(&measured.straight);
+        vec![
+            measured.banks.to_string(),
+            Spread::of(times).to_string(),
+            Spread::ratio(&measured.straight, &measured.kept).to_string(),
+        ]
+    };
+    let rows: Vec<Vec<String>> = straight.iter().map(row).collect();
+    table(
+        &["banks", "microseconds", "its time / time of the kept wave"],
+        &rows,
+    )
 }
 
 fn table(head: &[&str], rows: &[Vec<String>]) -> String {

@@ -6,7 +6,7 @@
 
 #include "wave_plan.h"
 
-enum { ROW = WAVE_PLAN_ROW_CELLS, COUNT = WAVE_PLAN_COUNT_CELLS, TALLY = WAVE_PLAN_TALLY_CELLS, CAP = 3, NUMBERS = 21 };
+enum { ROW = WAVE_PLAN_ROW_CELLS, COUNT = WAVE_PLAN_COUNT_CELLS, TALLY = WAVE_PLAN_TALLY_CELLS, CAP = 3, NUMBERS = 23 };
 
 /* A plan's slices: a caller may lend them shorter than they are, by the numbers of cells. */
 typedef struct {
@@ -322,6 +322,48 @@ static void of_clashes_of(void) {
     WRONG_RANKS(p, CLASHES_OF(1));
     p.degrees[0]++;
     GIVES(3, CLASHES_OF(3));
+    gone(p);
+}
+
+#define WAVE_BY_RULE(b) wave_plan_wave_by_rule(PLAN(p), TALLY_OF(p), RESULT_OF(p), b)
+
+static void of_wave_by_rule(void) {
+    Plan p = four_banks(WAVE_PLAN_BY_RULE_RESULTS);
+    for (uint16_t b = 0; b < 4; b++) {
+        GIVES(0, WAVE_BY_RULE(b));
+        IS(p.result[0], b % 2);
+        IS(p.waves[b], b % 2);
+    }
+    GIVES(4, WAVE_BY_RULE(4));
+    IS(p.result[0], 0);
+    SHORT_RESULT(p, WAVE_BY_RULE(1));
+    SHORT_TALLY(p, WAVE_BY_RULE(1));
+    WRONG_RANKS(p, WAVE_BY_RULE(1));
+    p.waves[0]++; /* it is not read, but the memory holds no plan */
+    GIVES(3, WAVE_BY_RULE(1));
+    IS(p.result[0], 0);
+    p.waves_cells--;
+    GIVES(2, WAVE_BY_RULE(1));
+    p.tally[0] = WAVE_PLAN_MOST_BANKS + 1;
+    GIVES(1, WAVE_BY_RULE(1));
+    gone(p);
+    p = opened(WAVE_PLAN_MOST_BANKS_BY_RULE, WAVE_PLAN_EDIT_RESULTS);
+    for (uint16_t b = 0; b < 16; b++) /* all banks clash: each has the wave of its number */
+        for (uint16_t a = 0; a < b; a++) GIVES(0, ADD(a, b));
+    for (uint16_t b = 0; b < 16; b++) {
+        p.result[1] = 7;
+        GIVES(0, WAVE_BY_RULE(b));
+        IS(p.result[0], b);
+        IS(p.result[1], 7);
+    }
+    GIVES(4, WAVE_BY_RULE(16));
+    gone(p);
+    p = opened(WAVE_PLAN_MOST_BANKS_BY_RULE + 1, WAVE_PLAN_BY_RULE_RESULTS);
+    GIVES(22, WAVE_BY_RULE(0));
+    IS(p.result[0], 0);
+    GIVES(22, WAVE_BY_RULE(17)); /* 22 comes before 4 */
+    p.counts[0]++;
+    GIVES(3, WAVE_BY_RULE(0)); /* and after 3 */
     gone(p);
 }
 
@@ -921,6 +963,7 @@ int main(void) {
                  {"wave_plan_wave_of", of_wave_of},
                  {"wave_plan_clashes_of", of_clashes_of},
                  {"wave_plan_wave_bound", of_wave_bound},
+                 {"wave_plan_wave_by_rule", of_wave_by_rule},
                  {"wave_plan_read_list", of_read_list},
                  {"wave_plan_write_sheet", of_write_sheet},
                  {"wave_plan_write_poster", of_write_poster},

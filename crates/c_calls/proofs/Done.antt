@@ -11,6 +11,7 @@ use Rattle.memory.specs.Memory.{Memory, memoryOf}
 use Rattle.planner.specs.Calls.{OpenResult, opened, planNumber, bankNumber, waveOf, clashesOf}
 use Rattle.edit_calls.specs.Calls.{CapResult, setCap}
 use Rattle.wave_bounds.specs.Calls.{boundOf}
+use Rattle.direct_rule.specs.Calls.{directNumber, ruleWaveOf}
 use Rattle.journal.specs.Calls.{RecordResult, recorded}
 use Rattle.checkpoints.specs.Calls.{ShelfResult, shelfResult, keep, BackResult, comeBack}
 use Rattle.c_cells.specs.CellMemory.{tallyIn, tallyCells, shortNumber, roomed, CellMemory, cellsOf, answered}
@@ -20,7 +21,7 @@ use Rattle.c_calls.specs.declared.sources.Source.{Source}
 use Rattle.c_calls.specs.declared.sources.Source.the-variants.{FromList, FromJournal}
 use Rattle.c_calls.specs.declared.sources.Made.{Made}
 use Rattle.c_calls.specs.Calls.{openAnswered, openDone, openCall, capAnswered, capDone, capCall, listOutcome, listCall, readAnswered, waveDone, waveCall, boundDone, boundCall}
-use Rattle.c_calls.specs.Calls.{rowStart, clashesDone, clashesCall, TextOutcome, textAnswered, textDone, textCall}
+use Rattle.c_calls.specs.Calls.{directDone, directCall, rowStart, clashesDone, clashesCall, TextOutcome, textAnswered, textDone, textCall}
 use Rattle.c_calls.specs.Journals.{recordAnswered, recordDone, recordCall, replayOutcome, replayCall}
 use Rattle.c_calls.specs.Shelves.{keepCall, backAnswered, backDone, comeBackCall}
 use Rattle.c_calls.specs.Kinds.{sourceCall}
@@ -84,6 +85,15 @@ module _ (s : Slices) (tally result : List ℕ) (short b : ℕ) (t : Tally) (at 
       → readAnswered number result′ ≡ waveCall b s tally result
   unfolding waveCall waveDone
   wave-done = one-done tally result short t at none (bankNumber b s) (waveOf b s)
+
+  pub direct-done : (number wave : ℕ) (result′ : List ℕ)
+      → short ≡ shortNumber 1 (length tally) (length result)
+      → number ≡ directNumber b s t
+      → wave ≡ ruleWaveOf b s t
+      → result′ ≡ over (wave ∷ []) result
+      → readAnswered number result′ ≡ directCall b s tally result
+  unfolding directCall directDone
+  direct-done = one-done tally result short t at none (directNumber b s) (ruleWaveOf b s)
 
   pub clashes-done : (number start : ℕ) (part result′ : List ℕ)
       → short ≡ shortNumber 2 (length tally) (length result)

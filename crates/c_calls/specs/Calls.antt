@@ -9,6 +9,7 @@ use Rattle.memory.specs.Plan.{Slices}
 use Rattle.planner.specs.Calls.{OpenResult, opened, planNumber, bankNumber, waveOf, clashesOf}
 use Rattle.edit_calls.specs.Calls.{edit, CapResult, setCap}
 use Rattle.wave_bounds.specs.Calls.{boundOf}
+use Rattle.direct_rule.specs.Calls.{directNumber, ruleWaveOf}
 use Rattle.list_reader.specs.Pass.{ListResult, readList}
 use Rattle.wave_lines.specs.Calls.{TextResult}
 use Rattle.sheet_writer.specs.Calls.{writeSheet}
@@ -97,6 +98,14 @@ boundDone s t result = readAnswered (planNumber s t) (over (boundOf s t ∷ []) 
 -- wave_plan_wave_bound
 unfoldable pub boundCall : Slices → List ℕ → List ℕ → ReadAnswered
 boundCall s tally result = roomed (shortNumber 1 (length tally) (length result)) (λ c. readAnswered c result) (boundDone s (tallyIn tally) result)
+
+-- the wave read straight off is the result
+unfoldable pub directDone : ℕ → Slices → Tally → List ℕ → ReadAnswered
+directDone b s t result = readAnswered (directNumber b s t) (over (ruleWaveOf b s t ∷ []) result)
+
+-- wave_plan_wave_by_rule
+unfoldable pub directCall : ℕ → Slices → List ℕ → List ℕ → ReadAnswered
+directCall b s tally result = roomed (shortNumber 1 (length tally) (length result)) (λ c. readAnswered c result) (directDone b s (tallyIn tally) result)
 
 -- the part of a slice that two cells name by its start and its length
 unfoldable pub partNamed : List ℕ → List ℕ → List ℕ

@@ -12,6 +12,7 @@ pub use editing::set_cap_in;
 pub use plan::clashes_of_in;
 pub use plan::open_in;
 pub use plan::wave_bound_in;
+pub use plan::wave_by_rule_in;
 pub use plan::wave_of_in;
 pub use recording::record_in;
 pub use shelves::come_back_in;

@@ -2,6 +2,7 @@
 use c_cells::put_tally;
 use c_cells::room;
 use c_cells::tally_in;
+use direct_rule::wave_by_rule;
 use memory::put_front;
 use planner::clashes_of;
 use planner::open_core;
@@ -13,7 +14,7 @@ use wave_bounds::wave_bound;
 ghost use mathlib.Core.Path.{_≡_};
 ghost use Prim.Native.Nat.{_<_};
 ghost use Rattle.memory.specs.Lent.{slicesBefore, slicesAfter};
-ghost use Rattle.c_calls.specs.Calls.{openAnswered, openCall, readAnswered, waveCall, rowStart, clashesCall, boundCall};
+ghost use Rattle.c_calls.specs.Calls.{openAnswered, openCall, readAnswered, waveCall, rowStart, clashesCall, boundCall, directCall};
 
 const WAVE_RESULTS: usize = 1;
 
@@ -126,5 +127,29 @@ pub fn wave_bound_in(
     let t = tally_in(tally);
     let r = wave_bound(neighbours, degrees, waves, counts, ranks, t);
     put_front(result, &[r.bound]);
+    r.number
+}
+
+// The wave of bank b, read straight off the rule: the result.
+pub fn wave_by_rule_in(
+    neighbours: &[u16],
+    degrees: &[u16],
+    waves: &[u16],
+    counts: &[u16],
+    ranks: &[u16],
+    tally: &[u16],
+    result: &mut [u16],
+    b: u16,
+) -> u16
+    ensures { λ r. ⌜ readAnswered r (now (result .exit))
+        ≡ directCall b (slicesBefore neighbours degrees waves counts ranks) (now (tally .entry)) (now (result .entry)) ⌝ }
+{
+    let short = room(tally.len(), result.len(), WAVE_RESULTS);
+    if short != 0 {
+        return short;
+    }
+    let t = tally_in(tally);
+    let r = wave_by_rule(neighbours, degrees, waves, counts, ranks, t, Bank(b));
+    put_front(result, &[r.wave.0]);
     r.number
 }

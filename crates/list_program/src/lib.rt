@@ -5,5 +5,8 @@ mod printing;
 mod refusal;
 mod texts;
 
+pub use input::LIST_BYTES;
+pub use input::read_input;
 pub use printing::run;
+pub use refusal::put_refusal;
 pub use texts::Text;

@@ -13,6 +13,7 @@ pub use editing::wave_plan_strike;
 pub use plan::wave_plan_clashes_of;
 pub use plan::wave_plan_open;
 pub use plan::wave_plan_wave_bound;
+pub use plan::wave_plan_wave_by_rule;
 pub use plan::wave_plan_wave_of;
 pub use recording::wave_plan_add_recorded;
 pub use recording::wave_plan_strike_recorded;

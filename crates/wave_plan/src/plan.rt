@@ -2,10 +2,11 @@
 use c_calls::clashes_of_in;
 use c_calls::open_in;
 use c_calls::wave_bound_in;
+use c_calls::wave_by_rule_in;
 use c_calls::wave_of_in;
 ghost use mathlib.Core.Path.{_≡_};
 ghost use Rattle.memory.specs.Lent.{slicesBefore, slicesAfter};
-ghost use Rattle.c_calls.specs.Calls.{openAnswered, openCall, readAnswered, waveCall, clashesCall, boundCall};
+ghost use Rattle.c_calls.specs.Calls.{openAnswered, openCall, readAnswered, waveCall, clashesCall, boundCall, directCall};
 
 // Opens a plan of `banks` banks with no clash.
 #[no_mangle]
@@ -76,4 +77,22 @@ pub extern "C" fn wave_plan_wave_bound(
         ≡ boundCall (slicesBefore neighbours degrees waves counts ranks) (now (tally .entry)) (now (result .entry)) ⌝ }
 {
     wave_bound_in(neighbours, degrees, waves, counts, ranks, tally, result)
+}
+
+// The wave of bank b, read straight off the rule: the result.
+#[no_mangle]
+pub extern "C" fn wave_plan_wave_by_rule(
+    neighbours: &[u16],
+    degrees: &[u16],
+    waves: &[u16],
+    counts: &[u16],
+    ranks: &[u16],
+    tally: &[u16],
+    result: &mut [u16],
+    b: u16,
+) -> u16
+    ensures { λ r. ⌜ readAnswered r (now (result .exit))
+        ≡ directCall b (slicesBefore neighbours degrees waves counts ranks) (now (tally .entry)) (now (result .entry)) ⌝ }
+{
+    wave_by_rule_in(neighbours, degrees, waves, counts, ranks, tally, result, b)
 }

@@ -1,9 +1,9 @@
-//! The planner's calls: open, add, strike, set the cap, wave of a bank, clashes of a bank, and how
-//! many waves at most. Each asks its questions in the paper's order, and a refused call writes nothing.
+//! The planner's calls: open, add, strike, set the cap, wave of a bank, kept or read straight off the
+//! rule, clashes of a bank, and how many waves at most. Each asks its questions in the paper's order, and a refused call writes nothing.
 
 use crate::graph::{number_of_waves, Bank, Graph};
 use crate::memory::{in_span, Memory};
-use crate::plan::{MAX_BANKS, MAX_DEGREE};
+use crate::plan::{MAX_BANKS, MAX_BANKS_BY_RULE, MAX_DEGREE};
 use crate::reach::{reach, Edit};
 use crate::refusals::*;
 
@@ -143,6 +143,23 @@ impl Memory {
                 bound: graph.wave_bound(),
             },
             Err(number) => BoundAnswer { number, bound: 0 },
+        }
+    }
+
+    /// The wave of bank b, read straight off the rule.
+    pub fn wave_by_rule(&self, b: u16) -> WaveAnswer {
+        let b = usize::from(b);
+        let asked = self.plan_questions().and_then(|graph| {
+            ask(graph.banks() <= MAX_BANKS_BY_RULE, MANY_BANKS_BY_RULE)?;
+            ask(b < graph.banks(), NO_SUCH_BANK)?;
+            Ok(graph)
+        });
+        match asked {
+            Ok(graph) => WaveAnswer {
+                number: ACCEPTED,
+                wave: graph.wave_by_rule(b) as u16,
+            },
+            Err(number) => WaveAnswer { number, wave: 0 },
         }
     }
 

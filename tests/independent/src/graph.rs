@@ -141,6 +141,14 @@ impl Graph {
         waves.into_iter().map(given).collect()
     }
 
+    /// The rule wave of b, straight off: the wave of each earlier neighbour is looked up, which is found in
+    /// the same manner. Each chain of ever earlier neighbours is walked: for few banks.
+    pub fn wave_by_rule(&self, b: Bank) -> Wave {
+        let earlier = self.neighbours(b).filter(|&q| self.earlier(q, b));
+        let held: Vec<Wave> = earlier.map(|q| self.wave_by_rule(q)).collect();
+        lowest_free(&held)
+    }
+
     /// The largest degree, or 0 without banks.
     pub fn largest_degree(&self) -> usize {
         let degrees = (0..self.banks()).map(|b| self.degree(b));

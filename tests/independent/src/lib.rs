@@ -8,15 +8,17 @@
 //! - `plan`: the plan's cells and tally.
 //! - `memory`: the lent slices, and whether they hold a plan.
 //! - `refusals`: the numbers of the questions.
-//! - `calls`: open, add, strike, set the cap, wave of a bank, clashes of a bank, how many waves at
-//!   most.
+//! - `calls`: open, add, strike, set the cap, wave of a bank, kept or read straight off the rule,
+//!   clashes of a bank, how many waves at most.
 //! - `list`: the list's rows and the call that reads a list.
 //! - `journal`: a journal's fields, and the calls that start, record and replay.
 //! - `shelf`: three places for kept plans, and the calls that open it, keep and come back.
 //! - `sheet`, `poster`: their texts, the calls that write them, and the outputs of the programs.
+//! - `doubt`: the output of the program.
 //! - `random`, `ranks`, `lists`, `journals`: inputs for the tests.
 
 pub mod calls;
+pub mod doubt;
 pub mod graph;
 pub mod journal;
 pub mod journals;

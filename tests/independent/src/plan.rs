@@ -5,6 +5,9 @@ use crate::graph::{number_of_waves, Graph};
 /// The most banks of a plan.
 pub const MAX_BANKS: usize = 1024;
 
+/// The most banks of a plan whose waves are read straight off the rule.
+pub const MAX_BANKS_BY_RULE: usize = 16;
+
 /// The most clashes of a bank, and the length of its row of neighbours.
 pub const MAX_DEGREE: usize = 23;
 

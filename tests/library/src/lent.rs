@@ -79,6 +79,12 @@ impl Lent<'_> {
             self.neighbours, self.degrees, self.waves, self.counts, self.ranks, self.tally, self.result;))
     }
 
+    /// The wave of bank b, read straight off the rule. Result: the wave.
+    pub fn wave_by_rule(&mut self, b: u16) -> u16 {
+        call!(wave_plan_wave_by_rule(
+            self.neighbours, self.degrees, self.waves, self.counts, self.ranks, self.tally, self.result; b))
+    }
+
     /// Read a list. Result: the row of a refusal.
     pub fn read_list(&mut self, list: &[u8]) -> u16 {
         call!(wave_plan_read_list(

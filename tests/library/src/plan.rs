@@ -173,6 +173,12 @@ impl Plan {
         Ok(self.result[0])
     }
 
+    /// The wave of bank b in a plan of at most 16 banks, read straight off the rule.
+    pub fn wave_by_rule(&mut self, b: Bank) -> Result<Wave, Refused> {
+        answer(self.lent().wave_by_rule(b.0))?;
+        Ok(Wave(self.result[0]))
+    }
+
     /// The ranks by bank number, as the K rows of its list or the K fields of its journal set them.
     pub fn ranks(&self) -> &[u16] {
         &self.ranks[..usize::from(self.tally[0])]

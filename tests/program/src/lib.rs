@@ -1,4 +1,4 @@
-//! Runs the programs *sheet* and *poster* on a list and judges what they print.
+//! Runs the programs *sheet*, *poster* and *doubt* on a list and judges what they print.
 //!
 //! - `run`: starts a program.
 //! - `read_back`: reads the waves and the foot off a printed sheet or poster and holds them against
@@ -7,7 +7,7 @@
 pub mod read_back;
 pub mod run;
 
-use independent::{poster, sheet};
+use independent::{doubt, poster, sheet};
 
 /// The program *sheet* prints for this list what the model does; a sheet also follows the rule and adds up.
 pub fn agrees_with_model(list: &[u8]) {
@@ -25,6 +25,15 @@ pub fn poster_agrees_with_model(list: &[u8]) {
     if !printed.starts_with(b"REFUSED") {
         read_back::poster_follows_rule(list, &printed);
     }
+}
+
+/// The program *doubt* prints for this list and these banks what the model does.
+pub fn doubt_agrees_with_model(list: &[u8], banks: &[u16]) {
+    let arguments: Vec<String> = banks.iter().map(u16::to_string).collect();
+    let arguments: Vec<&str> = arguments.iter().map(String::as_str).collect();
+    let told = run::doubt_program(list, &arguments);
+    same(list, &told.output, &doubt::program_output(list, banks));
+    assert!(told.errors.is_empty());
 }
 
 fn same(list: &[u8], printed: &[u8], wanted: &[u8]) {

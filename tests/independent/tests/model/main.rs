@@ -1,6 +1,7 @@
 //! Tests of the model: the papers' examples, and the rule and demand 3 on random graphs.
 
 mod bounds;
+mod by_rule;
 mod caps;
 mod journal;
 mod journal_numbers;

@@ -21,6 +21,7 @@ pub enum Call {
     WaveOf(u16),
     ClashesOf(u16),
     WaveBound,
+    WaveByRule(u16),
     ReadList(Vec<u8>),
     WriteSheet(usize),
     WritePoster(usize),
@@ -43,6 +44,7 @@ impl fmt::Display for Call {
             Call::WaveOf(b) => write!(f, "wave of {b}"),
             Call::ClashesOf(b) => write!(f, "clashes of {b}"),
             Call::WaveBound => write!(f, "wave bound"),
+            Call::WaveByRule(b) => write!(f, "wave of {b} by the rule"),
             Call::ReadList(list) => {
                 let front = &list[..list.len().min(80)];
                 write!(f, "list of {} bytes, {}", list.len(), front.escape_ascii())
@@ -112,6 +114,10 @@ impl Call {
                 let answer = model.wave_bound();
                 (answer.number, vec![answer.bound])
             }
+            Call::WaveByRule(b) => {
+                let answer = model.wave_by_rule(*b);
+                (answer.number, vec![usize::from(answer.wave)])
+            }
             Call::ReadList(list) => {
                 let answer = model.read_list(list);
                 (answer.number, vec![answer.row])
@@ -162,6 +168,7 @@ impl Call {
             Call::WaveOf(b) => lent.wave_of(*b),
             Call::ClashesOf(b) => lent.clashes_of(*b),
             Call::WaveBound => lent.wave_bound(),
+            Call::WaveByRule(b) => lent.wave_by_rule(*b),
             Call::ReadList(list) => lent.read_list(list),
             Call::WriteSheet(_) => lent.write_sheet(output),
             Call::WritePoster(_) => lent.write_poster(output),

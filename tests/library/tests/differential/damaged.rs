@@ -11,7 +11,7 @@ use independent::random::Random;
 use independent::reach::Edit;
 
 /// How many calls got each number.
-type Numbers = [usize; 21];
+type Numbers = [usize; 23];
 
 #[test]
 fn calls_on_damaged_plans() {
@@ -63,6 +63,7 @@ fn each_damage_is_seen_by_each_call() {
                 Call::WaveOf(1),
                 Call::ClashesOf(0),
                 Call::WaveBound,
+                Call::WaveByRule(0),
                 Call::WriteSheet(5000),
                 Call::StartJournal(vec![0; 4000]),
                 Call::Record(any_entry(0, 1), any_journal(&memory), 5),
@@ -166,7 +167,7 @@ fn any_call(random: &mut Random, memory: &Memory) -> Call {
         _ => random.below(n.max(1)) as u16,
     };
     let (a, b) = (any(random), any(random));
-    match random.below(37) {
+    match random.below(39) {
         0 => Call::Open(a),
         1 => Call::ReadList(any_list(random, a)),
         2..=9 => Call::Add(a, b),
@@ -181,6 +182,7 @@ fn any_call(random: &mut Random, memory: &Memory) -> Call {
         26 | 27 => Call::StartJournal(vec![b'#'; random.below(2000)]),
         28 | 29 => Call::Record(any_entry(a, b), any_journal(memory), 5),
         30..=32 => Call::SetCap(random.below(27) as u16),
+        33 | 34 => Call::WaveByRule(a),
         _ => {
             let enough = sheet_length(memory) + 2;
             let any = random.below(enough);

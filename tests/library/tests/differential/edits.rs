@@ -250,6 +250,7 @@ fn question(random: &mut Random, pair: &mut Pair) {
     let n = usize::from(pair.model.tally.banks);
     let b = random.below(n + 2) as u16;
     pair.call(&Call::WaveBound);
+    pair.call(&Call::WaveByRule(b));
     let call = match random.below(3) {
         0 => Call::WaveOf(b),
         1 => Call::ClashesOf(b),

@@ -7,6 +7,7 @@
 //! - `edits`: sequences of edits, accepted and refused, and caps.
 //! - `caps`: edits at the waves that they need and one below; the caps that can be set.
 //! - `bounds`: how many waves at most.
+//! - `by_rule`: waves read straight off the rule.
 //! - `damage`, `damaged`: memory that holds no plan or is too short, and the calls on it.
 //! - `lists`, `sheets`, `posters`: reading lists, writing sheets and posters.
 //! - `journals`, `replays`: starting journals and recording edits; replaying journals.
@@ -19,6 +20,7 @@
 //! With WAVE_PLAN_QUICK set, each test makes fewer calls, for a run under a memory checker.
 
 mod bounds;
+mod by_rule;
 mod call;
 mod caps;
 mod damage;

@@ -1,0 +1,2 @@
+-- Answers: what the calls that are made answer, as far as printing needs it.
+pub mod Answers
