@@ -106,7 +106,7 @@ extern "C" {
  *   wave_of, clashes_of           1, 2, 3, 4
  *   wave_bound                    1, 2, 3
  *   wave_by_rule                  1, 2, 3, 22, 4
- *   read_list                     9, 10, 1, 2; then each row in turn: 11, 18, 4, 5, 6 or 7, 8
+ *   read_list                     9, 10, 1, 2; then each row in turn: 11 or 23, 18, 4, 5, 6 or 7, 8
  *   write_sheet, write_poster     1, 2, 3, 12
  *   start_journal                 1, 2, 3, 15
  *   add_recorded                  9, 13, 1, 2, 3; each field so far in turn: 14, 21, 18; then 4, 5, 6, 8, 20, 15
@@ -116,28 +116,29 @@ extern "C" {
  *   come_back                     1, 2, 3, 16, 17
  */
 #define WAVE_PLAN_ACCEPTED 0
-#define WAVE_PLAN_TOO_MANY_BANKS 1   /* Is the bank count at most 1024? */
-#define WAVE_PLAN_SHORT_SLICE 2      /* Is each plan, trail, moved and shelf slice that is lent long enough? Tally and result too. */
-#define WAVE_PLAN_NO_PLAN 3          /* Does the memory hold a plan, and each used place of a shelf one of as many banks? */
-#define WAVE_PLAN_NO_SUCH_BANK 4     /* Is each named bank below the bank count? */
-#define WAVE_PLAN_SAME_BANK 5        /* Are the two banks different? */
-#define WAVE_PLAN_CLASH_THERE 6      /* (add) Are they free of a clash so far? */
-#define WAVE_PLAN_NO_CLASH 7         /* (strike) Do they clash? */
-#define WAVE_PLAN_ROW_FULL 8         /* (add) Have both fewer than 23 clashes? */
-#define WAVE_PLAN_LONG_LIST 9        /* (list, journal) Has it at most 60000 bytes? */
-#define WAVE_PLAN_NO_FIRST_ROW 10    /* (list) Is row 1 an N row of the stated form? */
-#define WAVE_PLAN_UNREADABLE_ROW 11  /* (list, each further row in turn) Is it one of the four forms? */
-#define WAVE_PLAN_SHORT_OUTPUT 12    /* (sheet, poster) Is the output at least as long as it? */
-#define WAVE_PLAN_NO_FIRST_FIELD 13  /* (journal) Is it within the slice, and its first field whole and of the stated form? */
-#define WAVE_PLAN_WRONG_FIELD 14     /* (journal, each further field in turn) Are tag and length right, and a rank at most 9999? */
-#define WAVE_PLAN_NO_SPACE 15        /* (start, record) Is there space in the slice, and in 60000 bytes, for what is to be written? */
-#define WAVE_PLAN_UNKNOWN_NAME 16    /* (keep, come back) Is the name one of the three? */
-#define WAVE_PLAN_NOTHING_KEPT 17    /* (come back) Is a plan kept under the name? */
-#define WAVE_PLAN_LATE_RANK 18       /* (list, journal, each K row or K field in turn) Does it come before the first edit? */
-#define WAVE_PLAN_CAP_OUT_OF_SPAN 19 /* (set the cap) Is the cap from 1 to 24? */
-#define WAVE_PLAN_CAP_PASSED 20      /* Is the cap not below the waves: (set the cap) those in use, (edit) those that it would need? */
-#define WAVE_PLAN_WRONG_NUMBER 21    /* (journal, each entry with a number in turn) Is it one above the last, the first being 1? */
+#define WAVE_PLAN_TOO_MANY_BANKS 1      /* Is the bank count at most 1024? */
+#define WAVE_PLAN_SHORT_SLICE 2         /* Is each plan, trail, moved and shelf slice that is lent long enough? Tally and result too. */
+#define WAVE_PLAN_NO_PLAN 3             /* Does the memory hold a plan, and each used place of a shelf one of as many banks? */
+#define WAVE_PLAN_NO_SUCH_BANK 4        /* Is each named bank below the bank count? */
+#define WAVE_PLAN_SAME_BANK 5           /* Are the two banks different? */
+#define WAVE_PLAN_CLASH_THERE 6         /* (add) Are they free of a clash so far? */
+#define WAVE_PLAN_NO_CLASH 7            /* (strike) Do they clash? */
+#define WAVE_PLAN_ROW_FULL 8            /* (add) Have both fewer than 23 clashes? */
+#define WAVE_PLAN_LONG_LIST 9           /* (list, journal) Has it at most 60000 bytes? */
+#define WAVE_PLAN_NO_FIRST_ROW 10       /* (list) Is row 1, or row 2 after "V 2", an N row of the stated form? */
+#define WAVE_PLAN_UNREADABLE_ROW 11     /* (list, each further row in turn) Is it one of the four forms? */
+#define WAVE_PLAN_SHORT_OUTPUT 12       /* (sheet, poster) Is the output at least as long as it? */
+#define WAVE_PLAN_NO_FIRST_FIELD 13     /* (journal) Is it within the slice, and its first field whole and of the stated form? */
+#define WAVE_PLAN_WRONG_FIELD 14        /* (journal, each further field in turn) Are tag and length right, and a rank at most 9999? */
+#define WAVE_PLAN_NO_SPACE 15           /* (start, record) Is there space in the slice, and in 60000 bytes, for what is to be written? */
+#define WAVE_PLAN_UNKNOWN_NAME 16       /* (keep, come back) Is the name one of the three? */
+#define WAVE_PLAN_NOTHING_KEPT 17       /* (come back) Is a plan kept under the name? */
+#define WAVE_PLAN_LATE_RANK 18          /* (list, journal, each K row or K field in turn) Does it come before the first edit? */
+#define WAVE_PLAN_CAP_OUT_OF_SPAN 19    /* (set the cap) Is the cap from 1 to 24? */
+#define WAVE_PLAN_CAP_PASSED 20         /* Is the cap not below the waves: (set the cap) those in use, (edit) those that it would need? */
+#define WAVE_PLAN_WRONG_NUMBER 21       /* (journal, each entry with a number in turn) Is it one above the last, the first being 1? */
 #define WAVE_PLAN_MANY_BANKS_BY_RULE 22 /* (wave by rule) Is the bank count at most 16? */
+#define WAVE_PLAN_D_RETIRED 23          /* (list that starts with "V 2", each further row in turn) Is it no D row? */
 
 /* Opens a plan of `banks` banks with no clash, all waves and ranks 0, the cap 24. */
 uint16_t wave_plan_open(uint16_t *neighbours, size_t neighbours_cells, uint16_t *degrees, size_t degrees_cells,
@@ -191,9 +192,10 @@ uint16_t wave_plan_wave_by_rule(const uint16_t *neighbours, size_t neighbours_ce
                                 const uint16_t *ranks, size_t ranks_cells, const uint16_t *tally, size_t tally_cells,
                                 uint16_t *result, size_t result_cells, uint16_t b);
 
-/* Reads a list: opens the plan of its first row, then sets the ranks and makes the edits of the others. result[0]: the row that was
- * refused, counted from 1; 0 if the list was accepted or is too long (9). Where a later row is refused, the plan, tally, trail and
- * moved are those of the rows before it. */
+/* Reads a list: opens the plan of its N row, then sets the ranks and makes the edits of the others. A list may start with the row
+ * "V 2"; its N row is then row 2, and it has no D rows. result[0]: the row that was refused, counted from 1; 0 if the list was
+ * accepted or is too long (9). Where a row after the N row is refused, the plan, tally, trail and moved are those of the rows before
+ * it. */
 uint16_t wave_plan_read_list(const uint8_t *list, size_t list_bytes, uint16_t *neighbours, size_t neighbours_cells,
                              uint16_t *degrees, size_t degrees_cells, uint16_t *waves, size_t waves_cells,
                              uint16_t *counts, size_t counts_cells, uint16_t *ranks, size_t ranks_cells,

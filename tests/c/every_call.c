@@ -408,7 +408,9 @@ static void of_read_list(void) {
         uint16_t number, row;
     } refused[] = {{"", 10, 1},          {"N 1025", 1, 1},      {"N 5", 2, 1},           {"N 4\nx", 11, 2},
                    {"N 4\n+ 0 4", 4, 2}, {"N 4\n+ 0 0", 5, 2}, {"N 4\n- 0 1\n", 7, 2}, {"N 4\nK 0 10000", 11, 2},
-                   {"N 4\nK 4 0", 4, 2}, {"N 4\nD 0\nK 4 0", 18, 3}, {"N 4\n+ 0 1\n- 0 1\nK 0 1", 18, 4},
+                   {"N 4\nK 4 0", 4, 2}, {"V 2", 10, 2}, {"V 02\nN 4", 10, 1}, {"V 2\nV 2", 10, 2}, {"V 2\nN 5", 2, 2},
+                   {"N 4\nV 2", 11, 2}, {"V 2\nN 4\nD 9", WAVE_PLAN_D_RETIRED, 3}, {"V 2\nN 4\nD", 11, 3},
+                   {"N 4\nD 0\nK 4 0", 18, 3}, {"N 4\n+ 0 1\n- 0 1\nK 0 1", 18, 4},
                    {"N 4\nK 3 7\nK 3 5\n+ 0 1\n+ 0 1", 6, 5}};
     for (size_t i = 0; i < sizeof refused / sizeof *refused; i++) {
         GIVES(refused[i].number, read_list(p, refused[i].list));
@@ -436,7 +438,7 @@ static void of_read_list(void) {
     longest[WAVE_PLAN_MOST_LIST_BYTES] = 0;
     GIVES(10, read_list(p, longest));
     free(longest);
-    GIVES(0, read_list(p, "N 4\nK 0 0001\nK 3 9999\n+ 0 1"));
+    GIVES(0, read_list(p, "V 2\nN 4\nK 0 0001\nK 3 9999\n+ 0 1"));
     IS(p.result[0], 0);
     IS(p.waves[0], 1);
     IS(p.waves[1], 0);

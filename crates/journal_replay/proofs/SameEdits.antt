@@ -5,7 +5,7 @@ use mathlib.Core.Logic.{_⊎_, inl, inr}
 use mathlib.Core.Path.{_≡_, refl, ap, ap₂, _∙_}
 use Prim.Native.Nat.{ℕ, zero, suc, _≤_, _<_}
 use native.Mathlib.Omega.{arith}
-use lib.Dec.{leb}
+use lib.Dec.{leb, eqb}
 use lib.ListN.{length}
 use borrow.Author.Tests.{lt-leb, leb-true, le-ltb, ne-eqb}
 use Rattle.rule.proofs.Booleans.{lt-or-ge}
@@ -30,9 +30,9 @@ use Rattle.text.proofs.Decimal.{reads-back, reads-not}
 use Rattle.text.proofs.Without.{Without, without-append, decimal-without, rows-feed, parts-space, parts-last}
 use Rattle.list_rows.specs.declared.row.Change.the-variants.{One}
 use Rattle.list_rows.specs.declared.row.Row.the-variants.{Banks, Edit, Unreadable}
-use Rattle.list_rows.specs.Rows.{isByte, twoParts, threeParts, fromParts, rowOf, rowsOf}
-use Rattle.list_reader.specs.Pass.{ListResult, reading, change, changeNumber, rowNumber, step, passBy, pass, beginBy, fromFirst, fromRows, readList}
-use Rattle.list_reader.proofs.Lists.{within}
+use Rattle.list_rows.specs.Rows.{isByte, twoParts, threeParts, fromParts, rowOf, isV2, startV2, listV2, rowsOf}
+use Rattle.list_reader.specs.Pass.{ListResult, reading, change, changeNumber, rowNumber, step, passBy, pass, beginBy, fromFirst, fromRows}
+use Rattle.list_reader.proofs.Lists.{plain-said}
 use Rattle.journal_fields.specs.Fields.{kindTag, tagOf, firstIn, secondIn, rankFits, journalBytes}
 use Rattle.journal_fields.specs.Bounds.{Below, AllBelow, RanksFit}
 use Rattle.journal_replay.specs.SameList.{pairText, entryText, entriesText, listText, entryRow}
@@ -78,6 +78,14 @@ unfolding listText
 rows-list n es =
     rows-feed (78 ∷ 32 ∷ decimal n) (entriesText es) (tag-without 78 (decimal n) (λ q. omega arith) (decimal-without 10 (omega arith) n))
     ∙ ap (_∷_ (78 ∷ 32 ∷ decimal n)) (rows-entries es)
+
+-- it does not start with `V 2`
+list-said : (n : ℕ) (es : List Entry) → rowsOf (listText n es) ≡ map rowOf (rows (listText n es))
+list-said n es = plain-said (listText n es) (ap startV2 (rows-list n es) ∙ unfold startV2 isV2 in none (eqb (length (78 ∷ 32 ∷ decimal n)) 3))
+  where
+    none : (b : Bool) → (b && false) ≡ false
+    none true = refl
+    none false = refl
 
 -- the first row
 first-parts : (n : ℕ) → rowOf (78 ∷ 32 ∷ decimal n) ≡ twoParts (78 ∷ []) (number (decimal n))
@@ -206,7 +214,7 @@ begin-small n m = by (leb n 1024) (allLong n m)
     by false q = omega arith
 
 begin-beside : (c n : ℕ) (es : List Entry) (m : Memory) → RanksFit es → beginNumber n m ≡ c
-    → Beside (beginBy c n (map rowOf (map entryText es)) m) (replayFrom c n (whole es) m) ((n < 10000) × AllBelow 10000 es)
+    → Beside (beginBy 1 c n (map rowOf (map entryText es)) m) (replayFrom c n (whole es) m) ((n < 10000) × AllBelow 10000 es)
 unfolding beginBy replayFrom begin
 begin-beside zero n es m fit e =
     let h = pass-beside 2 es (begin n m) fit (omega (arith, begin-passed n m e .0)) in
@@ -217,16 +225,16 @@ begin-beside (suc c) n es m fit e =
 -- the list and the journal of the same edits
 module _ (w : Bool) (n : ℕ) (es : List Entry) (m : Memory) (fit : RanksFit es) where
   first-beside : (n < 10000) ⊎ (10000 ≤ n)
-      → Beside (fromRows (rowsOf (listText n es)) m) (replayFrom (beginNumber n m) n (whole es) m) ((n < 10000) × AllBelow 10000 es)
+      → Beside (fromRows 1 (map rowOf (rows (listText n es))) m) (replayFrom (beginNumber n m) n (whole es) m) ((n < 10000) × AllBelow 10000 es)
   first-beside (inl h) = rw (rows-list n es) (unfold fromRows fromFirst in rw (first-reads n h) (begin-beside (beginNumber n m) n es m fit refl))
   first-beside (inr h) =
       rw (rows-list n es, begin-many n m (omega arith))
       (unfold fromRows fromFirst replayFrom in rw (first-fails n h) (record { memory = refl; answer = λ a. absurd (omega (arith, a .0)) }))
 
   -- and any list whose rows say what those of that list say
-  pub same-edits : length (journalBytes w n es) ≤ 60000 → (list : List ℕ) → length list ≤ 60000 → rowsOf list ≡ rowsOf (listText n es)
-      → Beside (readList list m) (replayed (journalBytes w n es) m) ((n < 10000) × AllBelow 10000 es)
-  same-edits h list k alike = rw (within list m k, alike, replay-is (journal-reads w n es fit h) m) (first-beside (lt-or-ge n 10000))
+  pub same-edits : length (journalBytes w n es) ≤ 60000 → (list : List ℕ) → rowsOf list ≡ rowsOf (listText n es)
+      → Beside (fromRows 1 (rowsOf list) m) (replayed (journalBytes w n es) m) ((n < 10000) × AllBelow 10000 es)
+  same-edits h list alike = rw (alike, list-said n es, replay-is (journal-reads w n es fit h) m) (first-beside (lt-or-ge n 10000))
 
 -- what these rows say, where their numbers can stand in a row
 entry-rows : (es : List Entry) → AllBelow 10000 es → map rowOf (map entryText es) ≡ map entryRow es
@@ -238,4 +246,4 @@ entry-rows (e ∷ es) h = ap₂ _∷_ (by (row-of e (below-fit (e ∷ es) h .0))
     by (fails q f n) = absurd (n (h .0))
 
 pub list-rows : (n : ℕ) (es : List Entry) → n < 10000 → AllBelow 10000 es → rowsOf (listText n es) ≡ Banks n ∷ map entryRow es
-list-rows n es h k = ap (map rowOf) (rows-list n es) ∙ ap₂ _∷_ (first-reads n h) (entry-rows es k)
+list-rows n es h k = list-said n es ∙ ap (map rowOf) (rows-list n es) ∙ ap₂ _∷_ (first-reads n h) (entry-rows es k)

@@ -1,7 +1,7 @@
 -- Theorems on replays, each restated: what to cite. Their proofs are in the files beside this one.
 use mathlib.Core.Bool.{Bool}
 use mathlib.Core.List.{List, _∷_, map}
-use mathlib.Core.Path.{_≡_, sym, ap}
+use mathlib.Core.Path.{_≡_, sym, ap, _∙_}
 use Prim.Native.Nat.{ℕ, _+_, _*_, _/_, _%_, _≤_, _<_}
 use lib.Dec.{T}
 use lib.ListN.{length, take}
@@ -10,9 +10,10 @@ use Rattle.memory.specs.Plan.{capFits}
 use Rattle.memory.specs.Memory.{Memory}
 use Rattle.memory.proofs.Theorems.{widest-cap}
 use Rattle.list_rows.specs.declared.row.Row.the-variants.{Banks}
-use Rattle.list_rows.specs.Rows.{rowsOf}
+use Rattle.list_rows.specs.Rows.{listV2, rowsOf, firstRow}
 use Rattle.list_reader.specs.declared.pass.Reading.{Reading}
-use Rattle.list_reader.specs.Pass.{readList}
+use Rattle.list_reader.specs.Pass.{ListResult, fromRows, readList}
+use Rattle.list_reader.proofs.Lists.{within, any-same}
 use Rattle.journal_fields.specs.Fields.{firstSize, entrySize, journalBytes}
 use Rattle.journal_fields.specs.Bounds.{AllBelow, RanksFit}
 use Rattle.journal_replay.specs.SameList.{listText, entryRow}
@@ -31,18 +32,23 @@ pub cut-replays : (w : Bool) (n : ℕ) (es : List Entry) (i : ℕ) → RanksFit 
 cut-replays = Replaying.cut-replays
 
 -- 2. a journal and any list of the same edits and ranks, each within 60,000 bytes, leave the same memory: plan, tally, trail and moved; and with
--- numbers below 10,000, which a row can hold, the same number at the same place. The list's rows say what those of `listText` say: padded, with or without the
--- last line feed
+-- numbers below 10,000, which a row can hold, the same number, and without a V row at the same place. The list's rows say what those of `listText` say from
+-- the N row on: padded, with or without `V 2` and the last line feed
 module _ (w : Bool) (n : ℕ) (es : List Entry) (m : Memory) (fit : RanksFit es) (journal : length (journalBytes w n es) ≤ 60000)
     (list : List ℕ) (short : length list ≤ 60000) (alike : rowsOf list ≡ rowsOf (listText n es)) where
   pub same-memory : replayed (journalBytes w n es) m .memory ≡ readList list m .memory
-  same-memory = sym (SameEdits.same-edits w n es m fit journal list short alike .memory)
+  same-memory =
+      sym (SameEdits.same-edits w n es m fit journal list alike .memory) ∙ sym (ap (λ (r : ListResult). r .memory) (within list m short) ∙ any-same (rowsOf list) m (listV2 list) .1)
 
   pub same-number : n < 10000 → AllBelow 10000 es → replayed (journalBytes w n es) m .answer .number ≡ readList list m .answer .number
-  same-number h k = ap (λ (r : Reading). r .number) (sym (SameEdits.same-edits w n es m fit journal list short alike .answer (h, k)))
+  same-number h k =
+      ap (λ (r : Reading). r .number) (sym (SameEdits.same-edits w n es m fit journal list alike .answer (h, k)))
+      ∙ sym (ap (λ (r : ListResult). r .answer .number) (within list m short) ∙ any-same (rowsOf list) m (listV2 list) .0)
 
-  pub same-place : n < 10000 → AllBelow 10000 es → replayed (journalBytes w n es) m .answer .field ≡ readList list m .answer .row
-  same-place h k = ap (λ (r : Reading). r .row) (sym (SameEdits.same-edits w n es m fit journal list short alike .answer (h, k)))
+  pub same-place : n < 10000 → AllBelow 10000 es → firstRow list ≡ 1 → replayed (journalBytes w n es) m .answer .field ≡ readList list m .answer .row
+  same-place h k i =
+      ap (λ (r : Reading). r .row) (sym (SameEdits.same-edits w n es m fit journal list alike .answer (h, k)))
+      ∙ sym (ap (λ (r : ListResult). r .answer .row) (within list m short ∙ ap (λ (x : ℕ). fromRows x (rowsOf list) m) i))
 
 -- and those say `N n` and the entries in turn: `+ a b`, `- a b`, `K b r`
 pub list-rows : (n : ℕ) (es : List Entry) → n < 10000 → AllBelow 10000 es → rowsOf (listText n es) ≡ Banks n ∷ map entryRow es

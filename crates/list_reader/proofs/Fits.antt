@@ -10,18 +10,20 @@ use Rattle.text.specs.Text.{rows, parts}
 use Rattle.text.specs.Numbers.{number}
 use Rattle.text.proofs.Theorems.{number-small}
 use Rattle.list_rows.specs.declared.row.Row.{Row}
-use Rattle.list_rows.specs.declared.row.Row.the-variants.{Banks, Edit, Unreadable}
+use Rattle.list_rows.specs.declared.row.Row.the-variants.{Banks, Edit, Unreadable, Retired}
 use Rattle.rule.specs.Numbers.{bank}
+use Rattle.list_rows.specs.declared.row.Change.{Change}
 use Rattle.list_rows.specs.declared.row.Change.the-variants.{One, StrikeAll}
 use Rattle.rule.specs.declared.Kind.the-variants.{Adding, Striking}
 use Rattle.rule.specs.declared.Entry.the-variants.{Clash, Rank}
-use Rattle.list_rows.specs.Rows.{isByte, twoParts, threeParts, fromParts, rowOf, rowsOf}
+use Rattle.list_rows.specs.Rows.{isByte, twoParts, threeParts, fromParts, rowOf, retireChange, retire, sayIn, fromN, listV2, rowsOf}
 use Rattle.list_reader.specs.inner.Steps.{ChangeFits}
 
 abbrev pub RowFits : Row → Type 0
 RowFits (Banks n) = Unit {0}
 RowFits (Edit c) = ChangeFits c
 RowFits Unreadable = Unit {0}
+RowFits Retired = Unit {0}
 
 abbrev pub AllFit : List Row → Type 0
 AllFit [] = Unit {0}
@@ -58,19 +60,32 @@ parts-fit (h ∷ x ∷ []) = two-fit h (number x)
 parts-fit (h ∷ x ∷ y ∷ []) = three-fit h (number x) (number y) (number-small y)
 parts-fit (h ∷ x ∷ y ∷ z ∷ ps) = tt
 
-pub row-fits : (r : List ℕ) → RowFits (rowOf r)
-unfolding rowOf
-row-fits r = parts-fit (parts r)
+change-fit : (c : Change) → ChangeFits c → RowFits (retireChange c)
+unfolding retireChange
+change-fit (One e) f = f
+change-fit (StrikeAll b) f = tt
 
-pub edit-fits : (r : List ℕ) (x : Row) → x ≡ rowOf r → RowFits x
-edit-fits r x e = rw e (row-fits r)
+retire-fit : (r : Row) → RowFits r → RowFits (retire r)
+unfolding retire
+retire-fit (Banks n) f = tt
+retire-fit (Edit c) f = change-fit c f
+retire-fit Unreadable f = tt
+retire-fit Retired f = tt
 
-map-fits : (rs : List (List ℕ)) → AllFit (map rowOf rs)
-map-fits [] = tt
-map-fits (r ∷ rs) = (row-fits r, map-fits rs)
+pub row-fits : (v : Bool) (r : List ℕ) → RowFits (sayIn rowOf v r)
+unfolding sayIn rowOf
+row-fits true r = retire-fit (rowOf r) (parts-fit (parts r))
+row-fits false r = parts-fit (parts r)
+
+pub edit-fits : (v : Bool) (r : List ℕ) (x : Row) → x ≡ sayIn rowOf v r → RowFits x
+edit-fits v r x e = rw e (row-fits v r)
+
+map-fits : (v : Bool) (rs : List (List ℕ)) → AllFit (map (sayIn rowOf v) rs)
+map-fits v [] = tt
+map-fits v (r ∷ rs) = (row-fits v r, map-fits v rs)
 
 pub rows-fit : (bytes : List ℕ) → AllFit (rowsOf bytes)
-rows-fit bytes = map-fits (rows bytes)
+rows-fit bytes = map-fits (listV2 bytes) (fromN (listV2 bytes) (rows bytes))
 
 -- the later rows
 pub later-fit : (bytes : List ℕ) (r : Row) (rs : List Row) → rowsOf bytes ≡ r ∷ rs → AllFit rs

@@ -18,7 +18,7 @@ use Rattle.planner.proofs.RanksSet.{Sound, make-sound, enter-sound}
 use Rattle.list_rows.specs.declared.row.Change.{Change}
 use Rattle.list_rows.specs.declared.row.Change.the-variants.{One, StrikeAll}
 use Rattle.list_rows.specs.declared.row.Row.{Row}
-use Rattle.list_rows.specs.declared.row.Row.the-variants.{Banks, Edit, Unreadable}
+use Rattle.list_rows.specs.declared.row.Row.the-variants.{Banks, Edit, Unreadable, Retired}
 use Rattle.list_reader.specs.Pass.{ListResult, listResult, reading, started, strikeEach, change, changeNumber, rowNumber, step, passBy, pass}
 use Rattle.planner.specs.States.{State, make}
 use Rattle.list_reader.specs.Ends.{after}
@@ -50,6 +50,7 @@ unfolding step rowNumber
 step-kept (Banks n) s h f z = absurd (omega arith)
 step-kept (Edit c) s h f z = change-kept c s h f z
 step-kept Unreadable s h f z = absurd (omega arith)
+step-kept Retired s h f z = absurd (omega arith)
 
 -- the memory of a result holds some plan
 abbrev pub Plan : ListResult → Type 0
@@ -115,6 +116,7 @@ unfolding step
 step-cap (Banks n) s = refl
 step-cap (Edit c) s = change-cap c s
 step-cap Unreadable s = refl
+step-cap Retired s = refl
 
 by-cap : (n i : ℕ) (s : State) (rest : ListResult) → rest .memory .tally .cap ≡ capOf s → passBy n i s rest .memory .tally .cap ≡ capOf s
 unfolding passBy

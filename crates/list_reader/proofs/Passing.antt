@@ -24,13 +24,13 @@ use Rattle.text.proofs.Theorems.{rows-at}
 use Rattle.list_rows.specs.declared.row.Change.{Change}
 use Rattle.list_rows.specs.declared.row.Change.the-variants.{One, StrikeAll}
 use Rattle.list_rows.specs.declared.row.Row.{Row}
-use Rattle.list_rows.specs.declared.row.Row.the-variants.{Banks, Edit, Unreadable}
-use Rattle.list_rows.specs.Rows.{rowOf, rowsOf}
+use Rattle.list_rows.specs.declared.row.Row.the-variants.{Banks, Edit, Unreadable, Retired}
+use Rattle.list_rows.specs.Rows.{rowOf, sayIn}
 use Rattle.list_rows.proofs.row.Row.{the-type}
 use Rattle.list_reader.specs.declared.pass.Step.{Step}
 use Rattle.list_reader.specs.Pass.{ListResult, listResult, reading, started, strikeEach, change, changeNumber, rowNumber, step, passBy, pass}
 use Rattle.planner.specs.States.{State, make, setRank, begunBy, enter}
-use Rattle.list_reader.specs.inner.Steps.{ChangeFits, Changes, Applies, changeBegun, RowDone, rowEnd, rowAt, EditsRow, ending}
+use Rattle.list_reader.specs.inner.Steps.{ChangeFits, Changes, Applies, changeBegun, RowDone, rowEnd, rowAt, saidRows, noEdit, EditsRow, ending}
 use Rattle.planner.specs.inner.Held.{at, Fresh, HoldsState, tried, Stands, EntryDone, RankFits}
 use Rattle.planner.proofs.Made.{ready-banks}
 
@@ -80,11 +80,28 @@ module _ (begun : Bool) (G : Graph) (m : Memory) (h : Ready G m) (f : Fresh begu
   row-edit c n m′ d = record { is = d .is; stands = d .stands }
 
   -- a row that is no edit
-  row-other : (r : Row) → OneOf (0 ∷ 2 ∷ []) (tagOf the-type r) → RowDone r s₀ 11 m
-  unfolding rowNumber step tried
+  row-other : (r : Row) → OneOf (0 ∷ 2 ∷ 3 ∷ []) (tagOf the-type r) → RowDone r s₀ (noEdit r) m
+  unfolding rowNumber step tried noEdit
   row-other (Banks n) k = record { is = refl; stands = record { memory = refl; ready = h; fresh = f } }
-  row-other (Edit c) k = absurd (⊎-elim (λ e. omega arith) (λ e. omega arith) k)
+  row-other (Edit c) k = absurd (⊎-elim (λ e. omega arith) (λ p. ⊎-elim (λ e. omega arith) (λ e. omega arith) p) k)
   row-other Unreadable k = record { is = refl; stands = record { memory = refl; ready = h; fresh = f } }
+  row-other Retired k = record { is = refl; stands = record { memory = refl; ready = h; fresh = f } }
+
+-- it has a number
+pub no-edit-some : (r : Row) → noEdit r ≡ 0 → ⊥
+unfolding noEdit
+no-edit-some (Banks n) z = omega arith
+no-edit-some (Edit c) z = omega arith
+no-edit-some Unreadable z = omega arith
+no-edit-some Retired z = omega arith
+
+-- 11, or 23 for a D row of a V 2 list
+pub no-form : (r : Row) → OneOf (0 ∷ 1 ∷ 2 ∷ []) (tagOf the-type r) → 11 ≡ noEdit r
+unfolding noEdit
+no-form (Banks n) k = refl
+no-form (Edit c) k = refl
+no-form Unreadable k = refl
+no-form Retired k = absurd (⊎-elim (λ e. omega arith) (λ p. ⊎-elim (λ e. omega arith) (λ e. omega arith) p) k)
 
 -- the answer, by the number of the last row
 pub ending-zero : (n i : ℕ) → n ≡ 0 → reading 0 0 ≡ ending n i
@@ -97,7 +114,7 @@ ending-some zero i z = absurd (z refl)
 ending-some (suc c) i z = refl
 
 -- the row from `start` to `end`
-module _ (list : List ℕ) (start end : ℕ) (f : Finds list start 10 end) where
+module _ (list : List ℕ) (v : Bool) (start end : ℕ) (f : Finds list start 10 end) where
   row-next : end + 1 ≡ rowEnd list start + 1
   unfolding rowEnd
   row-next = ap (λ (n : ℕ). n + 1) (f .is)
@@ -108,26 +125,27 @@ module _ (list : List ℕ) (start end : ℕ) (f : Finds list start 10 end) where
 
   module _ (i : ℕ) (begun : Bool) (m : Memory) (r : Step) (row : r .row ≡ i) (next : r .next ≡ end + 1) where
     -- it does not read as an edit
-    pub edits-none : (x : Row) → x ≡ rowOf (take (end - start) (drop start list)) → OneOf (0 ∷ 2 ∷ []) (tagOf the-type x) → r .number ≡ 11 → EditsRow list start i begun m r m
+    pub edits-none : (x : Row) → x ≡ sayIn rowOf v (take (end - start) (drop start list)) → OneOf (0 ∷ 2 ∷ 3 ∷ []) (tagOf the-type x) → r .number ≡ noEdit x
+        → EditsRow list v start i begun m r m
     edits-none x e k z = record {
       row = row;
       next = next ∙ row-next;
       on = omega (arith, f .low);
       within = omega (arith, f .high);
-      of = λ G h f′. rw (z, ← (e ∙ ap rowOf row-bytes)) (row-other begun G m h f′ x k);
-      came = λ G q. absurd (omega (arith, z, q));
+      of = λ G h f′. rw (z, ← (e ∙ ap (sayIn rowOf v) row-bytes)) (row-other begun G m h f′ x k);
+      came = λ G q. absurd (no-edit-some x (sym z ∙ q));
     }
 
     -- it reads as an edit
-    pub edits-one : (c : Change) → Edit c ≡ rowOf (take (end - start) (drop start list)) → (a : Edited) (m′ : Memory) → Applies c begun m a m′ → r .number ≡ a .answer .number
-        → r .begun ≡ changeBegun c begun → EditsRow list start i begun m r m′
+    pub edits-one : (c : Change) → Edit c ≡ sayIn rowOf v (take (end - start) (drop start list)) → (a : Edited) (m′ : Memory) → Applies c begun m a m′ → r .number ≡ a .answer .number
+        → r .begun ≡ changeBegun c begun → EditsRow list v start i begun m r m′
     edits-one c e a m′ d z q = record {
       row = row;
       next = next ∙ row-next;
       on = omega (arith, f .low);
       within = omega (arith, f .high);
-      of = λ G h f′. rw (z, ← (e ∙ ap rowOf row-bytes)) (row-edit begun G m h f′ c (a .answer .number) m′ (d .of G h f′));
-      came = λ G y. q ∙ sym (change-begun c (at begun G m)) ∙ unfold step in ap (λ (x : Row). step x (at begun G m) .begun) (e ∙ ap rowOf row-bytes);
+      of = λ G h f′. rw (z, ← (e ∙ ap (sayIn rowOf v) row-bytes)) (row-edit begun G m h f′ c (a .answer .number) m′ (d .of G h f′));
+      came = λ G y. q ∙ sym (change-begun c (at begun G m)) ∙ unfold step in ap (λ (x : Row). step x (at begun G m) .begun) (e ∙ ap (sayIn rowOf v) row-bytes);
     }
 
 -- what is ahead after row i, whose number is n
@@ -151,50 +169,50 @@ unfolding going
 going-on n i rs s z = rw z
 
 -- there is no further row, or row i is refused
-going-end : (n i : ℕ) (list : List ℕ) (next : ℕ) (s : State) → (n ≡ 0 → length list ≤ next)
-    → going n i (rowsOf (drop next list)) s ≡ listResult (ending n i) (s .memory)
+going-end : (v : Bool) (n i : ℕ) (list : List ℕ) (next : ℕ) (s : State) → (n ≡ 0 → length list ≤ next)
+    → going n i (saidRows v (drop next list)) s ≡ listResult (ending n i) (s .memory)
 unfolding going ending rows pass
-going-end zero i list next s e =
+going-end v zero i list next s e =
     let l : length list ≤ next = e refl in
     rw (drop-of-length-le list l)
-going-end (suc c) i list next s e = refl
+going-end v (suc c) i list next s e = refl
 
 -- the row that starts at `start`, and the rows after it
-cut : (list : List ℕ) (start next : ℕ) → start < length list → next ≡ rowEnd list start + 1 → next ≤ length list + 1
-    → rowsOf (drop start list) ≡ rowOf (rowAt list start) ∷ rowsOf (drop next list)
+cut : (v : Bool) (list : List ℕ) (start next : ℕ) → start < length list → next ≡ rowEnd list start + 1 → next ≤ length list + 1
+    → saidRows v (drop start list) ≡ sayIn rowOf v (rowAt list start) ∷ saidRows v (drop next list)
 unfolding rowAt rowEnd
-cut list start next l e u =
+cut v list start next l e u =
     let end : ℕ = start + before 10 (drop start list) in
-    rw e (ap (map rowOf) (rows-at list start end l (record { is = refl; low = omega arith; high = omega arith })))
+    rw e (ap (map (sayIn rowOf v)) (rows-at list start end l (record { is = refl; low = omega arith; high = omega arith })))
 
 -- where a pass stands after a row
-pub record Ahead (list : List ℕ) (first : ℕ) (G : Graph) (m : Memory) (r : Step) (m′ : Memory) : Type 0 where
+pub record Ahead (list : List ℕ) (v : Bool) (i first : ℕ) (G : Graph) (m : Memory) (r : Step) (m′ : Memory) : Type 0 where
   pub graph : Graph
   pub begun : Bool
   pub same : r .number ≡ 0 → r .begun ≡ begun
   pub ready : Ready graph m′
   pub fresh : Fresh begun graph
-  pub ahead : pass 2 (rowsOf (drop first list)) (at false G m) ≡ going (r .number) (r .row) (rowsOf (drop (r .next) list)) (at begun graph m′)
+  pub ahead : pass (suc i) (saidRows v (drop first list)) (at false G m) ≡ going (r .number) (r .row) (saidRows v (drop (r .next) list)) (at begun graph m′)
 
-module _ (list : List ℕ) (first : ℕ) (G : Graph) (m : Memory) where
-  pub ahead-start : Ready G m → Fresh false G → (r : Step) → r .number ≡ 0 → r .row ≡ 1 → r .next ≡ first → r .begun ≡ false → Ahead list first G m r m
+module _ (list : List ℕ) (v : Bool) (i first : ℕ) (G : Graph) (m : Memory) where
+  pub ahead-start : Ready G m → Fresh false G → (r : Step) → r .number ≡ 0 → r .row ≡ i → r .next ≡ first → r .begun ≡ false → Ahead list v i first G m r m
   unfolding going
-  ahead-start h f r z i n b = record { graph = G; begun = false; same = λ q. b; ready = h; fresh = f; ahead = rw (z, i, n) }
+  ahead-start h f r z k n b = record { graph = G; begun = false; same = λ q. b; ready = h; fresh = f; ahead = rw (z, k, n) }
 
   -- what the next row asks
-  pub ahead-held : (r : Step) (m′ : Memory) → Ahead list first G m r m′ → r .number ≡ 0 → HoldsState (r .begun) m′
+  pub ahead-held : (r : Step) (m′ : Memory) → Ahead list v i first G m r m′ → r .number ≡ 0 → HoldsState (r .begun) m′
   ahead-held r m′ w z = (w .graph, w .ready, rw (w .same z) (w .fresh))
 
-  pub ahead-turn : (r : Step) (m′ : Memory) (w : Ahead list first G m r m′) → r .number ≡ 0 → r .next < length list
-      → (r′ : Step) (m″ : Memory) → EditsRow list (r .next) (r .row + 1) (r .begun) m′ r′ m″ → Ahead list first G m r′ m″
+  pub ahead-turn : (r : Step) (m′ : Memory) (w : Ahead list v i first G m r m′) → r .number ≡ 0 → r .next < length list
+      → (r′ : Step) (m″ : Memory) → EditsRow list v (r .next) (r .row + 1) (r .begun) m′ r′ m″ → Ahead list v i first G m r′ m″
   ahead-turn r m′ w z l r′ m″ d₀ =
       let H : Graph = w .graph in
       let s : State = at (w .begun) H m′ in
-      let b : Row = rowOf (rowAt list (r .next)) in
+      let b : Row = sayIn rowOf v (rowAt list (r .next)) in
       let t : State = tried (rowNumber b s) (step b s) s in
       let d = turned (w .same z) d₀ in
       let done = d .of H (w .ready) (w .fresh) in
-      let rest : List Row = rowsOf (drop (r′ .next) list) in
+      let rest : List Row = saidRows v (drop (r′ .next) list) in
       let up : r′ .row ≡ suc (r .row) = omega (arith, d .row) in
       record {
         graph = t .graph;
@@ -204,17 +222,17 @@ module _ (list : List ℕ) (first : ℕ) (G : Graph) (m : Memory) where
         fresh = done .stands .fresh;
         ahead =
             w .ahead
-            ∙ going-on (r .number) (r .row) (rowsOf (drop (r .next) list)) s z
-            ∙ ap (λ (x : List Row). pass (suc (r .row)) x s) (cut list (r .next) (r′ .next) l (d .next) (d .within))
+            ∙ going-on (r .number) (r .row) (saidRows v (drop (r .next) list)) s z
+            ∙ ap (λ (x : List Row). pass (suc (r .row)) x s) (cut v list (r .next) (r′ .next) l (d .next) (d .within))
             ∙ row-step (suc (r .row)) b rest s
             ∙ ap (λ (x : ℕ). going x (suc (r .row)) rest t) (sym (done .is))
             ∙ ap (λ (x : ℕ). going (r′ .number) x rest t) (sym up)
             ∙ ap (λ (x : Memory). going (r′ .number) (r′ .row) rest (at (t .begun) (t .graph) x)) (sym (done .stands .memory));
       }
     where
-      turned : {p q : Bool} → p ≡ q → EditsRow list (r .next) (r .row + 1) p m′ r′ m″ → EditsRow list (r .next) (r .row + 1) q m′ r′ m″
+      turned : {p q : Bool} → p ≡ q → EditsRow list v (r .next) (r .row + 1) p m′ r′ m″ → EditsRow list v (r .next) (r .row + 1) q m′ r′ m″
       turned e x = rw e at x
 
-  pub ahead-end : (r : Step) (m′ : Memory) → Ahead list first G m r m′ → (r .number ≡ 0 → length list ≤ r .next)
-      → listResult (ending (r .number) (r .row)) m′ ≡ pass 2 (rowsOf (drop first list)) (at false G m)
-  ahead-end r m′ w e = sym (w .ahead ∙ going-end (r .number) (r .row) list (r .next) (at (w .begun) (w .graph) m′) e)
+  pub ahead-end : (r : Step) (m′ : Memory) → Ahead list v i first G m r m′ → (r .number ≡ 0 → length list ≤ r .next)
+      → listResult (ending (r .number) (r .row)) m′ ≡ pass (suc i) (saidRows v (drop first list)) (at false G m)
+  ahead-end r m′ w e = sym (w .ahead ∙ going-end v (r .number) (r .row) list (r .next) (at (w .begun) (w .graph) m′) e)

@@ -2,7 +2,8 @@
 use crate::change::apply;
 use crate::change::begun_after;
 use list_rows::Row;
-use list_rows::read_row;
+use list_rows::is_v2;
+use list_rows::read_row_in;
 use memory::Tally;
 use planner::open_all;
 use text::MOST_BYTES;
@@ -10,10 +11,12 @@ use text::find;
 ghost use mathlib.Core.Path.{_≡_};
 ghost use Rattle.memory.specs.Lent.{given, before, after};
 ghost use Rattle.list_reader.specs.Pass.{listResult, readList};
-ghost use Rattle.list_reader.specs.inner.Steps.{AsksBegin, AsksRow, AsksRows, Begins, ReadsEdits, EditsRow, ending};
+ghost use Rattle.list_reader.specs.inner.Steps.{AsksBegin, AsksRow, AsksRows, StartsAt, Begins, ReadsEdits, EditsRow, noEdit, ending};
 
-// The number of the first row.
+// The number of the first row, and of the row after `V 2`.
 const FIRST_ROW: u16 = 1;
+
+const ROW_AFTER_V2: u16 = 2;
 
 // The answer of a list: the number, and the row that got it.
 pub struct Reading {
@@ -25,6 +28,13 @@ pub struct Reading {
 pub struct Listed {
     pub answer: Reading,
     pub tally: Tally,
+}
+
+// Where the N row starts, which row it is, and whether `V 2` stands before it.
+pub struct First {
+    pub v2: bool,
+    pub row: u16,
+    pub start: usize,
 }
 
 // What a row leaves beside the slices: its number, which row it is, where the next one starts, and whether an edit has come.
@@ -58,12 +68,14 @@ pub fn read_list_core(
             tally: tally,
         };
     }
-    let end = find(list, 0, b'\n');
-    let Row::Banks(banks) = read_row(&list[0..end]) else {
+    let first = first_row(list);
+    let start = first.start;
+    let end = find(list, start, b'\n');
+    let Row::Banks(banks) = read_row_in(first.v2, &list[start..end]) else {
         return Listed {
             answer: Reading {
                 number: 10,
-                row: FIRST_ROW,
+                row: first.row,
             },
             tally: tally,
         };
@@ -71,6 +83,8 @@ pub fn read_list_core(
     let next = end + 1;
     begin(
         list,
+        first.v2,
+        first.row,
         next,
         banks,
         neighbours,
@@ -84,9 +98,38 @@ pub fn read_list_core(
     )
 }
 
-// Opens the plan of the first row, and makes the edits of the later ones, which start at `next`.
+// Finds the N row: the first row, or the second after `V 2`.
+fn first_row(list: &[u8]) -> First
+    ensures { λ r. ⌜ StartsAt (now (list .entry)) r ⌝ }
+{
+    let end = find(list, 0, b'\n');
+    if !is_v2(&list[0..end]) {
+        return First {
+            v2: false,
+            row: FIRST_ROW,
+            start: 0,
+        };
+    }
+    if list.len() <= end {
+        return First {
+            v2: true,
+            row: ROW_AFTER_V2,
+            start: end,
+        };
+    }
+    let start = end + 1;
+    First {
+        v2: true,
+        row: ROW_AFTER_V2,
+        start: start,
+    }
+}
+
+// Opens the plan of the N row, row `row`, and makes the edits of the later ones, which start at `next`.
 fn begin(
     list: &[u8],
+    v2: bool,
+    row: u16,
     next: usize,
     banks: u16,
     neighbours: &mut [u16],
@@ -98,8 +141,8 @@ fn begin(
     moved: &mut [u16],
     tally: Tally,
 ) -> Listed
-    requires { ⌜ AsksBegin (now list) next ⌝ }
-    ensures { λ r. ⌜ Begins (now (list .entry)) next banks
+    requires { ⌜ AsksBegin (now list) row next ⌝ }
+    ensures { λ r. ⌜ Begins (now (list .entry)) v2 row next banks
         (before neighbours degrees waves counts ranks trail moved tally) r
         (after neighbours degrees waves counts ranks trail moved (r .tally)) ⌝ }
 {
@@ -119,13 +162,15 @@ fn begin(
         return Listed {
             answer: Reading {
                 number: opened.number,
-                row: FIRST_ROW,
+                row: row,
             },
             tally: after,
         };
     }
     read_edits(
         list,
+        v2,
+        row,
         next,
         neighbours,
         degrees,
@@ -138,9 +183,11 @@ fn begin(
     )
 }
 
-// Makes the edits of the rows from the second on, which starts at `first`.
+// Makes the edits of the rows after row `row`, the first of which starts at `first`.
 fn read_edits(
     list: &[u8],
+    v2: bool,
+    row: u16,
     first: usize,
     neighbours: &mut [u16],
     degrees: &mut [u16],
@@ -151,14 +198,14 @@ fn read_edits(
     moved: &mut [u16],
     tally: Tally,
 ) -> Listed
-    requires { ⌜ AsksRows (now list) first (given neighbours degrees waves counts ranks trail moved tally) ⌝ }
-    ensures { λ r. ⌜ ReadsEdits (now (list .entry)) first
+    requires { ⌜ AsksRows (now list) row first (given neighbours degrees waves counts ranks trail moved tally) ⌝ }
+    ensures { λ r. ⌜ ReadsEdits (now (list .entry)) v2 row first
         (before neighbours degrees waves counts ranks trail moved tally) r
         (after neighbours degrees waves counts ranks trail moved (r .tally)) ⌝ }
 {
     let mut last = Step {
         number: 0,
-        row: FIRST_ROW,
+        row: row,
         next: first,
         begun: false,
         tally: tally,
@@ -166,6 +213,7 @@ fn read_edits(
     while last.number == 0 && last.next < list.len() {
         last = edit_row(
             list,
+            v2,
             last.next,
             last.row + 1,
             neighbours,
@@ -190,6 +238,7 @@ fn read_edits(
 // Reads the row that starts at `start`, which is row `row`, and makes its edit.
 fn edit_row(
     list: &[u8],
+    v2: bool,
     start: usize,
     row: u16,
     neighbours: &mut [u16],
@@ -203,15 +252,17 @@ fn edit_row(
     begun: bool,
 ) -> Step
     requires { ⌜ AsksRow (now list) start begun (given neighbours degrees waves counts ranks trail moved tally) ⌝ }
-    ensures { λ r. ⌜ EditsRow (now (list .entry)) start row begun
+    ensures { λ r. ⌜ EditsRow (now (list .entry)) v2 start row begun
         (before neighbours degrees waves counts ranks trail moved tally) r
         (after neighbours degrees waves counts ranks trail moved (r .tally)) ⌝ }
 {
     let end = find(list, start, b'\n');
     let next = end + 1;
-    let Row::Edit(change) = read_row(&list[start..end]) else {
+    let read = read_row_in(v2, &list[start..end]);
+    let Row::Edit(change) = read else {
+        let number = not_taken(read);
         return Step {
-            number: 11,
+            number: number,
             row: row,
             next: next,
             begun: begun,
@@ -240,6 +291,16 @@ fn edit_row(
         begun: come,
         tally: after,
     }
+}
+
+// The number of a row that makes no edit: it is none of the forms, or D in a V 2 list.
+fn not_taken(row: Row) -> u16
+    ensures { λ r. ⌜ r ≡ noEdit row ⌝ }
+{
+    let Row::Retired = row else {
+        return 11;
+    };
+    23
 }
 
 // The answer of a pass whose last row has this number.

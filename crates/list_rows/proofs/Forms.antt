@@ -1,10 +1,14 @@
 -- What the parts of a row read as, test by test.
-use mathlib.Core.Bool.{Bool, true, false, cond}
+use mathlib.Core.Bool.{Bool, true, false, cond, _&&_}
 use mathlib.Core.List.{List, [], _∷_}
-use mathlib.Core.Path.{_≡_, refl, ap}
+use mathlib.Core.Logic.{⊎-elim}
+use mathlib.Core.Path.{_≡_, refl, ap, _∙_}
 use Prim.Native.Nat.{ℕ, _+_, _-_, _≤_, _<_}
+use native.Mathlib.Omega.{arith}
 use lib.Dec.{eqb}
 use lib.ListN.{length, getD, take, drop}
+use types.Run.{OneOf}
+use denote.Enum.Declared.{tagOf}
 use borrow.Author.Tests.{ne-eqb}
 use Rattle.rule.specs.Numbers.{bank}
 use Rattle.rule.specs.declared.Kind.the-variants.{Adding, Striking}
@@ -16,8 +20,11 @@ use Rattle.text.specs.Numbers.{number}
 use Rattle.text.specs.Places.{Finds}
 use Rattle.text.proofs.Pieces.{parts-at, parts-end}
 use Rattle.list_rows.specs.declared.row.Change.the-variants.{One, StrikeAll}
-use Rattle.list_rows.specs.declared.row.Row.the-variants.{Banks, Edit, Unreadable}
-use Rattle.list_rows.specs.Rows.{isByte, twoParts, threeParts, fromParts, rowOf}
+use Rattle.list_rows.specs.declared.row.Change.{Change}
+use Rattle.list_rows.specs.declared.row.Row.{Row}
+use Rattle.list_rows.specs.declared.row.Row.the-variants.{Banks, Edit, Unreadable, Retired}
+use Rattle.list_rows.specs.Rows.{isByte, twoParts, threeParts, fromParts, rowOf, isV2, retireChange, retire, sayIn}
+use Rattle.list_rows.proofs.row.Row.{the-type}
 
 module _ (head : List ℕ) (n : Number) where
   pub two-none : n ≡ Nothing → Unreadable ≡ twoParts head n
@@ -104,3 +111,70 @@ module _ (s : List ℕ) (a : ℕ) (p : Finds s 0 32 a) where
       pub row-more : d < length s → Unreadable ≡ rowOf s
       unfolding rowOf fromParts
       row-more l = rw (parts-at s 0 a p h, parts-at s (a + 1) b q k, parts-at s (b + 1) d r l, some-part (drop (d + 1) s) .1)
+
+-- `V 2`, by its length and its bytes
+module _ (s : List ℕ) where
+  pub v2-wide : (length s ≡ 3 → ⊥) → false ≡ isV2 s
+  unfolding isV2
+  v2-wide l = rw (ne-eqb (length s) 3 l)
+
+  module _ (l : length s ≡ 3) where
+    pub v2-letter : (getD s 0 0 ≡ 86 → ⊥) → false ≡ isV2 s
+    unfolding isV2
+    v2-letter n = rw (l, ne-eqb (getD s 0 0) 86 n)
+
+    pub v2-space : getD s 0 0 ≡ 86 → (getD s 1 0 ≡ 32 → ⊥) → false ≡ isV2 s
+    unfolding isV2
+    v2-space e n = rw (l, e, ne-eqb (getD s 1 0) 32 n)
+
+    pub v2-digit : getD s 0 0 ≡ 86 → getD s 1 0 ≡ 32 → eqb (getD s (length s - 1) 0) 50 ≡ isV2 s
+    unfolding isV2
+    v2-digit e f = rw (l, e, f)
+
+-- what a row says in a V 2 list
+pub retire-other : (r : Row) → OneOf (0 ∷ 2 ∷ 3 ∷ []) (tagOf the-type r) → r ≡ retire r
+unfolding retire
+retire-other (Banks n) k = refl
+retire-other (Edit c) k = absurd (⊎-elim (λ q. omega arith) (λ p. ⊎-elim (λ q. omega arith) (λ q. omega arith) p) k)
+retire-other Unreadable k = refl
+retire-other Retired k = refl
+
+module _ (say : List ℕ → Row) (s : List ℕ) where
+  pub say-v2 : (v : Bool) → v ≡ true → retire (say s) ≡ sayIn say v s
+  unfolding sayIn
+  say-v2 v e = rw e
+
+  pub say-plain : (v : Bool) → v ≡ false → say s ≡ sayIn say v s
+  unfolding sayIn
+  say-plain v e = rw e
+
+-- a part that starts with a V is none of the letters
+no-letter : (c : ℕ) (p : List ℕ) → eqb 86 c ≡ false → isByte c (86 ∷ p) ≡ false
+unfolding isByte
+no-letter c p e = rw e (none (eqb (length (86 ∷ p)) 1))
+  where
+    none : (b : Bool) → (b && false) ≡ false
+    none true = refl
+    none false = refl
+
+v-two : (p : List ℕ) (n : Number) → twoParts (86 ∷ p) n ≡ Unreadable
+unfolding twoParts
+v-two p Nothing = refl
+v-two p (Value x) = rw (no-letter 78 p refl, no-letter 68 p refl)
+
+v-three : (p : List ℕ) (n k : Number) → threeParts (86 ∷ p) n k ≡ Unreadable
+unfolding threeParts
+v-three p Nothing k = refl
+v-three p (Value a) Nothing = refl
+v-three p (Value a) (Value b) = rw (no-letter 43 p refl, no-letter 45 p refl, no-letter 75 p refl)
+
+v-parts : (p : List ℕ) (ps : List (List ℕ)) → fromParts number ((86 ∷ p) ∷ ps) ≡ Unreadable
+unfolding fromParts
+v-parts p [] = refl
+v-parts p (x ∷ []) = v-two p (number x)
+v-parts p (x ∷ y ∷ []) = v-three p (number x) (number y)
+v-parts p (x ∷ y ∷ z ∷ ps) = refl
+
+pub v-row : (r : List ℕ) → rowOf (86 ∷ r) ≡ Unreadable
+unfolding rowOf parts onto
+v-row r = let s = some-part r in ap (λ (ps : List (List ℕ)). fromParts number (onto 86 ps)) (s .1) ∙ v-parts (s .0 .0) (s .0 .1)

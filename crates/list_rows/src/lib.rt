@@ -3,4 +3,5 @@ mod row;
 
 pub use row::Change;
 pub use row::Row;
-pub use row::read_row;
+pub use row::is_v2;
+pub use row::read_row_in;

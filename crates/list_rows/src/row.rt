@@ -7,7 +7,7 @@ use text::find;
 use text::read_number;
 ghost use mathlib.Core.Path.{_≡_};
 ghost use Rattle.text.specs.Numbers.{number};
-ghost use Rattle.list_rows.specs.Rows.{twoParts, threeParts, rowOf};
+ghost use Rattle.list_rows.specs.Rows.{twoParts, threeParts, rowOf, isV2, retire, sayIn};
 
 // The edit that a row asks for: one entry, or all clashes of a bank struck.
 pub enum Change {
@@ -15,11 +15,12 @@ pub enum Change {
     StrikeAll(Bank),
 }
 
-// What a row reads as.
+// What a row reads as. Retired is the D row of a list that starts with `V 2`.
 pub enum Row {
     Banks(u16),
     Edit(Change),
     Unreadable,
+    Retired,
 }
 
 // Reads a row, without its line feed: two parts or three, with one space between them.
@@ -41,6 +42,47 @@ pub fn read_row(s: &[u8]) -> Row
         return read_three_parts(&s[0..end], &s[second..end2], &s[third..end3]);
     }
     Row::Unreadable
+}
+
+// Whether a row is `V 2`: three bytes and nothing else.
+pub fn is_v2(s: &[u8]) -> bool
+    ensures { λ r. ⌜ r ≡ isV2 (now (s .entry)) ⌝ }
+{
+    if s.len() != 3 {
+        return false;
+    }
+    if s[0] != b'V' {
+        return false;
+    }
+    if s[1] != b' ' {
+        return false;
+    }
+    let last = s.len() - 1;
+    s[last] == b'2'
+}
+
+// Reads a row of a list, which starts with `V 2` or not.
+pub fn read_row_in(v2: bool, s: &[u8]) -> Row
+    ensures { λ r. ⌜ r ≡ sayIn rowOf v2 (now (s .entry)) ⌝ }
+{
+    let row = read_row(s);
+    if v2 {
+        return retired(row);
+    }
+    row
+}
+
+// What a row says after `V 2`: D is not taken.
+fn retired(row: Row) -> Row
+    ensures { λ r. ⌜ r ≡ retire row ⌝ }
+{
+    let Row::Edit(change) = row else {
+        return row;
+    };
+    let Change::StrikeAll(_) = change else {
+        return row;
+    };
+    Row::Retired
 }
 
 // Reads `N n` and `D b`.

@@ -21,7 +21,7 @@ use Rattle.planner.proofs.Outcomes.{edited-banks}
 use Rattle.edit_calls.proofs.Theorems.{add-clashes, strike-clashes, refused-same, accepted-edit}
 use Rattle.list_rows.specs.declared.row.Row.{Row}
 use Rattle.list_rows.specs.declared.row.Row.the-variants as Rows
-use Rattle.list_rows.specs.Rows.{rowsOf}
+use Rattle.list_rows.specs.Rows.{rowsOf, firstRow}
 use Rattle.list_reader.specs.Pass.{ListResult, readList}
 use Rattle.list_reader.specs.Ends.{FirstOpens}
 use Rattle.list_reader.proofs.Lists.{Start, opens, refuses, start}
@@ -75,17 +75,17 @@ module _ (n : ℕ) (d : Depot) (q : Count) (shelved : Shelved (d .shelf) q) wher
   open-step = open-by (openNumber n (d .memory .slices))
 
 -- a list or a replay that was accepted, or refused at a later place, opened a plan
-opens-true : (a : Answer) → ((a .number ≡ 0 → ⊥) → 2 ≤ a .place) → opensPlan a ≡ true
+opens-true : (i : ℕ) (a : Answer) → ((a .number ≡ 0 → ⊥) → suc i ≤ a .place) → opensPlan i a ≡ true
 unfolding opensPlan
-opens-true a late = go (a .number) late
+opens-true i a late = go (a .number) late
   where
-    go : (c : ℕ) → ((c ≡ 0 → ⊥) → 2 ≤ a .place) → (eqb c 0 || leb 2 (a .place)) ≡ true
+    go : (c : ℕ) → ((c ≡ 0 → ⊥) → suc i ≤ a .place) → (eqb c 0 || leb (suc i) (a .place)) ≡ true
     go zero l = refl
-    go (suc c) l = rw (some-number c) (le-leb 2 (a .place) (l (λ e. omega arith)))
+    go (suc c) l = rw (some-number c) (le-leb (suc i) (a .place) (l (λ e. omega arith)))
 
-opens-false : (c i : ℕ) → i ≤ 1 → opensPlan (answerOf (suc c) i) ≡ false
+opens-false : (i c k : ℕ) → k ≤ i → opensPlan i (answerOf (suc c) k) ≡ false
 unfolding opensPlan
-opens-false c i h = rw (some-number c) (lt-leb 2 i (omega arith))
+opens-false i c k h = rw (some-number c) (lt-leb (suc i) k (omega arith))
 
 module _ (bytes : List ℕ) (d : Depot) (q : Count) (shelved : Shelved (d .shelf) q) where
   abbrev list : ListResult
@@ -94,18 +94,19 @@ module _ (bytes : List ℕ) (d : Depot) (q : Count) (shelved : Shelved (d .shelf
   abbrev answer : Answer
   answer = answerOf (list .answer .number) (list .answer .row)
 
-  read-opened : (n : ℕ) (rs : List Row) → FirstOpens bytes (d .memory) n rs → Agrees (depotOf (list .memory) (d .shelf)) (rowsCount (opensPlan answer) (rowsOf bytes) answer q)
+  read-opened : (n : ℕ) (rs : List Row) → FirstOpens bytes (d .memory) n rs
+      → Agrees (depotOf (list .memory) (d .shelf)) (rowsCount (opensPlan (firstRow bytes) answer) (firstRow bytes) (rowsOf bytes) answer q)
   unfolding rowsCount
   read-opened n rs o =
-      rw (opens-true answer (list-late bytes (d .memory) n rs o), o .rows) (record {
+      rw (opens-true (firstRow bytes) answer (list-late bytes (d .memory) n rs o), o .rows) (record {
         banks = list-banks bytes (d .memory) n rs o;
         clashes = list-clashes bytes (d .memory) n rs o;
         kept = shelved;
       })
 
-  read-refused : (c i : ℕ) → i ≤ 1 → (r : ListResult) → r .answer .number ≡ suc c → r .answer .row ≡ i
-      → opensPlan (answerOf (r .answer .number) (r .answer .row)) ≡ false
-  read-refused c i h r e f = rw (e, f) (opens-false c i h)
+  read-refused : (c i : ℕ) → i ≤ firstRow bytes → (r : ListResult) → r .answer .number ≡ suc c → r .answer .row ≡ i
+      → opensPlan (firstRow bytes) (answerOf (r .answer .number) (r .answer .row)) ≡ false
+  read-refused c i h r e f = rw (e, f) (opens-false (firstRow bytes) c i h)
 
   read-step : Opens (Read bytes) d q
   unfolding made counted begins rowsCount
@@ -121,19 +122,19 @@ module _ (bytes : List ℕ) (d : Depot) (q : Count) (shelved : Shelved (d .shelf
   abbrev replay-count : ReplayResult → Count
   replay-count r =
       let a = answerOf (r .answer .number) (r .answer .field) in
-      entriesCount (opensPlan a) bytes a q
+      entriesCount (opensPlan 1 a) bytes a q
 
   abbrev Replays : ReplayResult → Type 0
   Replays r =
       Agrees (depotOf (r .memory) (d .shelf)) (replay-count r)
-      ⊎ ((depotOf (r .memory) (d .shelf) ≡ d) × (replay-count r ≡ q) × (opensPlan (answerOf (r .answer .number) (r .answer .field)) ≡ false))
+      ⊎ ((depotOf (r .memory) (d .shelf) ≡ d) × (replay-count r ≡ q) × (opensPlan 1 (answerOf (r .answer .number) (r .answer .field)) ≡ false))
 
   replay-opened : replayNumber bytes (d .memory) ≡ 0 → Replays (replayed bytes (d .memory))
   unfolding entriesCount
   replay-opened z =
       let r = replayed bytes (d .memory) in
       let a = answerOf (r .answer .number) (r .answer .field) in
-      inl (rw (opens-true a (replay-late bytes (d .memory) z)) (record {
+      inl (rw (opens-true 1 a (replay-late bytes (d .memory) z)) (record {
         banks = replay-banks bytes (d .memory) z;
         clashes = replay-clashes bytes (d .memory) z;
         kept = shelved;
@@ -147,8 +148,8 @@ module _ (bytes : List ℕ) (d : Depot) (q : Count) (shelved : Shelved (d .shelf
       low true = omega arith
       low false = omega arith
 
-      none : opensPlan (answerOf (suc c) (cond (eqb (suc c) 9) 0 1)) ≡ false
-      none = opens-false c (cond (eqb (suc c) 9) 0 1) (low (eqb (suc c) 9))
+      none : opensPlan 1 (answerOf (suc c) (cond (eqb (suc c) 9) 0 1)) ≡ false
+      none = opens-false 1 c (cond (eqb (suc c) 9) 0 1) (low (eqb (suc c) 9))
 
   by-number : (c : ℕ) → replayNumber bytes (d .memory) ≡ c → replayBy c bytes (d .memory) ≡ replayed bytes (d .memory)
   unfolding replayed

@@ -20,7 +20,8 @@ use Rattle.planner.proofs.RanksSet.{Sound, begin-sound}
 use Rattle.list_rows.specs.declared.row.Change.{Change}
 use Rattle.list_rows.specs.declared.row.Change.the-variants.{One, StrikeAll}
 use Rattle.list_rows.specs.declared.row.Row.{Row}
-use Rattle.list_rows.specs.declared.row.Row.the-variants.{Banks, Edit, Unreadable}
+use Rattle.list_rows.specs.declared.row.Row.the-variants.{Banks, Edit, Unreadable, Retired}
+use Rattle.list_rows.specs.Rows.{firstRow}
 use Rattle.list_reader.specs.Pass.{ListResult, started, strikeEach, change, changeNumber, rowNumber, step, passBy, pass, readList}
 use Rattle.list_reader.specs.Ends.{FirstOpens}
 use Rattle.list_reader.proofs.Struck.{strike-number, strike-rest}
@@ -80,6 +81,7 @@ by-number zero i (Banks n) rs s h fits z rest f = absurd (omega arith)
 by-number zero i (Edit c) rs s h fits z rest f =
     made-row i c rs s rest (change-left c s (h .holding) z) (f (change-kept c s h fits z))
 by-number zero i Unreadable rs s h fits z rest f = absurd (omega arith)
+by-number zero i Retired rs s h fits z rest f = absurd (omega arith)
 by-number (suc c) i r rs s h fits z rest f = record {
   clashes = tally-clashes (h .holding) ∙ ap (λ (l : List Row). rowsTotal l (s .graph) (clashCount (s .graph))) (sym (before-none i c (r ∷ rs)));
   banks = tally-banks (h .holding);
@@ -92,21 +94,24 @@ passed i [] s h fit = record { clashes = tally-clashes (h .holding); banks = tal
 passed i (r ∷ rs) s h fit =
     by-number (rowNumber r s) i r rs s h (fit .0) refl (pass (suc i) rs (step r s)) (λ k. passed (suc i) rs (step r s) k (fit .1))
 
--- a list whose first row opens a plan
+-- a list whose N row opens a plan
 module _ (bytes : List ℕ) (m : Memory) (n : ℕ) (rs : List Row) (o : FirstOpens bytes m n rs) where
   abbrev list : ListResult
   list = readList bytes m
 
-  list-passed : Passed 2 rs (begin n m) list
-  list-passed = rw (opens-pass bytes m n rs o) (passed 2 rs (begin n m) (begin-sound n m (o .number)) (later-fit bytes (Banks n) rs (o .rows)))
+  abbrev from : ℕ
+  from = suc (firstRow bytes)
 
-  pub list-clashes : list .memory .tally .clashes ≡ rowsTotal (before 2 (list .answer .number) (list .answer .row) rs) (empty n) 0
+  list-passed : Passed from rs (begin n m) list
+  list-passed = rw (opens-pass bytes m n rs o) (passed from rs (begin n m) (begin-sound n m (o .number)) (later-fit bytes (Banks n) rs (o .rows)))
+
+  pub list-clashes : list .memory .tally .clashes ≡ rowsTotal (before from (list .answer .number) (list .answer .row) rs) (empty n) 0
   unfolding begin
-  list-clashes = list-passed .clashes ∙ ap (rowsTotal (before 2 (list .answer .number) (list .answer .row) rs) (empty n)) (no-clash n)
+  list-clashes = list-passed .clashes ∙ ap (rowsTotal (before from (list .answer .number) (list .answer .row) rs) (empty n)) (no-clash n)
 
   pub list-banks : list .memory .tally .banks ≡ n
   unfolding begin
   list-banks = list-passed .banks
 
-  pub list-late : (list .answer .number ≡ 0 → ⊥) → 2 ≤ list .answer .row
+  pub list-late : (list .answer .number ≡ 0 → ⊥) → from ≤ list .answer .row
   list-late = list-passed .late

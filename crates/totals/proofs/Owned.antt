@@ -12,7 +12,7 @@ use Rattle.memory.specs.Plan.{Slices, longEnough, holds}
 use Rattle.planner.proofs.Numbers.{none}
 use Rattle.list_rows.specs.declared.row.Row.{Row}
 use Rattle.list_rows.specs.declared.row.Row.the-variants as Rows
-use Rattle.list_rows.specs.Rows.{rowsOf}
+use Rattle.list_rows.specs.Rows.{rowsOf, firstRow}
 use Rattle.shelf.specs.Names.{placeOf, known}
 use Rattle.shelf.specs.Shelf.{place, used, shelfRight}
 use Rattle.checkpoints.specs.Calls.{shelfLong, openShelf, keep, backNumber, backBy, comeBack}
@@ -81,13 +81,14 @@ unfolding ifAccepted
 if-same zero banks total q = refl
 if-same (suc c) banks total q = refl
 
-rows-same : (b : Bool) (rs : List Row) (a : Answer) (q : Count) → rowsCount b rs a q .kept ≡ q .kept
+rows-same : (b : Bool) (i : ℕ) (rs : List Row) (a : Answer) (q : Count) → rowsCount b i rs a q .kept ≡ q .kept
 unfolding rowsCount
-rows-same true [] a q = refl
-rows-same true (Rows.Banks n ∷ rs) a q = refl
-rows-same true (Rows.Edit c ∷ rs) a q = refl
-rows-same true (Rows.Unreadable ∷ rs) a q = refl
-rows-same false rs a q = refl
+rows-same true i [] a q = refl
+rows-same true i (Rows.Banks n ∷ rs) a q = refl
+rows-same true i (Rows.Edit c ∷ rs) a q = refl
+rows-same true i (Rows.Unreadable ∷ rs) a q = refl
+rows-same true i (Rows.Retired ∷ rs) a q = refl
+rows-same false i rs a q = refl
 
 entries-same : (b : Bool) (bytes : List ℕ) (a : Answer) (q : Count) → entriesCount b bytes a q .kept ≡ q .kept
 unfolding entriesCount
@@ -123,8 +124,8 @@ module _ (n : ℕ) (d : Depot) (q : Count) (agrees : Agrees d q) (owned : Owned 
   owned-after (Record k x y size journal) fits =
       same-kept _ (if-same (made (Record k x y size journal) d .answer .number) (q .banks) (editTotal k (q .total)) q)
   owned-after (SetCap most) fits = owned
-  owned-after (Read bytes) fits = let a = made (Read bytes) d .answer in same-kept _ (rows-same (opensPlan a) (rowsOf bytes) a q)
-  owned-after (Replay bytes) fits = let a = made (Replay bytes) d .answer in same-kept _ (entries-same (opensPlan a) bytes a q)
+  owned-after (Read bytes) fits = let a = made (Read bytes) d .answer in same-kept _ (rows-same (opensPlan (firstRow bytes) a) (firstRow bytes) (rowsOf bytes) a q)
+  owned-after (Replay bytes) fits = let a = made (Replay bytes) d .answer in same-kept _ (entries-same (opensPlan 1 a) bytes a q)
   owned-after (OpenShelf x) fits = open-by x (openShelf x (d .shelf) .number) refl fits (λ i. [])
   owned-after (Keep name) fits = keep-by name (keep name (d .memory .slices) (d .memory .tally) (d .shelf) .number) refl fits
   owned-after (Return name) fits =

@@ -15,7 +15,7 @@ use Rattle.list_rows.specs.declared.row.Change.{Change}
 use Rattle.list_rows.specs.declared.row.Change.the-variants.{One, StrikeAll}
 use Rattle.list_rows.specs.declared.row.Row.{Row}
 use Rattle.list_rows.specs.declared.row.Row.the-variants as Rows
-use Rattle.list_rows.specs.Rows.{rowsOf}
+use Rattle.list_rows.specs.Rows.{rowsOf, firstRow}
 use Rattle.journal_fields.specs.Fields.{firstSize, banksIn, fields}
 use Rattle.journal_replay.specs.Ends.{afterEntry}
 use Rattle.shelf.specs.Names.{placeOf}
@@ -52,6 +52,7 @@ rowsTotal [] G t = t
 rowsTotal (Rows.Banks n ∷ rs) G t = rowsTotal rs G t
 rowsTotal (Rows.Edit c ∷ rs) G t = rowsTotal rs (changed c G) (changeTotal c G t)
 rowsTotal (Rows.Unreadable ∷ rs) G t = rowsTotal rs G t
+rowsTotal (Rows.Retired ∷ rs) G t = rowsTotal rs G t
 
 -- the total after entries that were made
 unfoldable pub entriesTotal : List Entry → ℕ → ℕ
@@ -86,17 +87,18 @@ unfoldable pub ifAccepted : {A : Type 0} → ℕ → A → A → A
 ifAccepted zero new old = new
 ifAccepted (suc c) new old = old
 
--- did a list or a replay open a plan? it was accepted, or refused at a later row or field
-unfoldable pub opensPlan : Answer → Bool
-opensPlan a = eqb (a .number) 0 || leb 2 (a .place)
+-- did a list or a replay open a plan, where row or field i opens it? it was accepted, or refused at a later one
+unfoldable pub opensPlan : ℕ → Answer → Bool
+opensPlan i a = eqb (a .number) 0 || leb (suc i) (a .place)
 
--- the count after a list's rows
-unfoldable pub rowsCount : Bool → List Row → Answer → Count → Count
-rowsCount true (Rows.Banks n ∷ rs) a q = countOf n (rowsTotal (before 2 (a .number) (a .place) rs) (empty n) 0) (q .kept)
-rowsCount true (Rows.Edit c ∷ rs) a q = q
-rowsCount true (Rows.Unreadable ∷ rs) a q = q
-rowsCount true [] a q = q
-rowsCount false rs a q = q
+-- the count after a list's rows, of which row i is the N row
+unfoldable pub rowsCount : Bool → ℕ → List Row → Answer → Count → Count
+rowsCount true i (Rows.Banks n ∷ rs) a q = countOf n (rowsTotal (before (suc i) (a .number) (a .place) rs) (empty n) 0) (q .kept)
+rowsCount true i (Rows.Edit c ∷ rs) a q = q
+rowsCount true i (Rows.Unreadable ∷ rs) a q = q
+rowsCount true i (Rows.Retired ∷ rs) a q = q
+rowsCount true i [] a q = q
+rowsCount false i rs a q = q
 
 -- and after a journal's entries
 unfoldable pub entriesCount : Bool → List ℕ → Answer → Count → Count
@@ -124,8 +126,8 @@ counted (Open n) a q = ifAccepted (a .number) (countOf n 0 (q .kept)) q
 counted (Edit k x y) a q = ifAccepted (a .number) (countOf (q .banks) (editTotal k (q .total)) (q .kept)) q
 counted (Record k x y size journal) a q = ifAccepted (a .number) (countOf (q .banks) (editTotal k (q .total)) (q .kept)) q
 counted (SetCap most) a q = q
-counted (Read bytes) a q = rowsCount (opensPlan a) (rowsOf bytes) a q
-counted (Replay bytes) a q = entriesCount (opensPlan a) bytes a q
+counted (Read bytes) a q = rowsCount (opensPlan (firstRow bytes) a) (firstRow bytes) (rowsOf bytes) a q
+counted (Replay bytes) a q = entriesCount (opensPlan 1 a) bytes a q
 counted (OpenShelf n) a q = ifAccepted (a .number) (countOf (q .banks) (q .total) (λ i. [])) q
 counted (Keep name) a q = ifAccepted (a .number) (countOf (q .banks) (q .total) (keptIn (placeOf name) q)) q
 counted (Return name) a q =
@@ -142,8 +144,8 @@ begins (Open n) a = eqb (a .number) 0
 begins (Edit k x y) a = false
 begins (Record k x y size journal) a = false
 begins (SetCap most) a = false
-begins (Read bytes) a = opensPlan a
-begins (Replay bytes) a = opensPlan a
+begins (Read bytes) a = opensPlan (firstRow bytes) a
+begins (Replay bytes) a = opensPlan 1 a
 begins (OpenShelf n) a = false
 begins (Keep name) a = false
 begins (Return name) a = false

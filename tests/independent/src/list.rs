@@ -10,6 +10,9 @@ use crate::refusals::*;
 /// The most bytes of a list.
 pub const MAX_BYTES: usize = 60_000;
 
+/// The first row of a list in which D is not taken.
+pub const V2: &[u8] = b"V 2";
+
 /// The answer to a list: the number, and the row of a refusal (0 if none).
 #[derive(Clone, Copy, Debug, PartialEq, Eq)]
 pub struct ListAnswer {
@@ -17,7 +20,7 @@ pub struct ListAnswer {
     pub row: usize,
 }
 
-/// A row after row 1.
+/// A row after the N row.
 #[derive(Clone, Copy, Debug, PartialEq, Eq)]
 pub enum Row {
     Add(Bank, Bank),
@@ -63,6 +66,11 @@ pub fn rows(list: &[u8]) -> Vec<&[u8]> {
     rows
 }
 
+/// How many rows stand before the N row: one if the list starts with `V 2`.
+pub fn rows_before_n(rows: &[&[u8]]) -> usize {
+    usize::from(rows.first() == Some(&V2))
+}
+
 /// The bank count of an N row.
 pub fn n_row(row: &[u8]) -> Option<usize> {
     match parts(row)[..] {
@@ -71,7 +79,7 @@ pub fn n_row(row: &[u8]) -> Option<usize> {
     }
 }
 
-/// A row after row 1, if it has one of the four forms.
+/// A row after the N row, if it has one of the four forms.
 pub fn later_row(row: &[u8]) -> Option<Row> {
     match parts(row)[..] {
         [b"+", a, b] => Some(Row::Add(number(a)?, number(b)?)),
@@ -108,22 +116,26 @@ impl Memory {
         }
     }
 
-    /// The pass over a list. A refusal is number and row. Once row 1 is accepted, the plan of the
+    /// The pass over a list. A refusal is number and row. Once the N row is accepted, the plan of the
     /// rows that were accepted is left, whether the pass ends in a refusal or not.
     fn list_pass(&mut self, list: &[u8]) -> Result<(), (u16, usize)> {
         ask(list.len() <= MAX_BYTES, LIST_TOO_LONG).map_err(|number| (number, 0))?;
         let rows = rows(list);
-        let n = self.first_row(&rows).map_err(|number| (number, 1))?;
+        let before = rows_before_n(&rows);
+        let n = self
+            .first_row(&rows[before..])
+            .map_err(|number| (number, before + 1))?;
         let mut pass = Pass::begin(n);
-        let passed = (2..).zip(&rows[1..]).try_for_each(|(place, row)| {
-            let made = self.row_in_turn(row, &mut pass);
+        let mut later = (before + 2..).zip(&rows[before + 1..]);
+        let passed = later.try_for_each(|(place, row)| {
+            let made = self.row_in_turn(row, before == 0, &mut pass);
             made.map_err(|number| (number, place))
         });
         self.store_plan(&pass.graph);
         passed
     }
 
-    /// The questions on row 1. The answer is the bank count.
+    /// The questions on the N row, the first of these. The answer is the bank count.
     fn first_row(&self, rows: &[&[u8]]) -> Result<usize, u16> {
         let row = rows.first().ok_or(NOT_AN_N_ROW)?;
         let n = n_row(row).ok_or(NOT_AN_N_ROW)?;
@@ -133,11 +145,12 @@ impl Memory {
     }
 
     /// One further row: its questions, then its edits or its rank.
-    fn row_in_turn(&mut self, row: &[u8], pass: &mut Pass) -> Result<(), u16> {
+    fn row_in_turn(&mut self, row: &[u8], d_taken: bool, pass: &mut Pass) -> Result<(), u16> {
         match later_row(row).ok_or(NOT_A_ROW)? {
             Row::Add(a, b) => self.edit_in_turn(Edit::Add, a, b, pass),
             Row::Strike(a, b) => self.edit_in_turn(Edit::Strike, a, b, pass),
             Row::StrikeAll(b) => {
+                ask(d_taken, D_RETIRED)?;
                 ask(b < pass.graph.banks(), NO_SUCH_BANK)?;
                 pass.begun = true;
                 let ascending: Vec<Bank> = pass.graph.neighbours(b).collect();

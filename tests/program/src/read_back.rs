@@ -62,7 +62,8 @@ fn depot_of(list: &str) -> Depot {
     let mut clashes = BTreeSet::new();
     let mut ranks = Vec::new();
     let mut edited = false;
-    for row in list.split_terminator('\n') {
+    let v2 = list.strip_prefix("V 2\n");
+    for row in v2.unwrap_or(list).split_terminator('\n') {
         let numbers = row.split(' ').skip(1);
         let numbers: Vec<usize> = numbers
             .map(|part| part.parse().expect("a number"))
@@ -75,7 +76,7 @@ fn depot_of(list: &str) -> Depot {
             }
             ("+", &[a, b]) => assert!(clashes.insert((a.min(b), a.max(b)))),
             ("-", &[a, b]) => assert!(clashes.remove(&(a.min(b), a.max(b)))),
-            ("D", &[b]) => clashes.retain(|&(p, q)| p != b && q != b),
+            ("D", &[b]) if v2.is_none() => clashes.retain(|&(p, q)| p != b && q != b),
             _ => panic!("accepted: {row}"),
         }
         edited |= ["+", "-", "D"].contains(&&row[..1]);

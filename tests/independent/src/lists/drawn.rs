@@ -53,6 +53,7 @@ fn random_size(random: &mut Random) -> usize {
 /// A list in the making: its rows, and the clashes that they leave.
 struct Draft {
     n: usize,
+    v2: bool,
     rows: Vec<String>,
     clashes: Vec<(usize, usize)>,
     degrees: Vec<usize>,
@@ -60,9 +61,10 @@ struct Draft {
 
 /// A list of n banks: K rows as a rule, then edits. Each draw gives at most one row; banks below
 /// `hot` are drawn more often. One list in four has a stray row, one in 40 a stray K row before the
-/// edits.
+/// edits. One in four starts with `V 2`, and has no D row but a stray one.
 fn drawn_list(random: &mut Random, n: usize, hot: usize, draws: usize) -> Vec<u8> {
     let mut draft = Draft::new(n);
+    draft.v2 = random.one_in(4);
     draft.rows.push(format!("N {n}"));
     for (b, rank) in drawn_settings(random, n) {
         draft.rows.push(format!("K {b} {rank}"));
@@ -78,7 +80,10 @@ fn drawn_list(random: &mut Random, n: usize, hot: usize, draws: usize) -> Vec<u8
             draft.stray_row(random);
         }
     }
-    let rows: Vec<String> = draft.rows.iter().map(|row| padded(random, row)).collect();
+    let mut rows: Vec<String> = draft.rows.iter().map(|row| padded(random, row)).collect();
+    if draft.v2 {
+        rows.insert(0, "V 2".to_string());
+    }
     let mut list = rows.join("\n").into_bytes();
     if random.one_in(2) {
         list.push(b'\n');
@@ -118,6 +123,7 @@ impl Draft {
     fn new(n: usize) -> Draft {
         Draft {
             n,
+            v2: false,
             rows: Vec::new(),
             clashes: Vec::new(),
             degrees: vec![0; n],
@@ -129,7 +135,7 @@ impl Draft {
         if self.n < 2 {
             return;
         }
-        if random.one_in(100) {
+        if !self.v2 && random.one_in(100) {
             let b = random.below(self.n);
             self.strike_all(b);
         } else if random.one_in(strikes) && !self.clashes.is_empty() {
@@ -183,6 +189,7 @@ impl Draft {
             (_, 0 | 6) => format!("+ {a} {a}"),
             (_, 1 | 7) => format!("- {a} {b}"),
             (_, 2) => format!("D {}", self.n),
+            (_, 9) if self.v2 => format!("D {a}"),
             (_, 3 | 8) => format!("+ {d} {c}"),
             (_, 4) => format!("+ {a} {}", self.n),
             (_, 10 | 11) => return self.stray_rank(random),

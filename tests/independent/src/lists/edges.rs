@@ -25,6 +25,7 @@ fn refused(name: &str, list: impl Into<Vec<u8>>, number: u16, row: usize) -> Cas
 pub fn edges() -> Vec<Case> {
     let mut cases = marked_examples();
     cases.extend(row_1_edges());
+    cases.extend(v2_edges());
     cases.extend(later_row_edges());
     cases.extend(rank_edges());
     cases.extend(rank_refusals());
@@ -89,6 +90,50 @@ fn row_1_edges() -> Vec<Case> {
         refused("a lone line feed", "\n", 10, 1),
         refused("an empty first row", "\nN 4\n", 10, 1),
         refused("no N row", "+ 0 1\n", 10, 1),
+    ]
+}
+
+fn v2_edges() -> Vec<Case> {
+    let square = "N 4\n+ 0 1\n+ 1 2\n+ 2 3\n+ 0 3";
+    let square_sheet = "WAVES 2\nA 0 2\nB 1 3\nTOTAL 4 4\n";
+    vec![
+        case("V 2", format!("V 2\n{square}"), square_sheet),
+        case(
+            "V 2 with a last line feed",
+            format!("V 2\n{square}\n"),
+            square_sheet,
+        ),
+        case(
+            "V 2, padded numbers and ranks",
+            "V 2\nN 0002\nK 0001 0\nK 00 9\n+ 00 01",
+            "WAVES 2\nA 1\nB 0\nTOTAL 2 1\n",
+        ),
+        case("V 2, no banks", "V 2\nN 0\n", "WAVES 0\nTOTAL 0 0\n"),
+        refused("V 2 alone", "V 2", 10, 2),
+        refused("V 2 alone with a line feed", "V 2\n", 10, 2),
+        refused("V 2 and an empty row", "V 2\n\nN 4\n", 10, 2),
+        refused("V 2 twice", "V 2\nV 2\nN 4\n", 10, 2),
+        refused("V 2 and no N row", "V 2\n+ 0 1\n", 10, 2),
+        refused("V 2 and a D row for the N row", "V 2\nD 0\n", 10, 2),
+        refused("V 2 and 1,025 banks", "V 2\nN 1025", 1, 2),
+        refused("V 2 and 10,000 banks", "V 2\nN 10000", 10, 2),
+        refused("V 02", "V 02\nN 4\n", 10, 1),
+        refused("V, two spaces, 2", "V  2\nN 4\n", 10, 1),
+        refused("V 2 and a space", "V 2 \nN 4\n", 10, 1),
+        refused("V 2 and a carriage return", "V 2\r\nN 4\n", 10, 1),
+        refused("V 1", "V 1\nN 4\n", 10, 1),
+        refused("V", "V\nN 4\n", 10, 1),
+        refused("V 2 after the N row", "N 4\nV 2\n+ 0 1\n", 11, 2),
+        refused("V 2 after both", "V 2\nN 4\nV 2\n+ 0 1\n", 11, 3),
+        refused("D after V 2", "V 2\nN 4\n+ 0 1\nD 0\n", 23, 4),
+        refused("D after V 2, at once", "V 2\nN 4\nD 0\nK 0 1\n", 23, 3),
+        refused("D after V 2, of no bank", "V 2\nN 4\nD 9999\n", 23, 3),
+        refused("D after V 2, without banks", "V 2\nN 0\nD 0\n", 23, 3),
+        refused("D after V 2, padded", "V 2\nN 4\nD 0001\n", 23, 3),
+        refused("D after V 2, five digits", "V 2\nN 4\nD 00001\n", 11, 3),
+        refused("D after V 2, no bank", "V 2\nN 4\nD\n", 11, 3),
+        refused("K after an edit after V 2", "V 2\nN 4\n+ 0 1\nK 0 1", 18, 4),
+        refused("other refusals after V 2", "V 2\nN 4\n+ 0 4\n", 4, 3),
     ]
 }
 

@@ -6,7 +6,7 @@ use super::LIKELY_BYTES;
 pub fn malformed_rows() -> Vec<Vec<u8>> {
     let groups = [
         // Another letter or sign.
-        "N 4|N 0|N 30|V 2|A 1 2|d 1|n 4|E 1|C 1|* 1 2|= 1 2|, 1 2|. 1 2|/ 1 2|# 1 2|% 1 2",
+        "N 4|N 0|N 30|V 2|V 1|V 02|V|V 2 |V 2 3|A 1 2|d 1|n 4|E 1|C 1|* 1 2|= 1 2|, 1 2|. 1 2|/ 1 2|# 1 2|% 1 2",
         "++ 1 2|-- 1 2|+- 1 2|DD 1|WAVES 2|TOTAL 4 4|REFUSED 11 ROW 2",
         // Parts missing or too many.
         "+|-|D|N|+ 1|- 1|+ 1 2 3|- 1 2 3|D 1 2|+ 1 2 + 3 4|+ 1 2 D 1|+ 1 2 # note|+ 1 2;",
@@ -63,7 +63,8 @@ pub fn malformed_n_rows() -> Vec<Vec<u8>> {
         "N|N | N 4|N  4|N 4 |N4|N\t4|\tN 4|N 4\t|N 4\r|N 4\0|N\0|\0|n 4|M 4|O 4|NN 4|N N 4|N 4 4",
         "N +4|N -4|N -0|N 00000|N 00004|N 10000|N 12345|N 65540",
         "N 4294967300|N 18446744073709551620|N x|N 4x|N x4|N 4.|N 4,|N 1,024|N 1_0|N 0x4|N /|N :",
-        "+ 0 1|- 0 1|D 0|K 0 1|V 2| |\r|4|N \u{664}|N\u{a0}4|\u{feff}N 4|\u{39d} 4",
+        "V|V | V 2|V  2|V 2 |V2|V 02|V 0002|V 1|V 3|V 22|V +2|V 2.|V 2 4|V 2 N 4|V\t2|V 2\t|V 2\r|V 2\0|v 2|W 2",
+        "U 2|VV 2|V\u{a0}2|V \u{b2}|V \u{662}|\u{feff}V 2|+ 0 1|- 0 1|D 0|K 0 1| |\r|4|N \u{664}|N\u{a0}4|\u{feff}N 4|\u{39d} 4",
     ];
     let bytes: [&[u8]; 4] = [b"\xce 4", b"N \xb4", b"\xff", b"N 4\x80"];
     let text = groups.into_iter().flat_map(parted);
@@ -83,12 +84,16 @@ pub fn malformed_lists() -> Vec<Vec<u8>> {
         lists.push([b"N 30\n+ 6 7\n", &row[..]].concat());
         lists.push([b"N 30\n+ 6 7\n", &row[..], b"\n"].concat());
         lists.push([b"N 30\n", &row[..], b"\n+ 6 7\n"].concat());
+        lists.push([b"V 2\nN 30\n+ 6 7\n", &row[..]].concat());
         lists.push([&row[..], b"\n+ 6 7"].concat());
     }
     for row in malformed_n_rows() {
         lists.push(row.clone());
         lists.push([&row[..], b"\n"].concat());
         lists.push([&row[..], b"\n+ 0 1\n"].concat());
+        lists.push([&row[..], b"\nN 4\n+ 0 1\n"].concat());
+        lists.push([b"V 2\n", &row[..]].concat());
+        lists.push([b"V 2\n", &row[..], b"\n+ 0 1\n"].concat());
     }
     lists
 }
@@ -98,6 +103,13 @@ pub fn near_lists() -> Vec<Vec<u8>> {
     let mut lists = Vec::new();
     for near in near_rows(b"N 9") {
         lists.push([&near[..], b"\n+ 6 8"].concat());
+        lists.push([b"V 2\n", &near[..], b"\n+ 6 8"].concat());
+    }
+    for near in near_rows(b"V 2") {
+        lists.push([&near[..], b"\nN 9\n+ 6 8\n- 8 6"].concat());
+    }
+    for near in near_rows(b"D 1") {
+        lists.push([b"V 2\nN 9\n+ 1 2\n", &near[..], b"\n+ 3 4"].concat());
     }
     for row in [b"+ 6 8".as_slice(), b"- 1 2", b"D 1"] {
         for near in near_rows(row) {

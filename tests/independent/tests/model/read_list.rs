@@ -3,7 +3,7 @@
 
 use crate::support::{memory_of, opened};
 use independent::graph::Graph;
-use independent::list::{later_row, n_row, rows, Row};
+use independent::list::{later_row, n_row, rows, rows_before_n, Row};
 use independent::lists;
 use independent::memory::Memory;
 use independent::random::Random;
@@ -16,7 +16,7 @@ fn read(list: &[u8]) -> (u16, usize, Memory) {
     (answer.number, answer.row, memory)
 }
 
-/// A list that is refused on row 1 or before, and so changes nothing.
+/// A list that is refused on its N row or before, and so changes nothing.
 fn refused_at_once(list: &[u8], number: u16, row: usize) {
     let (got, at, memory) = read(list);
     assert_eq!(
@@ -186,6 +186,64 @@ fn numbers_and_rows_of_row_1() {
 }
 
 #[test]
+fn numbers_and_rows_after_v2() {
+    refused_at_once(b"V 2", 10, 2);
+    refused_at_once(b"V 2\n", 10, 2);
+    refused_at_once(b"V 2\nV 2\nN 4", 10, 2);
+    refused_at_once(b"V 2\n\nN 4", 10, 2);
+    refused_at_once(b"V 2\nN 1025", 1, 2);
+    refused_at_once(b"V 2\nN 31", 2, 2);
+    refused_at_once(b"V 02\nN 4", 10, 1);
+    refused_at_once(b"V  2\nN 4", 10, 1);
+    refused_at_once(b"V 2 \nN 4", 10, 1);
+    refused_at_once(b"\nV 2\nN 4", 10, 1);
+    let long = [b"V 2\nN 2\n".as_slice(), &[b' '; 59_993]].concat();
+    refused_at_once(&long, 9, 0);
+    refused_later(&long[..60_000], 11, 3);
+    refused_later(b"N 4\nV 2\n", 11, 2);
+    refused_later(b"V 2\nN 4\nV 2\n", 11, 3);
+    refused_later(b"V 2\nN 4\nN 4\n", 11, 3);
+    for d in ["D 0", "D 3", "D 4", "D 0000", "D 9999"] {
+        refused_later(format!("V 2\nN 4\n{d}").as_bytes(), 23, 3);
+        refused_later(
+            format!("V 2\nN 4\nK 0 1\n+ 0 1\n{d}\nK 0 1").as_bytes(),
+            23,
+            5,
+        );
+    }
+    refused_later(b"V 2\nN 4\nD 00000", 11, 3);
+    refused_later(b"V 2\nN 4\nD", 11, 3);
+    refused_later(b"V 2\nN 4\nD 0 1", 11, 3);
+}
+
+/// Without D rows, `V 2` in front of a list changes nothing but which row is refused.
+#[test]
+fn v2_in_front_of_a_list() {
+    let mut random = Random::new(42);
+    for _ in 0..400 {
+        let list = lists::random_list(&mut random);
+        let all = rows(&list);
+        let struck = all
+            .iter()
+            .any(|row| matches!(later_row(row), Some(Row::StrikeAll(_))));
+        if rows_before_n(&all) == 1 || struck || list.len() > 59_996 {
+            continue;
+        }
+        let mut without = Memory::filled(40, 7);
+        let mut with = without.clone();
+        let answer = without.read_list(&list);
+        let later = with.read_list(&[b"V 2\n", &list[..]].concat());
+        let row = if answer.number == 0 {
+            0
+        } else {
+            answer.row + 1
+        };
+        assert_eq!((later.number, later.row), (answer.number, row));
+        assert_eq!(with, without);
+    }
+}
+
+#[test]
 fn all_seven_slices_are_asked_for_by_any_list() {
     for list in [b"N 5".as_slice(), b"N 5\nD 1", b"N 5\n+ 0 1", b"N 5\nK 0 1"] {
         for slice in 0..7 {
@@ -284,6 +342,7 @@ fn malformed_rows_are_refused() {
     }
     for row in lists::malformed_n_rows() {
         refused_at_once(&row, 10, 1);
+        refused_at_once(&[b"V 2\n", &row[..]].concat(), 10, 2);
         refused_at_once(&[&row[..], b"\n+ 0 1\n"].concat(), 10, 1);
     }
 }
@@ -303,11 +362,11 @@ fn padded_rows_read_as_plain_ones() {
 /// Random lists must show both sheets and each refusal, or they would test little.
 #[test]
 fn random_lists_are_varied() {
-    let mut random = Random::new(41);
+    let mut random = Random::new(43);
     let mut accepted = 0;
     let mut numbers = std::collections::BTreeSet::new();
     let mut most_waves = 0;
-    for _ in 0..600 {
+    for _ in 0..900 {
         let mut memory = Memory::filled(1024, 0);
         memory.open(0);
         let answer = memory.read_list(&lists::random_list(&mut random));
@@ -316,9 +375,9 @@ fn random_lists_are_varied() {
         most_waves = most_waves.max(memory.tally.waves);
         assert!(memory.holds_plan());
     }
-    assert!((200..500).contains(&accepted), "{accepted} accepted");
+    assert!((300..750).contains(&accepted), "{accepted} accepted");
     assert!(most_waves >= 10, "{most_waves} waves");
-    for number in [0, 1, 4, 5, 6, 7, 8, 10, 11, 18] {
+    for number in [0, 1, 4, 5, 6, 7, 8, 10, 11, 18, 23] {
         assert!(numbers.contains(&number), "no refusal {number}");
     }
 }

@@ -2,6 +2,7 @@
 
 use crate::guarded::{Guarded, Slices};
 use independent::journal::Entry;
+use independent::list::{rows, rows_before_n};
 use independent::memory::Memory;
 use independent::random::Random;
 use independent::reach::Edit;
@@ -186,11 +187,15 @@ impl Call {
 }
 
 impl Answer {
-    /// Whether the call is to leave everything as it was. A list or a journal refused at a later row
-    /// or field leaves the plan of those before.
+    /// Whether the call is to leave everything as it was. A list refused after its N row, or a journal
+    /// refused at a later field, leaves the plan of the rows or fields before.
     pub fn changes_nothing(&self, call: &Call) -> bool {
         match call {
-            Call::ReadList(_) | Call::Replay(_) => self.number != ACCEPTED && self.results[0] < 2,
+            Call::ReadList(list) => {
+                let first = 1 + rows_before_n(&rows(list));
+                self.number != ACCEPTED && self.results[0] <= first
+            }
+            Call::Replay(_) => self.number != ACCEPTED && self.results[0] < 2,
             _ => self.number != ACCEPTED,
         }
     }

@@ -4,7 +4,7 @@ use crate::call::Call;
 use crate::pair::Pair;
 use crate::plans::{any_memory, slices, SLICES};
 use crate::{quick, rounds};
-use independent::list::{n_row, rows};
+use independent::list::{n_row, rows, rows_before_n};
 use independent::lists;
 use independent::random::Random;
 
@@ -123,7 +123,8 @@ fn long_lists() {
 /// Reads the list into memory of any content, as a rule with room for its banks; then writes the
 /// sheet and the poster.
 fn read(random: &mut Random, list: &[u8]) {
-    let first = rows(list).first().and_then(|row| n_row(row));
+    let all = rows(list);
+    let first = all.get(rows_before_n(&all)).and_then(|row| n_row(row));
     let n = first.unwrap_or(4).min(1024);
     let mut memory = any_memory(random, n);
     if random.one_in(12) && n > 0 {

@@ -125,13 +125,14 @@ fn total_of_rows(rows: &[String], seen: &mut Seen) -> usize {
     total
 }
 
-/// How many rows or fields after the first were made, if the plan was opened.
-fn made(answer: &Answer, all: usize, seen: &mut Seen) -> Option<usize> {
+/// How many rows or fields after the one that opens the plan, which has this place, were made, if
+/// it was opened.
+fn made(answer: &Answer, first: usize, all: usize, seen: &mut Seen) -> Option<usize> {
     match (answer.number, answer.results[0]) {
         (0, _) => Some(all),
-        (_, place) if place >= 2 => {
+        (_, place) if place > first => {
             seen.late += 1;
-            Some(place - 2)
+            Some(place - first - 1)
         }
         _ => None,
     }
@@ -165,9 +166,10 @@ impl Run {
     fn list(&mut self, random: &mut Random, seen: &mut Seen) {
         let n = random.below(ROOM + 2);
         let rows = any_rows(random, n);
-        let list = format!("N {n}\n{}", rows.join("\n"));
+        let (start, first) = *random.pick(&[("", 1), ("", 1), ("V 2\n", 2)]);
+        let list = format!("{start}N {n}\n{}", rows.join("\n"));
         let answer = self.pair.call(&Call::ReadList(list.into_bytes()));
-        if let Some(made) = made(&answer, rows.len(), seen) {
+        if let Some(made) = made(&answer, first, rows.len(), seen) {
             self.count = Some((n, total_of_rows(&rows[..made], seen)));
         }
     }
@@ -178,7 +180,7 @@ impl Run {
         let form = *random.pick(&FORMS);
         let journal = journal_of(form, n as u16, &fields);
         let answer = self.pair.call(&Call::Replay(journal));
-        if let Some(made) = made(&answer, fields.len(), seen) {
+        if let Some(made) = made(&answer, 1, fields.len(), seen) {
             let are = |edit: Edit| {
                 let are =
                     |field: &&Field| matches!(field, Field::Edit(entry) if entry.edit == edit);

@@ -13,30 +13,35 @@ find-requires c κs = omega (arith, c .before .before .before .before .before .b
 add-next : tie.Need-add-next
 add-next c = omega (arith, c .find .ensures .high)
 
-sub-read-row : tie.Need-sub-read-row
-sub-read-row c = omega (arith, c .find .ensures .low)
+sub-read-row-in : tie.Need-sub-read-row-in
+sub-read-row-in c = omega (arith, c .find .ensures .low)
 
-part-read-row-start : tie.Need-part-read-row-start
-part-read-row-start c = omega arith
+part-read-row-in-start : tie.Need-part-read-row-in-start
+part-read-row-in-start c = omega arith
 
-part-read-row-end : tie.Need-part-read-row-end
-part-read-row-end c = omega arith
+part-read-row-in-end : tie.Need-part-read-row-in-end
+part-read-row-in-end c = omega arith
 
-read-row-requires : tie.Need-read-row-requires
-read-row-requires c κs = search needs
+read-row-in-requires : tie.Need-read-row-in-requires
+read-row-in-requires c κs = search needs
 
-enum-known-change : tie.Need-enum-known-change
-enum-known-change c = search needs
+enum-known-read : tie.Need-enum-known-read
+enum-known-read c = search needs
+
+not-taken-requires : tie.Need-not-taken-requires
+not-taken-requires c κs = search needs
 
 returns : tie.Need-returns
-returns c = edits-none _ _ _ (c .before .before .before .find .ensures) _ _ _ _ refl refl _ (c .before .read-row .ensures) (c .match .keys2) refl
+returns c =
+    let read = c .before .before in
+    edits-none _ _ _ _ (read .before .before .find .ensures) _ _ _ _ refl refl _ (read .read-row-in .ensures) (c .before .match .keys2) (c .not-taken .ensures)
 
 apply-requires : tie.Need-apply-requires
 apply-requires c κs =
     let row = c .before .before .before .before .before .before .before .before in
     let read = row .before .before in
     let start = read .before .before .before .before .before .before .before .before .before .before .before in
-    record { held = start .pre .held; fits = edit-fits _ _ (sym (row .change .given .1) ∙ read .read-row .ensures) }
+    record { held = start .pre .held; fits = edit-fits _ _ _ (sym (row .read .given .1) ∙ read .read-row-in .ensures) }
 
 begun-after-requires : tie.Need-begun-after-requires
 begun-after-requires c κs = search needs
@@ -68,7 +73,7 @@ returns-2 c =
     let at2 = at1 .before .before .before .before .before .before .before .before .before in
     let at3 = at2 .before .before in
     let at4 = at3 .before .before in
-    edits-one _ _ _ (at4 .find .ensures) _ _ _ _ refl refl _ (sym (at2 .change .given .1) ∙ at3 .read-row .ensures) _ _ (at1 .apply .ensures) refl
+    edits-one _ _ _ _ (at4 .find .ensures) _ _ _ _ refl refl _ (sym (at2 .read .given .1) ∙ at3 .read-row-in .ensures) _ _ (at1 .apply .ensures) refl
     (c .begun-after .ensures)
 
 pub edit-row-spec : {M : Type 1} → statement M
@@ -77,11 +82,12 @@ edit-row-spec =
     (tie.spec
     find-requires
     add-next
-    sub-read-row
-    part-read-row-start
-    part-read-row-end
-    read-row-requires
-    enum-known-change
+    sub-read-row-in
+    part-read-row-in-start
+    part-read-row-in-end
+    read-row-in-requires
+    enum-known-read
+    not-taken-requires
     returns
     apply-requires
     begun-after-requires

@@ -18,22 +18,22 @@ use Rattle.list_reader.proofs.pass.read_edits.Statement.{statement}
 use Rattle.list_reader.proofs.pass.read_edits.Tie as tie
 
 abbrev Inv-loop : tie.InvT-loop
-Inv-loop list first neighbours₀ degrees₀ waves₀ counts₀ ranks₀ trail₀ moved₀ last₀ neighbours degrees waves counts ranks trail moved last =
+Inv-loop list v2 row first neighbours₀ degrees₀ waves₀ counts₀ ranks₀ trail₀ moved₀ last₀ neighbours degrees waves counts ranks trail moved last =
     let m₀ = memoryOf (slicesOf neighbours₀ degrees₀ waves₀ counts₀ ranks₀) trail₀ moved₀ (last₀ .tally) in
     let m = memoryOf (slicesOf neighbours degrees waves counts ranks) trail moved (last .tally) in
-    ((G : Graph) → Ready G m₀ → Fresh false G → Ahead list first G m₀ last m)
+    ((G : Graph) → Ready G m₀ → Fresh false G → Ahead list v2 row first G m₀ last m)
     × SameLengths m₀ m
     × (last .next ≤ length list + 1)
     × (last .row ≤ last .next)
 
 abbrev μ-loop : tie.MeasureT-loop
-μ-loop list first neighbours₀ degrees₀ waves₀ counts₀ ranks₀ trail₀ moved₀ last₀ neighbours degrees waves counts ranks trail moved last =
+μ-loop list v2 row first neighbours₀ degrees₀ waves₀ counts₀ ranks₀ trail₀ moved₀ last₀ neighbours degrees waves counts ranks trail moved last =
     length list + 1 - last .next
 
 loop-holds : tie.Need-loop-holds Inv-loop μ-loop
 loop-holds c =
     let at1 = c .before .before .before .before .before .before .before .before in
-    (λ G h f. ahead-start _ _ G _ h f _ refl refl refl refl, same _, at1 .pre .inside, at1 .pre .later)
+    (λ G h f. ahead-start _ _ _ _ G _ h f _ refl refl refl refl, same _, at1 .pre .inside, at1 .pre .later)
 
 add-edit-row : tie.Need-add-edit-row Inv-loop μ-loop
 add-edit-row c =
@@ -50,7 +50,7 @@ edit-row-requires c κs =
     let at3 = at2 .before .before .before .before .before .before .before .before .before in
     let p = at3 .pre in
     let w = at2 .loop .inv .0 (p .held .0) (p .held .1) (p .held .2) in
-    record { held = ahead-held _ _ _ _ _ _ w (at1 .before .before .if1 .taken); inside = ltb-true _ _ (at1 .if2 .taken) }
+    record { held = ahead-held _ _ _ _ _ _ _ _ w (at1 .before .before .if1 .taken); inside = ltb-true _ _ (at1 .if2 .taken) }
 
 loop-less : tie.Need-loop-less Inv-loop μ-loop
 loop-less c =
@@ -65,8 +65,8 @@ loop-again c =
     let at4 = at3 .before .before in
     let i = at4 .loop .inv in
     let f = at1 .edit-row in
-    let k = f .kept .1 .1 .1 in (
-      λ G h q. ahead-turn _ _ G _ _ _ (i .0 G h q) (at3 .if1 .taken) (ltb-true _ _ (at2 .if2 .taken)) _ _ (f .ensures),
+    let k = f .kept .1 .1 .1 .1 in (
+      λ G h q. ahead-turn _ _ _ _ G _ _ _ (i .0 G h q) (at3 .if1 .taken) (ltb-true _ _ (at2 .if2 .taken)) _ _ (f .ensures),
       then _ _ _ (i .1) (record {
         neighbours = k .0;
         degrees = k .1 .0;
@@ -107,7 +107,7 @@ same-length-7 c = search needs
 returns : tie.Need-returns Inv-loop μ-loop
 returns c =
     record {
-      of = λ G h f. rw (c .ended .ensures) (ahead-end _ _ G _ _ _ (c .before .before .before .before .loop .inv .0 G h f)
+      of = λ G h f. rw (c .ended .ensures) (ahead-end _ _ _ _ G _ _ _ (c .before .before .before .before .loop .inv .0 G h f)
           (λ z. ⊎-elim (λ w. ltb-false _ _ (w .2 .left)) (λ w. absurd (w .left z)) (c .before .before .if1 .came)));
     }
 

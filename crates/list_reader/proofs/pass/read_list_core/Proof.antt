@@ -1,6 +1,6 @@
 -- `read_list_core` meets its contract: questions 1 and 2, and the rest.
 use mathlib.Core.Path.{sym, _∙_}
-use Rattle.list_reader.proofs.Beginning.{too-long, first-other, first-banks}
+use Rattle.list_reader.proofs.Beginning.{too-long, found, first-other, first-banks}
 use borrow.Author.Needs.{needs}
 use native.Mathlib.Omega.{arith}
 use Rattle.list_reader.proofs.pass.read_list_core.Statement.{statement}
@@ -9,20 +9,23 @@ use Rattle.list_reader.proofs.pass.read_list_core.Tie as tie
 returns : tie.Need-returns
 returns c = too-long _ _ (c .if1 .taken)
 
+first-row-requires : tie.Need-first-row-requires
+first-row-requires c κs = search needs
+
 find-requires : tie.Need-find-requires
-find-requires c κs = omega arith
+find-requires c κs = c .first-row .ensures .inside
 
-sub-read-row : tie.Need-sub-read-row
-sub-read-row c = omega arith
+sub-read-row-in : tie.Need-sub-read-row-in
+sub-read-row-in c = omega (arith, c .find .ensures .low)
 
-part-read-row-start : tie.Need-part-read-row-start
-part-read-row-start c = omega arith
+part-read-row-in-start : tie.Need-part-read-row-in-start
+part-read-row-in-start c = omega (arith, c .find .ensures .low)
 
-part-read-row-end : tie.Need-part-read-row-end
-part-read-row-end c = omega (arith, c .find .ensures .high)
+part-read-row-in-end : tie.Need-part-read-row-in-end
+part-read-row-in-end c = omega (arith, c .find .ensures .high)
 
-read-row-requires : tie.Need-read-row-requires
-read-row-requires c κs = search needs
+read-row-in-requires : tie.Need-read-row-in-requires
+read-row-in-requires c κs = search needs
 
 enum-known-banks : tie.Need-enum-known-banks
 enum-known-banks c = search needs
@@ -30,8 +33,9 @@ enum-known-banks c = search needs
 returns-2 : tie.Need-returns-2
 returns-2 c =
     let at1 = c .before .before .before in
-    let at2 = at1 .before in
-    first-other _ _ _ (at2 .if1 .left) (at1 .find .ensures) _ (c .before .read-row .ensures) (c .match .keys2)
+    let first = at1 .before in
+    first-other _ _ _ _ _ _ (at1 .find .ensures) _ (c .before .read-row-in .ensures) (c .match .keys2)
+    ∙ sym (found _ _ _ (first .first-row .ensures) (first .before .if1 .left))
 
 add-next : tie.Need-add-next
 add-next c = omega (arith, c .before .before .before .before .before .find .ensures .high)
@@ -39,8 +43,9 @@ add-next c = omega (arith, c .before .before .before .before .before .find .ensu
 begin-requires : tie.Need-begin-requires
 begin-requires c κs =
     let at1 = c .before .before .before .before .before .before .before .before .before .before .before .before in
-    let at2 = at1 .before in
-    record { few = at2 .if1 .left; later = omega arith; inside = omega (arith, at1 .find .ensures .high) }
+    let first = at1 .before in
+    let e = at1 .find .ensures in
+    record { few = first .before .if1 .left; later = omega (arith, e .low, first .first-row .ensures .later); inside = omega (arith, e .high) }
 
 same-length : tie.Need-same-length
 same-length c = search needs
@@ -69,19 +74,22 @@ returns-3 c =
     let at2 = at1 .before .before .before .before .before .before .before .before .before in
     let at3 = at2 .before .before in
     let at4 = at3 .before .before in
-    let at5 = at4 .before in
-    at1 .begin .ensures .is ∙ first-banks _ _ _ (at5 .if1 .left) (at4 .find .ensures) _ (sym (at2 .banks .given .1) ∙ at3 .read-row .ensures)
+    let first = at4 .before in
+    at1 .begin .ensures .is
+    ∙ first-banks _ _ _ _ _ _ (at4 .find .ensures) _ (sym (at2 .banks .given .1) ∙ at3 .read-row-in .ensures)
+    ∙ sym (found _ _ _ (first .first-row .ensures) (first .before .if1 .left))
 
 pub read-list-core-spec : {M : Type 1} → statement M
 read-list-core-spec =
     tie.close
     (tie.spec
     returns
+    first-row-requires
     find-requires
-    sub-read-row
-    part-read-row-start
-    part-read-row-end
-    read-row-requires
+    sub-read-row-in
+    part-read-row-in-start
+    part-read-row-in-end
+    read-row-in-requires
     enum-known-banks
     returns-2
     add-next
