@@ -5,7 +5,6 @@ use mathlib.Core.Path.{_≡_, refl, sym, ap}
 use Prim.Native.Nat.{ℕ, zero, suc, _≤_, _<_}
 use lib.Dec.{leb, ltb}
 use borrow.Author.Tests.{le-leb, lt-leb, lt-ltb, le-ltb}
-use Rattle.rule.specs.Graph.{Graph}
 use Rattle.rule.specs.Wave.{wave}
 use Rattle.memory.specs.declared.Tally.{Tally}
 use Rattle.memory.specs.Plan.{Slices, longEnough, graphIn, holds}

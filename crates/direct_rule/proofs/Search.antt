@@ -6,7 +6,7 @@ use mathlib.Core.Path.{_≡_, refl, sym, ap, subst, _∙_}
 use native.Mathlib.Omega.{arith}
 use Prim.Native.Nat.{ℕ, zero, suc, _+_, _*_, _≤_, _<_}
 use lib.Dec.{T}
-use lib.ListN.{length, getD, set, replicate, length-replicate, getD-replicate}
+use lib.ListN.{getD, set, replicate, length-replicate, getD-replicate}
 use Rattle.rule.specs.Graph.{Graph, earlierNeighbours}
 use Rattle.rule.specs.Lists.{upto, memb}
 use Rattle.rule.specs.Wave.{lowestFree, wave, waves}
@@ -18,9 +18,8 @@ use Rattle.rule.proofs.Theorems.{wave-equation, wave-small, lowestFree-free, lo
 use Rattle.rule.specs.Lists.{Strict}
 use Rattle.memory.specs.declared.Tally.{Tally}
 use Rattle.memory.specs.Plan.{Slices, graphIn, PlanOf}
-use Rattle.memory.specs.inner.Counts.{byCells, standing, Countable, CountedTo}
+use Rattle.memory.specs.inner.Counts.{byCells, standing, Countable}
 use Rattle.memory.specs.inner.Test.{Lowest}
-use Rattle.memory.specs.inner.View.{Held}
 use Rattle.memory.proofs.Fronts.{getD-map, getD-upto}
 use Rattle.memory.proofs.Tallies.{shown, countable, counts-are, count-none, v-bank, count-few, skipped, counted}
 use Rattle.memory.proofs.Standing.{standing-cong, standing-pos, pos-standing}

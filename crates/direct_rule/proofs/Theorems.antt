@@ -11,7 +11,7 @@ use Rattle.memory.specs.declared.Tally.{Tally}
 use Rattle.memory.specs.Plan.{Slices, capFits, PlanOf}
 use Rattle.memory.specs.inner.View.{Held}
 use Rattle.memory.proofs.Theorems.{cells-give, held-of}
-use Rattle.planner.specs.Calls.{bankNumber, waveOf}
+use Rattle.planner.specs.Calls.{waveOf}
 use Rattle.planner.proofs.Theorems.{held-number}
 use Rattle.planner.proofs.Numbers.{bank-fine}
 use Rattle.planner.proofs.Rows as Rows

@@ -1,4 +1,4 @@
--- What the calls answer, as far as printing needs it: waves that have a letter, and clashes that are banks.
+-- What the calls answer, as far as a line needs it: waves that have a letter, and clashes that are banks.
 use mathlib.Core.List.{List, []}
 use mathlib.Core.Path.{_≡_, refl, sym, _∙_}
 use native.Mathlib.Decide.{ℕ-discrete}
@@ -8,11 +8,11 @@ use Prim.Native.Nat.{ℕ, _≤_, _<_}
 use lib.ListN.{length, getD}
 use Rattle.rule.specs.Graph.{Graph, neighbours}
 use Rattle.rule.proofs.Booleans.{lt-or-ge}
-use Rattle.rule.proofs.Neighbours.{neighbours-in}
+use Rattle.rule.proofs.Neighbours.{degree-length, neighbours-in}
 use Rattle.rule.proofs.Theorems.{wave-small}
 use Rattle.rule.specs.Wave.{wave}
 use Rattle.memory.specs.declared.Tally.{Tally}
-use Rattle.memory.specs.Plan.{Slices, graphIn, PlanOf}
+use Rattle.memory.specs.Plan.{Slices, graphIn}
 use Rattle.memory.specs.inner.View.{Held}
 use Rattle.memory.proofs.Fronts.{in-cell}
 use Rattle.memory.proofs.Theorems.{held-of}
@@ -45,7 +45,7 @@ module _ (s : Slices) (t : Tally) (b : ℕ) where
       go (yes e) = (e, elim (lt-or-ge b (t .banks)) [ inl l ↦ l | inr g ↦ absurd (omega (arith, bank-far s t b e g)) ])
       go (no n) = absurd (n (sym (bank-refused s t b (planNumber s t) refl n) ∙ z))
 
-  direct-passed : directNumber b s t ≡ 0 → (planNumber s t ≡ 0) × (b < t .banks)
+  pub direct-passed : directNumber b s t ≡ 0 → (planNumber s t ≡ 0) × (b < t .banks)
   direct-passed z = go (ℕ-discrete (planNumber s t) 0)
     where
       near : planNumber s t ≡ 0 → t .banks ≤ 16 → b < t .banks
@@ -76,28 +76,28 @@ module _ (s : Slices) (t : Tally) (b : ℕ) where
   pub straight-letter : {w : ℕ} → w ≡ ruleWaveOf b s t → w < 24
   straight-letter e = omega (arith, straight-low)
 
-  -- a clash that is answered, and the bank itself, have a degree and a rank
-  pub record Celled (v : ℕ) : Type 0 where
-    pub degrees : (v < length (s .degrees)) × (b < length (s .degrees))
-    pub ranks : (v < length (s .ranks)) × (b < length (s .ranks))
-
-  found : bankNumber b s t ≡ 0 → (i : ℕ) → i < length (neighbours G b) → Celled (getD (neighbours G b) i 0)
-  found z i l =
-      let p = bank-passed z in
-      let h = held (p .0) (p .1) in
-      let v = neighbours-in G b (getD (neighbours G b) i 0) (in-cell i (neighbours G b) l) .0 in
-      let k = inside (p .0) (p .1) in
-      record {
-        degrees = (omega (arith, h .rowed .wide-degrees), omega (arith, h .rowed .wide-degrees));
-        ranks = (omega (arith, h .ranked .wide), omega (arith, h .ranked .wide));
-      }
-
-  pub clash-celled : (part : List ℕ) → part ≡ clashesOf b s t → (i : ℕ) → i < length part → Celled (getD part i 0)
-  clash-celled part e i l = go (ℕ-discrete (bankNumber b s t) 0)
+  -- at most 23 clashes are answered, each a bank
+  pub clashes-few : (part : List ℕ) → part ≡ clashesOf b s t → length part ≤ 23
+  clashes-few part e = go (ℕ-discrete (bankNumber b s t) 0)
     where
-      go : Dec (bankNumber b s t ≡ 0) → Celled (getD part i 0)
-      go (yes z) = let q : part ≡ neighbours G b = e ∙ sym (Rows.clashes-found b s t (sym z)) in rw q (found z i (rw q at l))
+      go : Dec (bankNumber b s t ≡ 0) → length part ≤ 23
+      go (yes z) =
+          let p = bank-passed z in
+          let q : part ≡ neighbours G b = e ∙ sym (Rows.clashes-found b s t (sym z)) in
+          rw q (omega (arith, degree-length G b, number-plan s t (p .0) .clashes .few b (inside (p .0) (p .1))))
+      go (no n) = let q : part ≡ [] = e ∙ sym (Rows.clashes-refused b s t (bankNumber b s t) refl n) in rw q (omega arith)
+
+  pub clash-bank : (part : List ℕ) → part ≡ clashesOf b s t → (i : ℕ) → i < length part → getD part i 0 < t .banks
+  clash-bank part e i l = go (ℕ-discrete (bankNumber b s t) 0)
+    where
+      none : i < length {A = ℕ} [] → ⊥
+      none k = omega arith
+
+      found : bankNumber b s t ≡ 0 → i < length (neighbours G b) → getD (neighbours G b) i 0 < t .banks
+      found z k =
+          let p = bank-passed z in
+          omega (arith, held (p .0) (p .1) .banks, neighbours-in G b (getD (neighbours G b) i 0) (in-cell i (neighbours G b) k) .0)
+
+      go : Dec (bankNumber b s t ≡ 0) → getD part i 0 < t .banks
+      go (yes z) = let q : part ≡ neighbours G b = e ∙ sym (Rows.clashes-found b s t (sym z)) in rw q (found z (rw q at l))
       go (no n) = let q : part ≡ [] = e ∙ sym (Rows.clashes-refused b s t (bankNumber b s t) refl n) in absurd (none (rw q at l))
-        where
-          none : i < length {A = ℕ} [] → ⊥
-          none k = omega arith

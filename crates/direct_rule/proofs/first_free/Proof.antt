@@ -1,5 +1,4 @@
 -- `first_free` goes up from 0; what it passed is held.
-use borrow.Author.Needs.{needs}
 use native.Mathlib.Omega.{arith}
 use Prim.Native.Nat.{ℕ, _-_, _<_}
 use mathlib.Core.Path.{_≡_}

@@ -1,9 +1,6 @@
 -- The arguments below i are answered.
 use borrow.Author.Needs.{needs}
-use native.Mathlib.Omega.{arith}
-use Prim.Native.Nat.{ℕ, _+_, _*_, _-_, _<_, _≤_}
-use mathlib.Core.Path.{_≡_}
-use lib.ListN.{length, getD, set, length-set}
+use Prim.Native.Nat.{_-_, _≤_}
 use Rattle.doubt.proofs.doubts.print_all.Statement.{statement}
 use Rattle.doubt.proofs.doubts.print_all.Tie as tie
 
@@ -13,35 +10,27 @@ Inv-loop neighbours degrees waves counts ranks tally count i₀ i = 1 ≤ i
 abbrev μ-loop : tie.MeasureT-loop
 μ-loop neighbours degrees waves counts ranks tally count i₀ i = count - i
 
--- src/doubts.rt:119:9
 arg-count-requires : tie.Need-arg-count-requires Inv-loop μ-loop
 arg-count-requires c κs = search needs
 
--- src/doubts.rt:121:5
 loop-holds : tie.Need-loop-holds Inv-loop μ-loop
 loop-holds c = search needs
 
--- src/doubts.rt:122:13
 print-argument-requires : tie.Need-print-argument-requires Inv-loop μ-loop
 print-argument-requires c κs = search needs
 
--- src/doubts.rt:123:13
 returns : tie.Need-returns Inv-loop μ-loop
 returns c = search needs
 
--- src/doubts.rt:125:9
 add-i : tie.Need-add-i Inv-loop μ-loop
 add-i c = search needs
 
--- src/doubts.rt:121:5
 loop-less : tie.Need-loop-less Inv-loop μ-loop
 loop-less c = search needs
 
--- src/doubts.rt:121:5
 loop-again : tie.Need-loop-again Inv-loop μ-loop
 loop-again c = search needs
 
--- src/doubts.rt:111:1
 returns-2 : tie.Need-returns-2 Inv-loop μ-loop
 returns-2 c = search needs
 
