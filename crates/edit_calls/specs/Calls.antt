@@ -13,7 +13,7 @@ use Rattle.memory.specs.Memory.{Memory}
 use Rattle.planner.specs.Questions.{_else_, firstNo}
 use Rattle.planner.specs.Calls.{memoryNumber, editNumber, EditResult, editBy, refused}
 
--- by the number of the first no: does a plan of so many waves pass no cap?
+-- by the number of the first no; without one, is the plan of so many waves within the cap?
 unfoldable pub capBy : ℕ → ℕ → ℕ → ℕ
 capBy zero waves cap = firstNo ((leb waves cap else 20) ∷ [])
 capBy (suc c) waves cap = suc c
@@ -22,7 +22,7 @@ capBy (suc c) waves cap = suc c
 unfoldable pub cappedNumber : ℕ → Kind → Graph → ℕ → ℕ → ℕ
 cappedNumber cap k G a b = capBy (editNumber k G a b) (waveCount (edited k G a b)) cap
 
--- an edit of memory that holds the plan of G
+-- an edit of memory that holds the plan of G, under the cap of its tally
 unfoldable pub cappedOf : Kind → Graph → ℕ → ℕ → Memory → EditResult
 cappedOf k G a b m = editBy (cappedNumber (m .tally .cap) k G a b) k G a b m
 
