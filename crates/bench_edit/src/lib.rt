@@ -1,7 +1,7 @@
 // Edits without question 5 for the benchmarks, as the list reader makes one at each row. Who calls them vouches that memory holds a plan.
 use c_cells::put_answer;
 use c_cells::tally_in;
-use planner::edit_held;
+use held_edits::edit_held;
 use rule::Bank;
 use rule::Kind;
 ghost use mathlib.Core.Path.{_≡_};

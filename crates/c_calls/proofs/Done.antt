@@ -8,10 +8,8 @@ use Rattle.memory.specs.declared.Tally.{Tally}
 use Rattle.memory.specs.Cells.{over}
 use Rattle.memory.specs.Plan.{Slices}
 use Rattle.memory.specs.Memory.{Memory, memoryOf}
-use Rattle.planner.specs.Calls.{OpenResult, opened, planNumber, bankNumber, waveOf, clashesOf}
+use Rattle.planner.specs.Calls.{OpenResult, opened}
 use Rattle.edit_calls.specs.Calls.{CapResult, setCap}
-use Rattle.wave_bounds.specs.Calls.{boundOf}
-use Rattle.direct_rule.specs.Calls.{directNumber, ruleWaveOf}
 use Rattle.journal.specs.Calls.{RecordResult, recorded}
 use Rattle.checkpoints.specs.Calls.{ShelfResult, shelfResult, keep, BackResult, comeBack}
 use Rattle.c_cells.specs.CellMemory.{tallyIn, tallyCells, shortNumber, roomed, CellMemory, cellsOf, answered}
@@ -20,8 +18,8 @@ use Rattle.c_cells.proofs.Calls.{on-memory, put-as, refused, called}
 use Rattle.c_calls.specs.declared.sources.Source.{Source}
 use Rattle.c_calls.specs.declared.sources.Source.the-variants.{FromList, FromJournal}
 use Rattle.c_calls.specs.declared.sources.Made.{Made}
-use Rattle.c_calls.specs.Calls.{openAnswered, openDone, openCall, capAnswered, capDone, capCall, listOutcome, listCall, readAnswered, waveDone, waveCall, boundDone, boundCall}
-use Rattle.c_calls.specs.Calls.{directDone, directCall, rowStart, clashesDone, clashesCall, TextOutcome, textAnswered, textDone, textCall}
+use Rattle.c_calls.specs.Calls.{openAnswered, openDone, openCall, capAnswered, capDone, capCall, listOutcome, listCall}
+use Rattle.c_calls.specs.Calls.{TextOutcome, textAnswered, textDone, textCall}
 use Rattle.c_calls.specs.Journals.{recordAnswered, recordDone, recordCall, replayOutcome, replayCall}
 use Rattle.c_calls.specs.Shelves.{keepCall, backAnswered, backDone, comeBackCall}
 use Rattle.c_calls.specs.Kinds.{sourceCall}
@@ -51,63 +49,6 @@ module _ (s : Slices) (tally : List ℕ) (short : ℕ) (is : short ≡ shortNumb
       ap (capAnswered (o .number)) put
       ∙ ap (λ (x : CapResult). capDone x tally) (made ∙ ap (setCap cap s) at)
       ∙ roomed-none 0 (length tally) 0 short is (λ c. capAnswered c tally) _ none
-
--- a call whose only result is one number
-module _ (tally result : List ℕ) (short : ℕ) (t : Tally) (at : t ≡ tallyIn tally) (none : short ≡ 0) where
-  one-done : (numberOf valueOf : Tally → ℕ) (number value : ℕ) (result′ : List ℕ)
-      → short ≡ shortNumber 1 (length tally) (length result)
-      → number ≡ numberOf t
-      → value ≡ valueOf t
-      → result′ ≡ over (value ∷ []) result
-      → readAnswered number result′
-      ≡ roomed (shortNumber 1 (length tally) (length result)) (λ c. readAnswered c result)
-      (readAnswered (numberOf (tallyIn tally)) (over (valueOf (tallyIn tally) ∷ []) result))
-  one-done numberOf valueOf number value result′ is num call put =
-      rw (← at)
-      (ap₂ readAnswered num (put ∙ ap (λ (w : ℕ). over (w ∷ []) result) call)
-      ∙ roomed-none 1 (length tally) (length result) short is (λ c. readAnswered c result) _ none)
-
-  pub bound-done : (s : Slices) (number bound : ℕ) (result′ : List ℕ)
-      → short ≡ shortNumber 1 (length tally) (length result)
-      → number ≡ planNumber s t
-      → bound ≡ boundOf s t
-      → result′ ≡ over (bound ∷ []) result
-      → readAnswered number result′ ≡ boundCall s tally result
-  unfolding boundCall boundDone
-  bound-done s = one-done (planNumber s) (boundOf s)
-
-module _ (s : Slices) (tally result : List ℕ) (short b : ℕ) (t : Tally) (at : t ≡ tallyIn tally) (none : short ≡ 0) where
-  pub wave-done : (number wave : ℕ) (result′ : List ℕ)
-      → short ≡ shortNumber 1 (length tally) (length result)
-      → number ≡ bankNumber b s t
-      → wave ≡ waveOf b s t
-      → result′ ≡ over (wave ∷ []) result
-      → readAnswered number result′ ≡ waveCall b s tally result
-  unfolding waveCall waveDone
-  wave-done = one-done tally result short t at none (bankNumber b s) (waveOf b s)
-
-  pub direct-done : (number wave : ℕ) (result′ : List ℕ)
-      → short ≡ shortNumber 1 (length tally) (length result)
-      → number ≡ directNumber b s t
-      → wave ≡ ruleWaveOf b s t
-      → result′ ≡ over (wave ∷ []) result
-      → readAnswered number result′ ≡ directCall b s tally result
-  unfolding directCall directDone
-  direct-done = one-done tally result short t at none (directNumber b s) (ruleWaveOf b s)
-
-  pub clashes-done : (number start : ℕ) (part result′ : List ℕ)
-      → short ≡ shortNumber 2 (length tally) (length result)
-      → number ≡ bankNumber b s t
-      → start ≡ rowStart number b
-      → part ≡ clashesOf b s t
-      → result′ ≡ over (start ∷ length part ∷ []) result
-      → readAnswered number result′ ≡ clashesCall b s tally result
-  unfolding clashesCall clashesDone
-  clashes-done number start part result′ is num begins call put =
-      let starts : start ≡ rowStart (bankNumber b s t) b = begins ∙ ap (λ (c : ℕ). rowStart c b) num in
-      rw (← at)
-      (ap₂ readAnswered num (put ∙ ap₂ (λ (x : ℕ) (l : List ℕ). over (x ∷ length l ∷ []) result) starts call)
-      ∙ roomed-none 2 (length tally) (length result) short is (λ c. readAnswered c result) _ none)
 
 module _ (write : Slices → Tally → List ℕ → TextOutcome) (s : Slices) (tally out result : List ℕ) (short : ℕ) where
   pub text-done : (t : Tally) (x : TextOutcome) (result′ : List ℕ)

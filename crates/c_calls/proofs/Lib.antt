@@ -1,4 +1,3 @@
--- Theorems: what to cite. The others, for the functions' proofs: Answers, where the clashes of a bank stand; Done, what each function leaves.
-pub mod Answers
+-- Theorems: what to cite. Done, for the functions' proofs: what each function leaves.
 pub mod Done
 pub mod Theorems

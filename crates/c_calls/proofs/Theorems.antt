@@ -1,16 +1,15 @@
 -- What follows from the contracts of this crate, each restated in full.
 -- 1. a refused edit, recorded or not, and a refused return change no slice but the front cells of the result, which are 0; a refused opening
 --    changes nothing
--- 2. the part that clashes_of_in names holds the clashes of the bank: the filled part of its row
--- 3. the length of a sheet and that of a poster fit the result cell
+-- 2. the length of a sheet and that of a poster fit the result cell
 use mathlib.Core.List.{List, [], _∷_}
-use mathlib.Core.Path.{_≡_, refl, sym, ap, _∙_}
-use Prim.Native.Nat.{ℕ, _*_, _≤_}
-use lib.ListN.{length, take, drop}
+use mathlib.Core.Path.{_≡_, ap}
+use Prim.Native.Nat.{ℕ, _≤_}
+use lib.ListN.{length}
 use Rattle.memory.specs.declared.Tally.{Tally}
 use Rattle.memory.specs.Cells.{over}
 use Rattle.memory.specs.Plan.{Slices}
-use Rattle.planner.specs.Calls.{openResult, refused, bankNumber, clashesOf}
+use Rattle.planner.specs.Calls.{openResult, refused}
 use Rattle.wave_lines.proofs.Writing.{written-most}
 use Rattle.sheet_writer.specs.Sheet.{sheet}
 use Rattle.sheet_writer.specs.Calls.{writeSheet}
@@ -22,11 +21,9 @@ use Rattle.poster_writer.proofs.Theorems.{poster-fits}
 use Rattle.checkpoints.specs.Calls.{backResult}
 use Rattle.c_cells.specs.CellMemory.{tallySize, tallyIn, CellMemory, cellsOf, memoryIn, leaving, answered, done, editOutcome}
 use Rattle.c_cells.proofs.Fronts.{tally-again}
-use Rattle.c_cells.proofs.Rooms.{none-short, roomed-none}
-use Rattle.c_calls.specs.Calls.{openAnswered, openDone, ReadAnswered, readAnswered, clashesDone, clashesCall, partNamed}
+use Rattle.c_calls.specs.Calls.{openAnswered, openDone}
 use Rattle.c_calls.specs.Journals.{recordAnswered, recordDone}
 use Rattle.c_calls.specs.Shelves.{backAnswered, backDone}
-use Rattle.c_calls.proofs.Answers as Answers
 
 module _ (l : CellMemory) (long : tallySize ≤ length (l .tally)) where
   leaves-all : (results : List ℕ)
@@ -56,17 +53,6 @@ pub refused-back : (s : Slices) (moved tally result : List ℕ) → tallySize �
     → backDone (backResult c 0 s (tallyIn tally) moved) tally result ≡ backAnswered c s moved tally (over (0 ∷ []) result)
 unfolding backDone
 refused-back s moved tally result long c = ap (λ (t : List ℕ). backAnswered c s moved t (over (0 ∷ []) result)) (tally-again tally long)
-
-pub clashes-named : (b : ℕ) (s : Slices) (tally result : List ℕ) → tallySize ≤ length tally → 2 ≤ length result
-    → partNamed (clashesCall b s tally result .result) (s .neighbours) ≡ clashesOf b s (tallyIn tally)
-unfolding clashesCall clashesDone partNamed over
-clashes-named b s tally result long fits =
-    let call = roomed-none 2 (length tally) (length result) 0 (none-short 2 (length tally) (length result) long fits) (λ c. readAnswered c result) _ refl in
-    ap (λ (x : ReadAnswered). partNamed (x .result) (s .neighbours)) (sym call) ∙ Answers.part-at b s (tallyIn tally) _ refl
-
-pub row-part : (b : ℕ) (s : Slices) (t : Tally) → bankNumber b s t ≡ 0
-    → take (length (clashesOf b s t)) (drop (23 * b) (s .neighbours)) ≡ clashesOf b s t
-row-part = Answers.row-part
 
 pub sheet-short : (s : Slices) (t : Tally) (out : List ℕ) → writeSheet s t out .answer .length ≤ 4084
 sheet-short s t out = written-most sheet s t out 4084 sheet-fits

@@ -20,9 +20,12 @@ use Rattle.planner.specs.Questions.{firstNo}
 use Rattle.planner.specs.Calls.{planNumber, memoryNumber, EditResult, editResult, noEdit, refused, editBy}
 use Rattle.planner.proofs.Numbers.{plan-passed, number-plan}
 use Rattle.planner.proofs.Outcomes.{with}
-use Rattle.edit_calls.specs.Calls.{cappedNumber, cappedOf, checkedBy, edit, setCapNumber, CapResult, capResult, withCap, setCapBy, setCap}
-use Rattle.edit_calls.specs.inner.Within.{withinOf, capNumber}
-use Rattle.edit_calls.proofs.Capped.{no-last, cap-good-parts}
+use Rattle.capped_edits.specs.Capped.{cappedNumber, cappedOf}
+use Rattle.edit_calls.specs.Calls.{checkedBy, edit, setCapNumber, CapResult, capResult, withCap, setCapBy, setCap}
+use Rattle.capped_edits.specs.inner.Within.{withinOf}
+use Rattle.edit_calls.specs.inner.Caps.{capNumber}
+use Rattle.capped_edits.proofs.Capped.{no-last}
+use Rattle.edit_calls.proofs.Caps.{cap-good-parts}
 
 -- the calls add and strike: refused by questions 3 to 5, or an edit of the plan that memory holds
 module _ (k : Kind) (a b : ℕ) (m : Memory) where

@@ -18,7 +18,7 @@ use Rattle.rule.proofs.Booleans.{lt-or-ge, T-along}
 use Rattle.rule.proofs.Lists.{length-upto, filter-short}
 use Rattle.rule.proofs.Agree.{degree-agree}
 use Rattle.rule.proofs.OneClash.{degrees-more, degrees-less, degree-added, degree-struck}
-use Rattle.rule.proofs.Reaches.{count-order}
+use Rattle.rule.proofs.Reaches.{count-order, ordered-few}
 use Rattle.rule.proofs.Theorems.{trail-agree, moved-agree, trail-fixed}
 use Rattle.memory.specs.declared.Tally.{Tally}
 use Rattle.memory.specs.Plan.{planIn, tallyOf, capFits, clashCount, graphIn, Clashes}
@@ -30,13 +30,13 @@ use Rattle.memory.proofs.Theorems.{planIn-agree, tally-agree, cells-give, holds
 use Rattle.edits.specs.Edits.{Acceptable}
 use Rattle.planner.specs.Questions.{firstNo}
 use Rattle.planner.specs.Calls.{EditResult, editResult, noEdit, refused, clashQuestions, memoryNumber, editNumber, accepted, editBy}
-use Rattle.edit_calls.specs.Calls.{capBy, cappedNumber, cappedOf, checkedBy, edit}
+use Rattle.capped_edits.specs.Capped.{capBy, cappedNumber, cappedOf}
+use Rattle.edit_calls.specs.Calls.{checkedBy, edit}
 use Rattle.planner.proofs.Numbers.{far-a, far-b, one-bank, two-banks, memory-plan, held-number, memory-passed, number-ready, plan-passed}
 use Rattle.planner.proofs.Outcomes.{acceptable, edited-banks}
 use Rattle.planner.proofs.Made.{ready-banks}
 use Rattle.planner.proofs.After.{after-plan, inverse-due, inverse-cells, inverse-tally}
-use Rattle.edit_calls.proofs.Capped.{capped-due, due-capped}
-use Rattle.edit_calls.proofs.Unmade.{ordered-few}
+use Rattle.capped_edits.proofs.Capped.{capped-due, due-capped}
 
 -- the same clashes between the banks and the same ranks: the same questions, and the same edit
 module _ {G H : Graph} (s : Same G H) where

@@ -1,6 +1,5 @@
 -- Theorems: what to cite. The others: its proofs.
-pub mod Capped
-pub mod Unmade
+pub mod Caps
 pub mod Calls
 pub mod EditCalls
 pub mod Theorems

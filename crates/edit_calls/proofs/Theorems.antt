@@ -17,8 +17,9 @@ use Rattle.memory.specs.PlanCells.{SameCells}
 use Rattle.planner.specs.Calls.{memoryNumber, editNumber, refused, accepted}
 use Rattle.planner.proofs.Outcomes.{acceptable, edited-banks}
 use Rattle.planner.proofs.After as After
-use Rattle.edit_calls.specs.Calls.{cappedNumber, cappedOf, edit, setCapNumber, setCap, withCap}
-use Rattle.edit_calls.proofs.Capped as Capped
+use Rattle.capped_edits.specs.Capped.{cappedNumber, cappedOf}
+use Rattle.edit_calls.specs.Calls.{edit, setCapNumber, setCap, withCap}
+use Rattle.capped_edits.proofs.Capped as Capped
 use Rattle.edit_calls.proofs.Calls as Calls
 use Rattle.edit_calls.proofs.EditCalls as EditCalls
 

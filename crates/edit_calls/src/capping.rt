@@ -5,7 +5,7 @@ use rule::MOST_WAVES;
 ghost use mathlib.Core.Path.{_≡_};
 ghost use Rattle.memory.specs.Lent.{slicesBefore};
 ghost use Rattle.edit_calls.specs.Calls.{setCapNumber, capResult, setCap};
-ghost use Rattle.edit_calls.specs.inner.Within.{capNumber};
+ghost use Rattle.edit_calls.specs.inner.Caps.{capNumber};
 
 // What set_cap leaves: its number and the tally.
 pub struct Capped {

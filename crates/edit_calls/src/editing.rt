@@ -1,9 +1,9 @@
 // The calls add and strike with the tally by value.
-use crate::within::edit_within;
+use capped_edits::edit_within;
+use held_edits::refuse;
 use memory::Tally;
 use planner::Edited;
 use planner::check_memory;
-use planner::refuse;
 use rule::Bank;
 use rule::Kind;
 ghost use mathlib.Core.Path.{_≡_};

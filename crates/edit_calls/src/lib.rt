@@ -2,7 +2,6 @@
 mod capping;
 mod editing;
 mod lent;
-mod within;
 
 pub use capping::Capped;
 pub use capping::set_cap_core;
@@ -12,4 +11,3 @@ pub use editing::strike_core;
 pub use lent::add;
 pub use lent::set_cap;
 pub use lent::strike;
-pub use within::edit_within;

@@ -14,8 +14,8 @@ use Rattle.rule.specs.Reach.{edited, changed, onTrail, trail, moved}
 use Rattle.rule.specs.declared.Kind.{Kind}
 use Rattle.rule.specs.WorkList.{OneEdit, seed, taken, WorkList}
 use Rattle.rule.proofs.Booleans.{T-along, passes?}
-use Rattle.rule.proofs.Lists.{in-none, length-upto, filter-short}
-use Rattle.rule.proofs.Reaches.{count-order}
+use Rattle.rule.proofs.Lists.{in-none}
+use Rattle.rule.proofs.Reaches.{ordered-few}
 use Rattle.rule.proofs.Spread.{same-neighbours}
 use Rattle.rule.proofs.Waves.{earlierNeighbours-in}
 use Rattle.rule.proofs.Theorems.{wave-small, start, edited-one, trail-taken}
@@ -65,12 +65,11 @@ ranks-over {G} {rs} {was} rk e = cells-over (G .banks) (G .rank) rs was (rk .wid
 -- trail and moved name no more banks than there are
 trail-few : (k : Kind) (old new : Graph) (a b : ℕ) → length (trail k old new a b) ≤ new .banks
 unfolding trail
-trail-few k old new a b =
-    omega (arith, count-order new (onTrail k old new a b), filter-short (onTrail k old new a b) (upto (new .banks)), length-upto (new .banks))
+trail-few k old new a b = ordered-few new (onTrail k old new a b)
 
 moved-few : (old new : Graph) → length (moved old new) ≤ new .banks
 unfolding moved
-moved-few old new = omega (arith, count-order new (changed old new), filter-short (changed old new) (upto (new .banks)), length-upto (new .banks))
+moved-few old new = ordered-few new (changed old new)
 
 -- a work-list by other tests that say the same
 list-cong : (old new : Graph) (a b : ℕ) (done queued done′ queued′ : ℕ → Bool) → ((x : ℕ) → done x ≡ done′ x) → ((x : ℕ) → x < new .banks → queued x ≡ queued′ x)

@@ -22,7 +22,8 @@ use Rattle.planner.specs.States.{begin, beginNumber}
 use Rattle.planner.specs.inner.Held.{ReadyIn}
 use Rattle.planner.proofs.Numbers.{memory-passed, number-ready}
 use Rattle.planner.proofs.After.{plan-in, after-plan}
-use Rattle.edit_calls.specs.Calls.{cappedNumber, cappedOf, checkedBy, edit, withCap}
+use Rattle.capped_edits.specs.Capped.{cappedNumber, cappedOf}
+use Rattle.edit_calls.specs.Calls.{checkedBy, edit, withCap}
 use Rattle.edit_calls.proofs.Calls.{recapped}
 use Rattle.edit_calls.proofs.EditCalls.{number-agree, edited-same}
 use Rattle.edit_calls.proofs.Theorems.{capped-due}

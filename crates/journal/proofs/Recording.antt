@@ -13,9 +13,9 @@ use Rattle.planner.specs.declared.Answer.{Answer}
 use Rattle.memory.specs.declared.Tally.{Tally}
 use Rattle.memory.specs.Memory.{Memory, memoryOf}
 use Rattle.planner.specs.Calls.{EditResult, refused, memoryNumber}
-use Rattle.edit_calls.specs.Calls.{cappedNumber}
-use Rattle.edit_calls.specs.inner.Within.{orLast, withinNumber, withinOf}
-use Rattle.edit_calls.proofs.Unmade.{within-number, within-accepted, within-refused}
+use Rattle.capped_edits.specs.Capped.{cappedNumber}
+use Rattle.capped_edits.specs.inner.Within.{orLast, withinNumber, withinOf}
+use Rattle.capped_edits.proofs.Unmade.{within-number, within-accepted, within-refused}
 use Rattle.planner.specs.inner.Held.{ReadyIn}
 use Rattle.text.specs.Places.{put, Puts}
 use Rattle.rule.specs.declared.Entry.{Entry}

@@ -16,7 +16,7 @@ use Rattle.memory.specs.Cells.{over}
 use Rattle.memory.specs.Plan.{Slices, graphIn}
 use Rattle.memory.specs.Memory.{Memory}
 use Rattle.planner.specs.Calls.{planNumber, memoryNumber, accepted}
-use Rattle.edit_calls.specs.Calls.{cappedNumber}
+use Rattle.capped_edits.specs.Capped.{cappedNumber}
 use Rattle.text.specs.Places.{put}
 use Rattle.journal.specs.declared.start.Started.{Started}
 use Rattle.journal.specs.declared.record.Recorded.{Recorded}

@@ -1,5 +1,5 @@
 // The calls that make an edit and record it.
-use edit_calls::edit_within;
+use capped_edits::edit_within;
 use journal_fields::FIRST_BYTES;
 use journal_fields::entry_bytes;
 use journal_fields::fields_number;

@@ -1,4 +1,6 @@
 // The call that replays a journal.
+use entries::begun_by;
+use entries::enter_held;
 use journal_fields::FIRST_BYTES;
 use journal_fields::Field;
 use journal_fields::entry_bytes;
@@ -8,9 +10,7 @@ use journal_fields::number_at;
 use journal_fields::read_field;
 use journal_fields::refusal;
 use memory::Tally;
-use planner::begun_by;
-use planner::enter_held;
-use planner::open_all;
+use opening::open_all;
 use rule::wide;
 ghost use mathlib.Core.Path.{_≡_};
 ghost use Prim.Native.Nat.{_<_};

@@ -1,12 +1,12 @@
 // The edit of one row, or its rank.
+use entries::begun_by;
+use entries::enter_held;
+use held_edits::edit_held;
 use list_rows::Change;
 use memory::Tally;
 use planner::Answer;
 use planner::Edited;
-use planner::begun_by;
 use planner::clashes_held;
-use planner::edit_held;
-use planner::enter_held;
 use rule::Bank;
 use rule::Kind;
 ghost use mathlib.Core.Path.{_≡_};

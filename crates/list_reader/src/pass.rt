@@ -5,7 +5,7 @@ use list_rows::Row;
 use list_rows::is_v2;
 use list_rows::read_row_in;
 use memory::Tally;
-use planner::open_all;
+use opening::open_all;
 use text::MOST_BYTES;
 use text::find;
 ghost use mathlib.Core.Path.{_≡_};

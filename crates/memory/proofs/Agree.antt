@@ -36,7 +36,8 @@ tally-eq {cap = cap} p q r = λ i. record { banks = p i; clashes = q i; waves = 
 abbrev cellsOf : Graph → PlanCells
 cellsOf G = record { neighbours = neighbourCells G; degrees = degreeCells G; waves = waves G; counts = countCells G; ranks = rankCells G }
 
-front : (xs s : List ℕ) (n : ℕ) → length xs ≡ n → take n (over xs s) ≡ xs
+-- the front of a slice that cells were put at the front of
+pub front : (xs s : List ℕ) (n : ℕ) → length xs ≡ n → take n (over xs s) ≡ xs
 unfolding over
 front xs s n e = take-at xs (drop (length xs) s) n e
 

@@ -1,21 +1,10 @@
-// The planner: opening a wave plan in lent memory, reading it, and the edit of one clash where memory is known to hold a plan.
+// The planner: the questions that its calls ask of lent memory, what they answer, and reading a plan. `opening` opens one, `held_edits` and `entries`
+// change one that is known to be held, `edit_calls` has the calls.
 mod checks;
-mod editing;
-mod entering;
-mod lent;
-mod opening;
 mod reading;
 
 pub use checks::check_memory;
 pub use checks::check_plan;
-pub use editing::edit_held;
-pub use editing::edit_number;
-pub use editing::refuse;
-pub use entering::begun_by;
-pub use entering::enter_held;
-pub use lent::open;
-pub use opening::open_all;
-pub use opening::open_core;
 pub use reading::clashes_held;
 pub use reading::clashes_of;
 pub use reading::wave_of;

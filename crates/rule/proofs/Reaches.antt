@@ -15,7 +15,7 @@ use Rattle.rule.specs.Reach.{changed, isNamed, isTurned, isReached, onTr
 use Rattle.rule.specs.declared.Kind.{Kind}
 use Rattle.rule.specs.declared.Kind.the-variants.{Adding, Striking}
 use Rattle.rule.proofs.Booleans.{and-l, and-r, both, or-l, or-r, or-cases, T-along, eq→eqb}
-use Rattle.rule.proofs.Lists.{in-head, in-tail, in-upto, upto-below, some-in, in-some, count-le}
+use Rattle.rule.proofs.Lists.{in-head, in-tail, in-upto, upto-below, length-upto, filter-short, some-in, in-some, count-le}
 use Rattle.rule.proofs.Order.{earlier-strict}
 use Rattle.rule.proofs.Sorting.{sorted-filter, sorted-order, memb-order, memb-filter, ordered-unique}
 use Rattle.rule.proofs.Agree.{earlier-agree, wave-agree}
@@ -75,6 +75,10 @@ count-sortBy before p (x ∷ xs) =
 pub count-order : (G : Graph) (p : ℕ → Bool) → length (filter p (order G)) ≡ length (filter p (upto (G .banks)))
 unfolding order
 count-order G p = count-sortBy (earlier G) p (upto (G .banks))
+
+-- banks picked from the order are no more than all
+pub ordered-few : (G : Graph) (p : ℕ → Bool) → length (filter p (order G)) ≤ G .banks
+ordered-few G p = omega (arith, count-order G p, filter-short p (upto (G .banks)), length-upto (G .banks))
 
 -- 000, theorem 4.3
 module _ (k : Kind) (old new : Graph) (a b : ℕ) (la : a < new .banks) (lb : b < new .banks) where

@@ -1,12 +1,13 @@
 // Opening a plan, and reading one bank of it, or how many waves it has at most.
-use c_calls::clashes_of_in;
 use c_calls::open_in;
-use c_calls::wave_bound_in;
-use c_calls::wave_by_rule_in;
-use c_calls::wave_of_in;
+use c_reads::clashes_of_in;
+use c_reads::wave_bound_in;
+use c_reads::wave_by_rule_in;
+use c_reads::wave_of_in;
 ghost use mathlib.Core.Path.{_≡_};
 ghost use Rattle.memory.specs.Lent.{slicesBefore, slicesAfter};
-ghost use Rattle.c_calls.specs.Calls.{openAnswered, openCall, readAnswered, waveCall, clashesCall, boundCall, directCall};
+ghost use Rattle.c_reads.specs.Reads.{readAnswered, waveCall, clashesCall, boundCall, directCall};
+ghost use Rattle.c_calls.specs.Calls.{openAnswered, openCall};
 
 // Opens a plan of `banks` banks with no clash.
 #[no_mangle]

@@ -1,7 +1,7 @@
 -- Each test denied has its number, and all granted have none.
 use native.Mathlib.Omega.{arith}
 use mathlib.Core.Path.{sym}
-use Rattle.edit_calls.proofs.Capped.{cap-none, cap-high, cap-low, cap-good}
+use Rattle.edit_calls.proofs.Caps.{cap-none, cap-high, cap-low, cap-good}
 use Rattle.edit_calls.proofs.capping.cap_number.Statement.{statement}
 use Rattle.edit_calls.proofs.capping.cap_number.Tie as tie
 

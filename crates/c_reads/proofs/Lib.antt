@@ -1,0 +1,4 @@
+-- Theorems: what to cite. The others, for the functions' proofs: Answers, where the clashes of a bank stand; Done, what each function leaves.
+pub mod Answers
+pub mod Done
+pub mod Theorems

@@ -1,0 +1,50 @@
+-- `wave_of_in` meets its contract.
+use borrow.Author.Needs.{needs}
+use Rattle.c_cells.proofs.Rooms.{roomed-some}
+use Rattle.c_reads.specs.Reads.{waveCall}
+use Rattle.c_reads.proofs.Done.{wave-done}
+use Rattle.c_reads.proofs.reading.wave_of_in.Statement.{statement}
+use Rattle.c_reads.proofs.reading.wave_of_in.Tie as tie
+
+room-requires : tie.Need-room-requires
+room-requires c κs = search needs
+
+returns : tie.Need-returns
+unfolding waveCall
+returns c = roomed-some _ _ _ _ (c .before .room .ensures .0) _ _ (c .if1 .taken)
+
+tally-in-requires : tie.Need-tally-in-requires
+tally-in-requires c κs = search needs
+
+wave-of-requires : tie.Need-wave-of-requires
+wave-of-requires c κs = search needs
+
+slice-aggregate-put-front : tie.Need-slice-aggregate-put-front
+slice-aggregate-put-front c = search needs
+
+put-front-requires : tie.Need-put-front-requires
+put-front-requires c κs = search needs
+
+same-length : tie.Need-same-length
+same-length c = search needs
+
+returns-2 : tie.Need-returns-2
+returns-2 c =
+    let put = c .before .before in
+    let core = put .before .before .before in
+    let read = core .before in
+    let test = read .before in
+    wave-done _ _ _ _ _ _ (read .tally-in .ensures) (test .if1 .left) _ _ _ (test .before .room .ensures .0) (core .wave-of .ensures .0) (core .wave-of .ensures .1) (put .put-front .ensures)
+
+pub wave-of-in-spec : {M : Type 1} → statement M
+wave-of-in-spec =
+    tie.close
+    (tie.spec
+    room-requires
+    returns
+    tally-in-requires
+    wave-of-requires
+    slice-aggregate-put-front
+    put-front-requires
+    same-length
+    returns-2)

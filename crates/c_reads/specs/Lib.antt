@@ -1,0 +1,2 @@
+-- What a reader must believe of the calls of the C library that read a plan: Reads; in c_cells, how cells carry the tally and the results.
+pub mod Reads

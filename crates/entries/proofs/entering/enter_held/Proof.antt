@@ -1,0 +1,75 @@
+-- `enter_held`, entry by entry: an edit, or a rank.
+use borrow.Author.Needs.{needs}
+use native.Mathlib.Omega.{arith}
+use Rattle.planner.specs.inner.Held.{RankFits}
+use Rattle.planner.proofs.Made.{ready-banks}
+use Rattle.planner.proofs.RanksSet.{clash-entered, rank-entered, ranks-wide, rank-of}
+use Rattle.entries.proofs.entering.enter_held.Statement.{statement}
+use Rattle.entries.proofs.entering.enter_held.Tie as tie
+
+enum-known-entry : tie.Need-enum-known-entry
+enum-known-entry c = search needs
+
+edit-held-requires : tie.Need-edit-held-requires
+edit-held-requires c κs = let h = c .before .before .before .before .before .before .before .before .before .before .before .before .before .before .before .before .before .pre .held in (h .0, h .1)
+
+enum-known-entry-2 : tie.Need-enum-known-entry-2
+enum-known-entry-2 c = search needs
+
+rank-held-requires : tie.Need-rank-held-requires
+rank-held-requires c κs = let h = c .before .before .before .before .before .before .before .before .before .before .before .pre .held in ranks-wide (h .0) _ (h .1)
+
+same-length : tie.Need-same-length
+same-length c = search needs
+
+same-length-2 : tie.Need-same-length-2
+same-length-2 c = search needs
+
+same-length-3 : tie.Need-same-length-3
+same-length-3 c = search needs
+
+same-length-4 : tie.Need-same-length-4
+same-length-4 c = search needs
+
+same-length-5 : tie.Need-same-length-5
+same-length-5 c = search needs
+
+same-length-6 : tie.Need-same-length-6
+same-length-6 c = search needs
+
+same-length-7 : tie.Need-same-length-7
+same-length-7 c = search needs
+
+returns : tie.Need-returns
+returns c =
+    let made = c .before .before .before .before .before .before .before .before .before .before .before .before in
+    record { of = λ G h f. rw (made .before .before .before .before .before .before .before .before .before .entry .given .1) (clash-entered _ _ _ _ G _ _ _ (made .edit-held .ensures G h) f) }
+
+same-length-8 : tie.Need-same-length-8
+same-length-8 c = search needs
+
+returns-2 : tie.Need-returns-2
+returns-2 c =
+    let made = c .before .before in
+    let is = made .before .before .before .entry2 .given .1 in
+    let fits = rank-of is (made .before .before .before .before .before .before .before .before .before .before .before .before .pre .fits) in
+    record { of = λ G h f. rw is (rank-entered _ _ _ h f fits (made .rank-held .ensures)) }
+
+pub enter-held-spec : {M : Type 1} → statement M
+enter-held-spec =
+    tie.close
+    (tie.spec
+    enum-known-entry
+    edit-held-requires
+    enum-known-entry-2
+    rank-held-requires
+    same-length
+    same-length-2
+    same-length-3
+    same-length-4
+    same-length-5
+    same-length-6
+    same-length-7
+    returns
+    same-length-8
+    returns-2)
