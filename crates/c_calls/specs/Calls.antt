@@ -8,7 +8,7 @@ use Rattle.memory.specs.Cells.{over}
 use Rattle.memory.specs.Plan.{Slices}
 use Rattle.planner.specs.Calls.{OpenResult, opened}
 use Rattle.edit_calls.specs.Calls.{edit, CapResult, setCap}
-use Rattle.list_reader.specs.Pass.{ListResult, readList}
+use Rattle.list_pass.specs.Pass.{ListResult, readList}
 use Rattle.wave_lines.specs.Calls.{TextResult}
 use Rattle.sheet_writer.specs.Calls.{writeSheet}
 use Rattle.poster_writer.specs.Calls.{writePoster}

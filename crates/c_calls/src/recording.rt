@@ -2,7 +2,7 @@
 use c_cells::put_answer;
 use c_cells::room;
 use c_cells::tally_in;
-use journal::record_core;
+use recorded_edits::record_core;
 use rule::Bank;
 use rule::Kind;
 ghost use mathlib.Core.Path.{_≡_};

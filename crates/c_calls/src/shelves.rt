@@ -2,8 +2,8 @@
 use c_cells::put_answer;
 use c_cells::room;
 use c_cells::tally_in;
-use checkpoints::come_back_core;
 use checkpoints::keep;
+use coming_back::come_back_core;
 ghost use mathlib.Core.Path.{_≡_};
 ghost use Rattle.memory.specs.Lent.{slicesBefore, slicesAfter};
 ghost use Rattle.checkpoints.specs.Calls.{shelfResult};

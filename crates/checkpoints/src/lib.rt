@@ -1,12 +1,9 @@
-// Kept states: a plan is kept on a shelf in lent memory under one of three names, and comes back from there.
-mod back;
+// Kept states: a plan is kept on a shelf in lent memory under one of three names. `coming_back` brings it back from there.
 mod keeping;
-mod lent;
 
-pub use back::come_back_core;
+pub use keeping::check_keep;
 pub use keeping::keep;
 pub use keeping::open_shelf;
-pub use lent::come_back;
 
 // What coming back answers: 02's number, and how many banks have another wave than before.
 pub struct Returned {

@@ -19,7 +19,7 @@ use Rattle.capped_edits.proofs.Unmade.{within-number, within-accepted, within-r
 use Rattle.planner.specs.inner.Held.{ReadyIn}
 use Rattle.text.specs.Places.{put, Puts}
 use Rattle.rule.specs.declared.Entry.{Entry}
-use Rattle.journal.specs.declared.record.Recorded.{Recorded}
+use Rattle.journal.specs.declared.Recorded.{Recorded}
 use Rattle.journal_fields.specs.Fields.{firstSize, entrySize, numbered, fields, entryBytes}
 use Rattle.journal_fields.specs.Numbers.{firstOf, spaceNumber, headNumber, laterNumber, fieldsNumber}
 use Rattle.journal.specs.Calls.{clashesIn, laterIn, nextSize, nextBytes, nextSpace, recordNumber, recordResult, noRecord, entryFor, recordedAs, recordedBy, recorded}

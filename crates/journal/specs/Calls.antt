@@ -18,8 +18,8 @@ use Rattle.memory.specs.Memory.{Memory}
 use Rattle.planner.specs.Calls.{planNumber, memoryNumber, accepted}
 use Rattle.capped_edits.specs.Capped.{cappedNumber}
 use Rattle.text.specs.Places.{put}
-use Rattle.journal.specs.declared.start.Started.{Started}
-use Rattle.journal.specs.declared.record.Recorded.{Recorded}
+use Rattle.journal.specs.declared.Started.{Started}
+use Rattle.journal.specs.declared.Recorded.{Recorded}
 use Rattle.journal_fields.specs.Fields.{firstSize, entrySize, entryBytes, journalBytes, numbered, fields}
 use Rattle.journal_fields.specs.Numbers.{firstOf, spaceNumber, headNumber, fieldsNumber}
 

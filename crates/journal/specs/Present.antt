@@ -9,7 +9,7 @@ use Rattle.memory.specs.PlanCells.{planCells}
 use Rattle.planner.specs.declared.Answer.{Answer}
 use Rattle.edit_calls.specs.Calls.{withCap}
 use Rattle.journal_replay.specs.Replay.{replayed}
-use Rattle.journal.specs.declared.record.Recorded.{Recorded}
+use Rattle.journal.specs.declared.Recorded.{Recorded}
 
 -- the bytes replay into m with no refusal to the plan that s and t hold: the same plan cells, and the same tally in all but the cap, which is 24 then
 pub record ReplaysTo (bytes : List ℕ) (m : Memory) (s : Slices) (t : Tally) : Type 0 where

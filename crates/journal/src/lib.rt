@@ -1,14 +1,24 @@
-// The journal of a plan: it is started, and then edits are made and recorded in it.
-mod lent;
-mod record;
+// The journal of a plan, and starting it. `recorded_edits` makes edits and records them in it.
 mod start;
 
-pub use lent::add_recorded;
-pub use lent::strike_recorded;
-pub use record::Recorded;
-pub use record::RecordedEdit;
-pub use record::add_recorded_core;
-pub use record::record_core;
-pub use record::strike_recorded_core;
-pub use start::Started;
 pub use start::start_journal;
+
+// The answer of start_journal: the number, and the journal's length, at most 60,000.
+pub struct Started {
+    pub number: u16,
+    pub length: u16,
+}
+
+// The answer of an edit that is recorded: that of the edit, and the journal's new length, at most 60,000.
+pub struct Recorded {
+    pub number: u16,
+    pub moved: u16,
+    pub trail: u16,
+    pub length: u16,
+}
+
+// What it leaves beside its slices.
+pub struct RecordedEdit {
+    pub answer: Recorded,
+    pub tally: memory::Tally,
+}

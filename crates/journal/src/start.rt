@@ -1,4 +1,5 @@
 // The call that starts a journal.
+use crate::Started;
 use journal_fields::FIRST_BYTES;
 use journal_fields::NUMBERED_BYTES;
 use journal_fields::put_entry;
@@ -20,12 +21,6 @@ ghost use Rattle.memory.specs.Plan.{PlanOf};
 ghost use Rattle.memory.specs.Lent.{slicesGiven, slicesBefore};
 ghost use Rattle.journal.specs.Calls.{rankOf, ranksBelow, addsOf, addsBelow, startResult, started};
 ghost use Rattle.journal.specs.inner.Adds.{rankIn, RoomFor, WroteEntries};
-
-// The answer of start_journal: the number, and the journal's length, at most 60,000.
-pub struct Started {
-    pub number: u16,
-    pub length: u16,
-}
 
 // 1 if a rank is other than 0, else 0.
 fn ranked(rank: u16) -> usize

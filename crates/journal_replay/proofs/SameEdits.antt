@@ -31,8 +31,8 @@ use Rattle.text.proofs.Without.{Without, without-append, decimal-without, rows-
 use Rattle.list_rows.specs.declared.row.Change.the-variants.{One}
 use Rattle.list_rows.specs.declared.row.Row.the-variants.{Banks, Edit, Unreadable}
 use Rattle.list_rows.specs.Rows.{isByte, twoParts, threeParts, fromParts, rowOf, isV2, startV2, listV2, rowsOf}
-use Rattle.list_reader.specs.Pass.{ListResult, reading, change, changeNumber, rowNumber, step, passBy, pass, beginBy, fromFirst, fromRows}
-use Rattle.list_reader.proofs.Lists.{plain-said}
+use Rattle.list_pass.specs.Pass.{ListResult, reading, change, changeNumber, rowNumber, step, passBy, pass, beginBy, fromFirst, fromRows}
+use Rattle.list_pass.proofs.Lists.{plain-said}
 use Rattle.journal_fields.specs.Fields.{kindTag, tagOf, firstIn, secondIn, rankFits, journalBytes}
 use Rattle.journal_fields.specs.Bounds.{Below, AllBelow, RanksFit}
 use Rattle.journal_replay.specs.SameList.{pairText, entryText, entriesText, listText, entryRow}

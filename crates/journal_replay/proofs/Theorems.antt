@@ -11,9 +11,9 @@ use Rattle.memory.specs.Memory.{Memory}
 use Rattle.memory.proofs.Theorems.{widest-cap}
 use Rattle.list_rows.specs.declared.row.Row.the-variants.{Banks}
 use Rattle.list_rows.specs.Rows.{listV2, rowsOf, firstRow}
-use Rattle.list_reader.specs.declared.pass.Reading.{Reading}
-use Rattle.list_reader.specs.Pass.{ListResult, fromRows, readList}
-use Rattle.list_reader.proofs.Lists.{within, any-same}
+use Rattle.list_pass.specs.declared.Reading.{Reading}
+use Rattle.list_pass.specs.Pass.{ListResult, fromRows, readList}
+use Rattle.list_pass.proofs.Lists.{within, any-same}
 use Rattle.journal_fields.specs.Fields.{firstSize, entrySize, journalBytes}
 use Rattle.journal_fields.specs.Bounds.{AllBelow, RanksFit}
 use Rattle.journal_replay.specs.SameList.{listText, entryRow}

@@ -9,7 +9,7 @@ use Rattle.memory.specs.Cells.{over}
 use Rattle.text.specs.Numbers.{decimal}
 use Rattle.text.specs.Places.{Puts}
 use Rattle.text.proofs.Putting.{puts-three, put-front}
-use Rattle.list_reader.specs.Pass.{ListResult, readList}
+use Rattle.list_pass.specs.Pass.{ListResult, readList}
 use Rattle.wave_lines.specs.Calls.{TextResult, writeText}
 use Rattle.wave_lines.proofs.Writing.{written-within}
 use Rattle.list_program.specs.Answers.{blank, refusalText, answerResult, ofText, answerBy, answerOf}

@@ -7,9 +7,9 @@ use lib.ListN.{length}
 use Rattle.rule.specs.Graph.{Graph}
 use Rattle.memory.specs.Cells.{over}
 use Rattle.memory.specs.Plan.{PlanOf}
-use Rattle.list_reader.specs.Pass.{ListResult, readList}
-use Rattle.list_reader.specs.Ends.{endOf}
-use Rattle.list_reader.proofs.Theorems.{accepted-holds, accepted-fits}
+use Rattle.list_pass.specs.Pass.{ListResult, readList}
+use Rattle.list_pass.specs.Ends.{endOf}
+use Rattle.list_pass.proofs.Theorems.{accepted-holds, accepted-fits}
 use Rattle.wave_lines.specs.Calls.{TextResult, textResult, writeText}
 use Rattle.sheet_writer.proofs.Theorems as Sheets
 use Rattle.poster_writer.proofs.Theorems as Posters

@@ -7,7 +7,7 @@ use Rattle.memory.specs.Cells.{over}
 use Rattle.memory.specs.Plan.{slicesOf}
 use Rattle.memory.specs.Memory.{Memory, memoryOf}
 use Rattle.text.specs.Numbers.{decimal}
-use Rattle.list_reader.specs.Pass.{ListResult, readList}
+use Rattle.list_pass.specs.Pass.{ListResult, readList}
 use Rattle.wave_lines.specs.Calls.{TextResult, writeText}
 use Rattle.sheet_writer.specs.Sheet.{sheet}
 use Rattle.poster_writer.specs.Poster.{poster}

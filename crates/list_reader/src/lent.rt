@@ -1,10 +1,10 @@
 // The call that reads a list as a caller makes it: the tally is lent, and left as the call leaves it.
-use crate::pass::Reading;
 use crate::pass::read_list_core;
+use list_pass::Reading;
 use memory::Tally;
 ghost use mathlib.Core.Path.{_≡_};
 ghost use Rattle.memory.specs.Lent.{before, after};
-ghost use Rattle.list_reader.specs.Pass.{listResult, readList};
+ghost use Rattle.list_pass.specs.Pass.{listResult, readList};
 
 // Reads a list: opens the plan, then makes the rows' edits. Answers 0, or the number of the first no and its row.
 pub fn read_list(

@@ -22,9 +22,9 @@ use Rattle.edit_calls.proofs.Theorems.{add-clashes, strike-clashes, refused-sam
 use Rattle.list_rows.specs.declared.row.Row.{Row}
 use Rattle.list_rows.specs.declared.row.Row.the-variants as Rows
 use Rattle.list_rows.specs.Rows.{rowsOf, firstRow}
-use Rattle.list_reader.specs.Pass.{ListResult, readList}
-use Rattle.list_reader.specs.Ends.{FirstOpens}
-use Rattle.list_reader.proofs.Lists.{Start, opens, refuses, start}
+use Rattle.list_pass.specs.Pass.{ListResult, readList}
+use Rattle.list_pass.specs.Ends.{FirstOpens}
+use Rattle.list_pass.proofs.Lists.{Start, opens, refuses, start}
 use Rattle.journal_fields.specs.Fields.{firstSize, banksIn, fields}
 use Rattle.journal_replay.specs.Replay.{ReplayResult, replayNumber, replayBy, replayed}
 use Rattle.journal.specs.Calls.{recordNumber, recordedAs, recordedBy, recorded}

@@ -22,12 +22,12 @@ use Rattle.list_rows.specs.declared.row.Change.the-variants.{One, StrikeAll}
 use Rattle.list_rows.specs.declared.row.Row.{Row}
 use Rattle.list_rows.specs.declared.row.Row.the-variants.{Banks, Edit, Unreadable, Retired}
 use Rattle.list_rows.specs.Rows.{firstRow}
-use Rattle.list_reader.specs.Pass.{ListResult, started, strikeEach, change, changeNumber, rowNumber, step, passBy, pass, readList}
-use Rattle.list_reader.specs.Ends.{FirstOpens}
-use Rattle.list_reader.proofs.Struck.{strike-number, strike-rest}
-use Rattle.list_reader.proofs.Fits.{RowFits, AllFit, later-fit}
-use Rattle.list_reader.proofs.Kept.{change-kept}
-use Rattle.list_reader.proofs.Lists.{opens-pass}
+use Rattle.list_pass.specs.Pass.{ListResult, started, strikeEach, change, changeNumber, rowNumber, step, passBy, pass, readList}
+use Rattle.list_pass.specs.Ends.{FirstOpens}
+use Rattle.list_pass.proofs.Struck.{strike-number, strike-rest}
+use Rattle.list_pass.proofs.Fits.{RowFits, AllFit, later-fit}
+use Rattle.list_pass.proofs.Kept.{change-kept}
+use Rattle.list_pass.proofs.Lists.{opens-pass}
 use Rattle.totals.specs.Totals.{struckEach, changed, changeTotal, rowsTotal, before}
 use Rattle.totals.proofs.Edits.{tally-clashes, tally-banks, no-clash, strike-count, Left, entry-left, before-none, before-next}
 

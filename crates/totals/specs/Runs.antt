@@ -7,7 +7,7 @@ use Rattle.memory.specs.Plan.{Slices}
 use Rattle.memory.specs.Memory.{Memory, memoryOf}
 use Rattle.planner.specs.Calls.{opened}
 use Rattle.edit_calls.specs.Calls.{edit, setCap}
-use Rattle.list_reader.specs.Pass.{readList}
+use Rattle.list_pass.specs.Pass.{readList}
 use Rattle.journal_replay.specs.Replay.{replayed}
 use Rattle.journal.specs.Calls.{recorded}
 use Rattle.checkpoints.specs.Calls.{openShelf, keep, comeBack}

@@ -3,7 +3,7 @@ use mathlib.Core.List.{List}
 use mathlib.Core.Path.{_≡_}
 use Prim.Native.Nat.{ℕ}
 use Rattle.memory.specs.Memory.{Memory}
-use Rattle.list_reader.specs.Pass.{listResult, reading, readList}
+use Rattle.list_pass.specs.Pass.{listResult, reading, readList}
 use Rattle.journal_replay.specs.Replay.{replayResult, replayAnswer, replayed}
 use Rattle.c_calls.specs.declared.sources.Source.{Source}
 use Rattle.c_calls.specs.declared.sources.Source.the-variants.{FromList, FromJournal}

@@ -8,7 +8,7 @@ use Rattle.planner.specs.Calls.{memoryNumber}
 use Rattle.planner.specs.inner.Held.{ReadyIn}
 use Rattle.text.specs.Places.{put}
 use Rattle.rule.specs.declared.Entry.{Entry}
-use Rattle.journal.specs.declared.record.Recorded.{Recorded}
+use Rattle.journal.specs.declared.Recorded.{Recorded}
 use Rattle.journal_fields.specs.Numbers.{firstOf, headNumber, fieldsNumber}
 use Rattle.journal.specs.Calls.{nextSize, nextBytes, nextSpace}
 

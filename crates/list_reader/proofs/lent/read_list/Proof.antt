@@ -38,13 +38,13 @@ use denote.Triple.Call.{calls-at}
 use denote.Triple.Clauses.{Lasts, atExit}
 use denote.Triple.Table.{entered, cited}
 use Rattle.memory.specs.declared.Tally.{Tally}
-use Rattle.list_reader.specs.declared.pass.Listed.{Listed}
+use Rattle.list_pass.specs.declared.Listed.{Listed}
 use Rattle.memory.proofs.Tally as T
 use Rattle.memory.proofs.Tally.Laws as T′
-use Rattle.list_reader.proofs.pass.Listed as E
-use Rattle.list_reader.proofs.pass.Listed.Laws as E′
-use Rattle.list_reader.proofs.pass.Reading as N
-use Rattle.list_reader.proofs.pass.Reading.Laws as N′
+use Rattle.list_pass.proofs.Listed as E
+use Rattle.list_pass.proofs.Listed.Laws as E′
+use Rattle.list_pass.proofs.Reading as N
+use Rattle.list_pass.proofs.Reading.Laws as N′
 use Rattle.memory.proofs.Thin.{lfts-but, shares-but, den-in, vals-in, last-in, alloc-all, free-at, starts, hands, leaves, meets-at}
 use Rattle.list_reader.proofs.pass.read_list_core as core
 use Rattle.list_reader.proofs.pass.read_list_core.Symbol as core-def

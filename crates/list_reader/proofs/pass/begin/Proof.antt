@@ -1,7 +1,7 @@
 -- `begin` meets its contract: refused by opening, or the edits are read into the plan that was opened.
 use mathlib.Core.List.{[]}
 use mathlib.Core.Path.{_∙_}
-use Rattle.list_reader.proofs.Beginning.{begin-refused, opened-state, begin-passed}
+use Rattle.list_pass.proofs.Beginning.{begin-refused, opened-state, begin-passed}
 use borrow.Author.Needs.{needs}
 use Rattle.list_reader.proofs.pass.begin.Statement.{statement}
 use Rattle.list_reader.proofs.pass.begin.Tie as tie

@@ -1,6 +1,6 @@
 -- `read_list_core` meets its contract: questions 1 and 2, and the rest.
 use mathlib.Core.Path.{sym, _∙_}
-use Rattle.list_reader.proofs.Beginning.{too-long, found, first-other, first-banks}
+use Rattle.list_pass.proofs.Beginning.{too-long, found, first-other, first-banks}
 use borrow.Author.Needs.{needs}
 use native.Mathlib.Omega.{arith}
 use Rattle.list_reader.proofs.pass.read_list_core.Statement.{statement}

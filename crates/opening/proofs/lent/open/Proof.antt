@@ -1,4 +1,4 @@
--- `planner::lent::open` meets its contract: a walk of its MIR by the laws of the crate memory's `Thin.antt`. All that it knows of `opening::open_core` is that
+-- `opening::lent::open` meets its contract: a walk of its MIR by the laws of the crate memory's `Thin.antt`. All that it knows of `opening::open_core` is that
 -- it meets its contract.
 -- The record is copied out of the open borrow, what `opening::open_core` returns is stored there, and the borrow is closed at it; every other parameter goes to
 -- `opening::open_core` as it is.

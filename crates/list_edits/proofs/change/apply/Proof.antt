@@ -1,0 +1,98 @@
+-- `apply` meets its contract, row by row: an entry, or all clashes of a bank.
+use borrow.Author.Needs.{needs}
+use mathlib.Core.Path.{refl}
+use Rattle.list_pass.proofs.Passing.{change-one, one-fits}
+use Rattle.list_edits.proofs.change.apply.Statement.{statement}
+use Rattle.list_edits.proofs.change.apply.Tie as tie
+
+enum-known-change : tie.Need-enum-known-change
+enum-known-change c = search needs
+
+enter-held-requires : tie.Need-enter-held-requires
+enter-held-requires c κs =
+    let row = c .before .before .before .before .before .before .before .before in
+    let p = row .before .before .before .before .before .before .before .before .before .pre in
+    record { held = p .held; fits = one-fits (row .change .given .1) (p .fits) }
+
+enum-known-change-2 : tie.Need-enum-known-change-2
+enum-known-change-2 c = search needs
+
+strike-all-requires : tie.Need-strike-all-requires
+strike-all-requires c κs = let h = c .before .before .before .before .before .before .before .before .before .before .before .before .before .before .before .before .before .pre .held in (h .0, h .1)
+
+same-length : tie.Need-same-length
+same-length c = search needs
+
+same-length-2 : tie.Need-same-length-2
+same-length-2 c = search needs
+
+same-length-3 : tie.Need-same-length-3
+same-length-3 c = search needs
+
+same-length-4 : tie.Need-same-length-4
+same-length-4 c = search needs
+
+same-length-5 : tie.Need-same-length-5
+same-length-5 c = search needs
+
+same-length-6 : tie.Need-same-length-6
+same-length-6 c = search needs
+
+same-length-7 : tie.Need-same-length-7
+same-length-7 c = search needs
+
+returns : tie.Need-returns
+returns c =
+    let made = c .before .before .before .before .before .before .before .before .before .before .before .before .before .before in
+    record { of = λ G h f. rw (made .before .before .before .before .before .before .before .before .before .change .given .1) (change-one _ G _ h f _ _ _ (made .enter-held .ensures .of G h f)) }
+
+same-length-8 : tie.Need-same-length-8
+same-length-8 c = search needs
+
+same-length-9 : tie.Need-same-length-9
+same-length-9 c = search needs
+
+same-length-10 : tie.Need-same-length-10
+same-length-10 c = search needs
+
+same-length-11 : tie.Need-same-length-11
+same-length-11 c = search needs
+
+same-length-12 : tie.Need-same-length-12
+same-length-12 c = search needs
+
+same-length-13 : tie.Need-same-length-13
+same-length-13 c = search needs
+
+same-length-14 : tie.Need-same-length-14
+same-length-14 c = search needs
+
+returns-2 : tie.Need-returns-2
+returns-2 c =
+    let made = c .before .before .before .before .before .before .before .before .before .before .before .before in
+    record { of = λ G h f. rw (made .before .before .before .before .before .before .before .before .before .change2 .given .1) (made .strike-all .ensures _ .of G h f) }
+
+pub apply-spec : {M : Type 1} → statement M
+apply-spec =
+    tie.close
+    (tie.spec
+    enum-known-change
+    enter-held-requires
+    enum-known-change-2
+    strike-all-requires
+    same-length
+    same-length-2
+    same-length-3
+    same-length-4
+    same-length-5
+    same-length-6
+    same-length-7
+    returns
+    same-length-8
+    same-length-9
+    same-length-10
+    same-length-11
+    same-length-12
+    same-length-13
+    same-length-14
+    returns-2)

@@ -1,0 +1,101 @@
+-- `edit_row` meets its contract: the row that it finds is read, and its edit is made.
+use mathlib.Core.Path.{refl, sym, _∙_}
+use Rattle.list_pass.proofs.Fits.{edit-fits}
+use Rattle.list_pass.proofs.Passing.{edits-none, edits-one}
+use borrow.Author.Needs.{needs}
+use native.Mathlib.Omega.{arith}
+use Rattle.list_edits.proofs.rows.edit_row.Statement.{statement}
+use Rattle.list_edits.proofs.rows.edit_row.Tie as tie
+
+find-requires : tie.Need-find-requires
+find-requires c κs = omega (arith, c .before .before .before .before .before .before .before .before .pre .inside)
+
+add-next : tie.Need-add-next
+add-next c = omega (arith, c .find .ensures .high)
+
+sub-read-row-in : tie.Need-sub-read-row-in
+sub-read-row-in c = omega (arith, c .find .ensures .low)
+
+part-read-row-in-start : tie.Need-part-read-row-in-start
+part-read-row-in-start c = omega arith
+
+part-read-row-in-end : tie.Need-part-read-row-in-end
+part-read-row-in-end c = omega arith
+
+read-row-in-requires : tie.Need-read-row-in-requires
+read-row-in-requires c κs = search needs
+
+enum-known-read : tie.Need-enum-known-read
+enum-known-read c = search needs
+
+not-taken-requires : tie.Need-not-taken-requires
+not-taken-requires c κs = search needs
+
+returns : tie.Need-returns
+returns c =
+    let read = c .before .before in
+    edits-none _ _ _ _ (read .before .before .find .ensures) _ _ _ _ refl refl _ (read .read-row-in .ensures) (c .before .match .keys2) (c .not-taken .ensures)
+
+apply-requires : tie.Need-apply-requires
+apply-requires c κs =
+    let row = c .before .before .before .before .before .before .before .before in
+    let read = row .before .before in
+    let start = read .before .before .before .before .before .before .before .before .before .before .before in
+    record { held = start .pre .held; fits = edit-fits _ _ _ (sym (row .read .given .1) ∙ read .read-row-in .ensures) }
+
+begun-after-requires : tie.Need-begun-after-requires
+begun-after-requires c κs = search needs
+
+same-length : tie.Need-same-length
+same-length c = search needs
+
+same-length-2 : tie.Need-same-length-2
+same-length-2 c = search needs
+
+same-length-3 : tie.Need-same-length-3
+same-length-3 c = search needs
+
+same-length-4 : tie.Need-same-length-4
+same-length-4 c = search needs
+
+same-length-5 : tie.Need-same-length-5
+same-length-5 c = search needs
+
+same-length-6 : tie.Need-same-length-6
+same-length-6 c = search needs
+
+same-length-7 : tie.Need-same-length-7
+same-length-7 c = search needs
+
+returns-2 : tie.Need-returns-2
+returns-2 c =
+    let at1 = c .before .before .before .before .before .before .before .before .before .before .before .before .before .before .before .before .before in
+    let at2 = at1 .before .before .before .before .before .before .before .before .before in
+    let at3 = at2 .before .before in
+    let at4 = at3 .before .before in
+    edits-one _ _ _ _ (at4 .find .ensures) _ _ _ _ refl refl _ (sym (at2 .read .given .1) ∙ at3 .read-row-in .ensures) _ _ (at1 .apply .ensures) refl
+    (c .begun-after .ensures)
+
+pub edit-row-spec : {M : Type 1} → statement M
+edit-row-spec =
+    tie.close
+    (tie.spec
+    find-requires
+    add-next
+    sub-read-row-in
+    part-read-row-in-start
+    part-read-row-in-end
+    read-row-in-requires
+    enum-known-read
+    not-taken-requires
+    returns
+    apply-requires
+    begun-after-requires
+    same-length
+    same-length-2
+    same-length-3
+    same-length-4
+    same-length-5
+    same-length-6
+    same-length-7
+    returns-2)

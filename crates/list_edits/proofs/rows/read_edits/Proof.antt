@@ -1,0 +1,133 @@
+-- `read_edits` meets its contract. The invariant: memory holds the plan after the rows so far, and what is ahead leads to the same result; a row is no further than its first byte.
+use mathlib.Core.Bool.{false}
+use mathlib.Core.Logic.{⊎-elim}
+use mathlib.Core.Path.{refl}
+use Prim.Native.Nat.{_+_, _-_, _≤_, _<_}
+use lib.ListN.{length}
+use borrow.Author.Tests.{ltb-true, ltb-false}
+use Rattle.rule.specs.Graph.{Graph}
+use Rattle.memory.specs.Memory.{memoryOf}
+use Rattle.memory.specs.Plan.{slicesOf}
+use Rattle.memory.specs.Memory.{Ready}
+use Rattle.planner.specs.inner.Held.{Fresh}
+use Rattle.planner.proofs.Lengths.{SameLengths, same, then}
+use Rattle.list_pass.proofs.Passing.{Ahead, ahead-start, ahead-held, ahead-turn, ahead-end}
+use borrow.Author.Needs.{needs}
+use native.Mathlib.Omega.{arith}
+use Rattle.list_edits.proofs.rows.read_edits.Statement.{statement}
+use Rattle.list_edits.proofs.rows.read_edits.Tie as tie
+
+abbrev Inv-loop : tie.InvT-loop
+Inv-loop list v2 row first neighbours₀ degrees₀ waves₀ counts₀ ranks₀ trail₀ moved₀ last₀ neighbours degrees waves counts ranks trail moved last =
+    let m₀ = memoryOf (slicesOf neighbours₀ degrees₀ waves₀ counts₀ ranks₀) trail₀ moved₀ (last₀ .tally) in
+    let m = memoryOf (slicesOf neighbours degrees waves counts ranks) trail moved (last .tally) in
+    ((G : Graph) → Ready G m₀ → Fresh false G → Ahead list v2 row first G m₀ last m)
+    × SameLengths m₀ m
+    × (last .next ≤ length list + 1)
+    × (last .row ≤ last .next)
+
+abbrev μ-loop : tie.MeasureT-loop
+μ-loop list v2 row first neighbours₀ degrees₀ waves₀ counts₀ ranks₀ trail₀ moved₀ last₀ neighbours degrees waves counts ranks trail moved last =
+    length list + 1 - last .next
+
+loop-holds : tie.Need-loop-holds Inv-loop μ-loop
+loop-holds c =
+    let at1 = c .before .before .before .before .before .before .before .before in
+    (λ G h f. ahead-start _ _ _ _ G _ h f _ refl refl refl refl, same _, at1 .pre .inside, at1 .pre .later)
+
+add-edit-row : tie.Need-add-edit-row Inv-loop μ-loop
+add-edit-row c =
+    let at1 = c .before .before .before .before .before in
+    let at2 = at1 .before .before .before .before .before .before .before .before .before in
+    let w = at1 .loop in
+    let l : w .last .next < length (at2 .args .list .now) = ltb-true _ _ (c .before .if2 .taken) in
+    omega (arith, at2 .pre .few, w .inv .3)
+
+edit-row-requires : tie.Need-edit-row-requires Inv-loop μ-loop
+edit-row-requires c κs =
+    let at1 = c .before .before .before .before .before .before .before .before in
+    let at2 = at1 .before .before .before .before in
+    let at3 = at2 .before .before .before .before .before .before .before .before .before in
+    let p = at3 .pre in
+    let w = at2 .loop .inv .0 (p .held .0) (p .held .1) (p .held .2) in
+    record { held = ahead-held _ _ _ _ _ _ _ _ w (at1 .before .before .if1 .taken); inside = ltb-true _ _ (at1 .if2 .taken) }
+
+loop-less : tie.Need-loop-less Inv-loop μ-loop
+loop-less c =
+    let f = c .before .before .before .before .before .before .before .before .before .before .before .before .before .before .edit-row .ensures in
+    omega (arith, f .on, f .within)
+
+loop-again : tie.Need-loop-again Inv-loop μ-loop
+loop-again c =
+    let at1 = c .before .before .before .before .before .before .before .before .before .before .before .before .before .before in
+    let at2 = at1 .before .before .before .before .before .before .before .before .before in
+    let at3 = at2 .before .before in
+    let at4 = at3 .before .before in
+    let i = at4 .loop .inv in
+    let f = at1 .edit-row in
+    let k = f .kept .1 .1 .1 .1 in (
+      λ G h q. ahead-turn _ _ _ _ G _ _ _ (i .0 G h q) (at3 .if1 .taken) (ltb-true _ _ (at2 .if2 .taken)) _ _ (f .ensures),
+      then _ _ _ (i .1) (record {
+        neighbours = k .0;
+        degrees = k .1 .0;
+        waves = k .1 .1 .0;
+        counts = k .1 .1 .1 .0;
+        ranks = k .1 .1 .1 .1 .0;
+        trail = k .1 .1 .1 .1 .1 .0;
+        moved = k .1 .1 .1 .1 .1 .1 .0;
+      }),
+      f .ensures .within,
+      omega (arith, f .ensures .row, f .ensures .on, i .3),
+    )
+
+ended-requires : tie.Need-ended-requires Inv-loop μ-loop
+ended-requires c κs = search needs
+
+same-length : tie.Need-same-length Inv-loop μ-loop
+same-length c = search needs
+
+same-length-2 : tie.Need-same-length-2 Inv-loop μ-loop
+same-length-2 c = search needs
+
+same-length-3 : tie.Need-same-length-3 Inv-loop μ-loop
+same-length-3 c = search needs
+
+same-length-4 : tie.Need-same-length-4 Inv-loop μ-loop
+same-length-4 c = search needs
+
+same-length-5 : tie.Need-same-length-5 Inv-loop μ-loop
+same-length-5 c = search needs
+
+same-length-6 : tie.Need-same-length-6 Inv-loop μ-loop
+same-length-6 c = search needs
+
+same-length-7 : tie.Need-same-length-7 Inv-loop μ-loop
+same-length-7 c = search needs
+
+returns : tie.Need-returns Inv-loop μ-loop
+returns c =
+    record {
+      of = λ G h f. rw (c .ended .ensures) (ahead-end _ _ _ _ G _ _ _ (c .before .before .before .before .loop .inv .0 G h f)
+          (λ z. ⊎-elim (λ w. ltb-false _ _ (w .2 .left)) (λ w. absurd (w .left z)) (c .before .before .if1 .came)));
+    }
+
+pub read-edits-spec : {M : Type 1} → statement M
+read-edits-spec =
+    tie.close
+    (tie.spec
+    Inv-loop
+    μ-loop
+    loop-holds
+    add-edit-row
+    edit-row-requires
+    loop-less
+    loop-again
+    ended-requires
+    same-length
+    same-length-2
+    same-length-3
+    same-length-4
+    same-length-5
+    same-length-6
+    same-length-7
+    returns)
