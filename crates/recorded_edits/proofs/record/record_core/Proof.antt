@@ -1,5 +1,6 @@
 -- `record_core` meets its contract: refused it leaves all as it was, else it makes the edit and writes its entry.
 use borrow.Author.Needs.{needs}
+use mathlib.Core.Path.{refl}
 use native.Mathlib.Omega.{arith}
 use Rattle.journal.proofs.Recording.{record-refused, record-late, record-room, record-done}
 use Rattle.recorded_edits.proofs.record.record_core.Statement.{statement}
@@ -12,25 +13,25 @@ refuse-requires : tie.Need-refuse-requires
 refuse-requires c κs = search needs
 
 same-length : tie.Need-same-length
-same-length c = search needs
+same-length c = refl
 
 same-length-2 : tie.Need-same-length-2
-same-length-2 c = search needs
+same-length-2 c = refl
 
 same-length-3 : tie.Need-same-length-3
-same-length-3 c = search needs
+same-length-3 c = refl
 
 same-length-4 : tie.Need-same-length-4
-same-length-4 c = search needs
+same-length-4 c = refl
 
 same-length-5 : tie.Need-same-length-5
-same-length-5 c = search needs
+same-length-5 c = refl
 
 same-length-6 : tie.Need-same-length-6
-same-length-6 c = search needs
+same-length-6 c = refl
 
 same-length-7 : tie.Need-same-length-7
-same-length-7 c = search needs
+same-length-7 c = refl
 
 returns : tie.Need-returns
 returns c =
@@ -47,25 +48,25 @@ refuse-requires-2 : tie.Need-refuse-requires-2
 refuse-requires-2 c κs = search needs
 
 same-length-8 : tie.Need-same-length-8
-same-length-8 c = search needs
+same-length-8 c = search (c .before .before .before .before .before .before .before .before .before .before .before .before .before .before .before .edit-within .kept)
 
 same-length-9 : tie.Need-same-length-9
-same-length-9 c = search needs
+same-length-9 c = search (c .before .before .before .before .before .before .before .before .before .before .before .before .before .before .before .edit-within .kept)
 
 same-length-10 : tie.Need-same-length-10
-same-length-10 c = search needs
+same-length-10 c = search (c .before .before .before .before .before .before .before .before .before .before .before .before .before .before .before .edit-within .kept)
 
 same-length-11 : tie.Need-same-length-11
-same-length-11 c = search needs
+same-length-11 c = search (c .before .before .before .before .before .before .before .before .before .before .before .before .before .before .before .edit-within .kept)
 
 same-length-12 : tie.Need-same-length-12
-same-length-12 c = search needs
+same-length-12 c = search (c .before .before .before .before .before .before .before .before .before .before .before .before .before .before .before .edit-within .kept)
 
 same-length-13 : tie.Need-same-length-13
-same-length-13 c = search needs
+same-length-13 c = search (c .before .before .before .before .before .before .before .before .before .before .before .before .before .before .before .edit-within .kept)
 
 same-length-14 : tie.Need-same-length-14
-same-length-14 c = search needs
+same-length-14 c = search (c .before .before .before .before .before .before .before .before .before .before .before .before .before .before .before .edit-within .kept)
 
 returns-2 : tie.Need-returns-2
 returns-2 c =
@@ -91,25 +92,25 @@ record-entry-requires c κs =
     record-room _ _ _ _ _ _ _ checked none _ (s .next-space .ensures) made (c .before .before .if2 .left)
 
 same-length-15 : tie.Need-same-length-15
-same-length-15 c = search needs
+same-length-15 c = search (c .before .before .before .before .before .before .before .before .before .before .before .before .before .before .before .before .before .before .before .edit-within .kept)
 
 same-length-16 : tie.Need-same-length-16
-same-length-16 c = search needs
+same-length-16 c = search (c .before .before .before .before .before .before .before .before .before .before .before .before .before .before .before .before .before .before .before .edit-within .kept)
 
 same-length-17 : tie.Need-same-length-17
-same-length-17 c = search needs
+same-length-17 c = search (c .before .before .before .before .before .before .before .before .before .before .before .before .before .before .before .before .before .before .before .edit-within .kept)
 
 same-length-18 : tie.Need-same-length-18
-same-length-18 c = search needs
+same-length-18 c = search (c .before .before .before .before .before .before .before .before .before .before .before .before .before .before .before .before .before .before .before .edit-within .kept)
 
 same-length-19 : tie.Need-same-length-19
-same-length-19 c = search needs
+same-length-19 c = search (c .before .before .before .before .before .before .before .before .before .before .before .before .before .before .before .before .before .before .before .edit-within .kept)
 
 same-length-20 : tie.Need-same-length-20
-same-length-20 c = search needs
+same-length-20 c = search (c .before .before .before .before .before .before .before .before .before .before .before .before .before .before .before .before .before .before .before .edit-within .kept)
 
 same-length-21 : tie.Need-same-length-21
-same-length-21 c = search needs
+same-length-21 c = search (c .before .before .before .before .before .before .before .before .before .before .before .before .before .before .before .before .before .before .before .edit-within .kept)
 
 returns-3 : tie.Need-returns-3
 returns-3 c =
