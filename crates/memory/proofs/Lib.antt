@@ -11,7 +11,6 @@ pub mod Views
 pub mod Ascending
 pub mod Rows
 pub mod Tallies
-pub mod Cursors
 pub mod Sums
 pub mod ClashPairs
 pub mod Tested

@@ -14,10 +14,9 @@ use Rattle.rule.proofs.Booleans.{T-along}
 use Rattle.rule.proofs.Lists.{filter-cong, filter-short, filter-kept, filter-left}
 use Rattle.rule.proofs.Neighbours.{degree-length, neighbours-in, earlier-ones}
 use Rattle.rule.proofs.Order.{strict-flip, keyed-strict}
-use Rattle.memory.specs.inner.Counts.{byCells, standing, countIn, Countable, Tallied}
+use Rattle.memory.specs.inner.Counts.{byCells, standing, countIn, Countable, Tallied, grown}
 use Rattle.memory.specs.inner.View.{Ranked, Shown, Rowed}
 use Rattle.memory.specs.inner.Test.{part, countsOf}
-use Rattle.memory.specs.inner.Walk.{grown}
 use Rattle.memory.proofs.Fronts.{take-next, getD-any, in-cell}
 use Rattle.memory.proofs.Rows.{group-at, length-group}
 use Rattle.memory.proofs.Standing.{bit-yes, bit-no, standing-snoc, standing-le}

@@ -2,4 +2,3 @@
 pub mod Counts
 pub mod View
 pub mod Test
-pub mod Walk

@@ -1,7 +1,7 @@
 // The questions about lent memory: 3, 4, 5 and 7. Each function answers 0, or the number of the first no.
 use memory::Tally;
-use memory::holds_plan;
 use memory::long_enough;
+use plan_test::holds_plan;
 use rule::Bank;
 use rule::MOST_BANKS;
 use rule::wide;

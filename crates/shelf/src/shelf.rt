@@ -1,6 +1,6 @@
 // The shelf's places, and question 5 of the shelf: the planner's own test on the parts of each used place.
 use memory::Tally;
-use memory::holds_plan;
+use plan_test::holds_plan;
 use rule::COUNT_CELLS;
 use rule::ROW_CELLS;
 use rule::wide;

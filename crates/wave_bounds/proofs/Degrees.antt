@@ -15,8 +15,7 @@ use Rattle.rule.specs.Bounds.{waveBound, banksFrom}
 use Rattle.rule.proofs.Booleans.{lt-or-ge}
 use Rattle.rule.proofs.Lists.{upto-below, length-upto, filter-cong, filter-none, filter-short, count-le}
 use Rattle.rule.proofs.Theorems.{bound-counts}
-use Rattle.memory.specs.inner.Counts.{standing, Tallied}
-use Rattle.memory.specs.inner.Walk.{grown}
+use Rattle.memory.specs.inner.Counts.{standing, Tallied, grown}
 use Rattle.memory.proofs.Tallies.{one-counted}
 use Rattle.memory.proofs.Standing.{bit, bit-none, bit-yes, bit-no, kept, standing-cons, standing-le}
 use Rattle.wave_bounds.specs.inner.Degrees.{cellsAt, cellsFrom, FewEach, LookedFrom, Above}

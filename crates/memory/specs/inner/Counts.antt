@@ -4,7 +4,7 @@ use mathlib.Core.List.{List, foldr}
 use mathlib.Core.Path.{_≡_}
 use Prim.Native.Nat.{ℕ, suc, _+_, _*_, _≤_, _<_, max}
 use lib.Dec.{eqb}
-use lib.ListN.{length, getD, take, drop}
+use lib.ListN.{length, getD, set, take, drop}
 use Rattle.rule.specs.Lists.{upto, filter}
 use Rattle.rule.specs.Order.{earlierBy}
 
@@ -44,3 +44,7 @@ CountedTo ns ds rs ws row b k = Tallied row (countIn ds rs ws b (take k (drop (b
 -- the largest of the first n cells plus 1, or 0 if n is 0
 unfoldable pub mostOf : List ℕ → ℕ → ℕ
 mostOf cells n = foldr (λ (b k : ℕ). max (suc (getD cells b 0)) k) 0 (upto n)
+
+-- one more in cell k
+abbrev pub grown : List ℕ → ℕ → List ℕ
+grown cells k = set cells k (getD cells k 0 + 1)

@@ -1,0 +1,2 @@
+-- Laws for the functions' proofs: the walk over the clashes.
+pub mod Cursors
