@@ -52,6 +52,8 @@ extern "C" {
 #define WAVE_PLAN_UNUSED 65535
 #define WAVE_PLAN_TALLY_CELLS 4
 #define WAVE_PLAN_MOST_BANKS_BY_RULE 16
+#define WAVE_PLAN_MOST_COURIERS 64
+#define WAVE_PLAN_MOST_LIMIT 1024
 
 /* The cells of the result slice of each call. */
 #define WAVE_PLAN_EDIT_RESULTS 2
@@ -59,6 +61,8 @@ extern "C" {
 #define WAVE_PLAN_CLASHES_RESULTS 2
 #define WAVE_PLAN_BOUND_RESULTS 1
 #define WAVE_PLAN_BY_RULE_RESULTS 1
+#define WAVE_PLAN_CREW_RESULTS 1
+#define WAVE_PLAN_LEAST_CREW_RESULTS 1
 #define WAVE_PLAN_LIST_RESULTS 1
 #define WAVE_PLAN_SHEET_RESULTS 1
 #define WAVE_PLAN_START_RESULTS 1
@@ -106,6 +110,8 @@ extern "C" {
  *   wave_of, clashes_of           1, 2, 3, 4
  *   wave_bound                    1, 2, 3
  *   wave_by_rule                  1, 2, 3, 22, 4
+ *   crew_steps                    1, 2, 3, 24
+ *   least_crew                    1, 2, 3, 24, 25
  *   read_list                     9, 10, 1, 2; then each row in turn: 11 or 23, 18, 4, 5, 6 or 7, 8
  *   write_sheet, write_poster     1, 2, 3, 12
  *   start_journal                 1, 2, 3, 15
@@ -117,7 +123,7 @@ extern "C" {
  */
 #define WAVE_PLAN_ACCEPTED 0
 #define WAVE_PLAN_TOO_MANY_BANKS 1      /* Is the bank count at most 1024? */
-#define WAVE_PLAN_SHORT_SLICE 2         /* Is each plan, trail, moved and shelf slice that is lent long enough? Tally and result too. */
+#define WAVE_PLAN_SHORT_SLICE 2         /* Is each plan, trail, moved, steps and shelf slice that is lent long enough? Tally and result too. */
 #define WAVE_PLAN_NO_PLAN 3             /* Does the memory hold a plan, and each used place of a shelf one of as many banks? */
 #define WAVE_PLAN_NO_SUCH_BANK 4        /* Is each named bank below the bank count? */
 #define WAVE_PLAN_SAME_BANK 5           /* Are the two banks different? */
@@ -139,6 +145,8 @@ extern "C" {
 #define WAVE_PLAN_WRONG_NUMBER 21       /* (journal, each entry with a number in turn) Is it one above the last, the first being 1? */
 #define WAVE_PLAN_MANY_BANKS_BY_RULE 22 /* (wave by rule) Is the bank count at most 16? */
 #define WAVE_PLAN_D_RETIRED 23          /* (list that starts with "V 2", each further row in turn) Is it no D row? */
+#define WAVE_PLAN_CREW_SPAN 24          /* (crew steps) Are the couriers from 1 to 64? (least crew) Is the limit at most 1024? */
+#define WAVE_PLAN_NO_CREW 25            /* (least crew) Does some crew of 1 to 64 couriers end within the limit? */
 
 /* Opens a plan of `banks` banks with no clash, all waves and ranks 0, the cap 24. */
 uint16_t wave_plan_open(uint16_t *neighbours, size_t neighbours_cells, uint16_t *degrees, size_t degrees_cells,
@@ -191,6 +199,22 @@ uint16_t wave_plan_wave_by_rule(const uint16_t *neighbours, size_t neighbours_ce
                                 const uint16_t *waves, size_t waves_cells, const uint16_t *counts, size_t counts_cells,
                                 const uint16_t *ranks, size_t ranks_cells, const uint16_t *tally, size_t tally_cells,
                                 uint16_t *result, size_t result_cells, uint16_t b);
+
+/* The day as so many couriers serve it: each step serves that many of the lowest waiting banks of the present wave, or all if fewer, and
+ * the next wave starts in the step after.
+ *   steps        n cells. The step of b, from 1.
+ * result[0]: how many steps there are, 0 for a plan without banks; it is the sum over the waves of their sizes divided by the couriers,
+ * each rounded up. */
+uint16_t wave_plan_crew_steps(const uint16_t *neighbours, size_t neighbours_cells, const uint16_t *degrees, size_t degrees_cells,
+                              const uint16_t *waves, size_t waves_cells, const uint16_t *counts, size_t counts_cells,
+                              const uint16_t *ranks, size_t ranks_cells, const uint16_t *tally, size_t tally_cells,
+                              uint16_t *steps, size_t steps_cells, uint16_t *result, size_t result_cells, uint16_t couriers);
+
+/* The least crew that ends within so many steps. result[0]: its couriers, from 1 to 64; 1 for a plan without banks. */
+uint16_t wave_plan_least_crew(const uint16_t *neighbours, size_t neighbours_cells, const uint16_t *degrees, size_t degrees_cells,
+                              const uint16_t *waves, size_t waves_cells, const uint16_t *counts, size_t counts_cells,
+                              const uint16_t *ranks, size_t ranks_cells, const uint16_t *tally, size_t tally_cells,
+                              uint16_t *result, size_t result_cells, uint16_t limit);
 
 /* Reads a list: opens the plan of its N row, then sets the ranks and makes the edits of the others. A list may start with the row
  * "V 2"; its N row is then row 2, and it has no D rows. result[0]: the row that was refused, counted from 1; 0 if the list was

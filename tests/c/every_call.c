@@ -6,7 +6,7 @@
 
 #include "wave_plan.h"
 
-enum { ROW = WAVE_PLAN_ROW_CELLS, COUNT = WAVE_PLAN_COUNT_CELLS, TALLY = WAVE_PLAN_TALLY_CELLS, CAP = 3, NUMBERS = 23 };
+enum { ROW = WAVE_PLAN_ROW_CELLS, COUNT = WAVE_PLAN_COUNT_CELLS, TALLY = WAVE_PLAN_TALLY_CELLS, CAP = 3, NUMBERS = 26 };
 
 /* A plan's slices: a caller may lend them shorter than they are, by the numbers of cells. */
 typedef struct {
@@ -364,6 +364,100 @@ static void of_wave_by_rule(void) {
     GIVES(22, WAVE_BY_RULE(17)); /* 22 comes before 4 */
     p.counts[0]++;
     GIVES(3, WAVE_BY_RULE(0)); /* and after 3 */
+    gone(p);
+}
+
+#define CREW_STEPS(couriers) wave_plan_crew_steps(PLAN(p), TALLY_OF(p), steps, steps_cells, RESULT_OF(p), couriers)
+#define LEAST_CREW(limit) wave_plan_least_crew(PLAN(p), TALLY_OF(p), RESULT_OF(p), limit)
+
+/* The steps of a plan of so many banks, and that no cell of the plan is changed. */
+static void serves(Plan p, uint16_t couriers, uint16_t total, const uint16_t *wanted) {
+    size_t steps_cells = p.degrees_cells;
+    uint16_t *steps = cells(steps_cells);
+    Plan before = copy_of(p);
+    GIVES(0, CREW_STEPS(couriers));
+    IS(p.result[0], total);
+    for (size_t b = 0; b < steps_cells; b++) IS(steps[b], wanted[b]);
+    IS(as_copied(p, before), 1);
+    free(steps);
+}
+
+static void of_crew_steps(void) {
+    Plan p = memory(6, WAVE_PLAN_CREW_RESULTS);
+    GIVES(0, read_list(p, "N 6\n+ 0 1\n+ 1 2")); /* waves 1 0 1 0 0 0 */
+    const uint16_t one[] = {5, 1, 6, 2, 3, 4}, two[] = {3, 1, 3, 1, 2, 2}, three[] = {3, 1, 3, 1, 1, 2}, four[] = {2, 1, 2, 1, 1, 1};
+    serves(p, 1, 6, one);
+    serves(p, 2, 3, two);
+    serves(p, 3, 3, three);
+    serves(p, 4, 2, four);
+    serves(p, WAVE_PLAN_MOST_COURIERS, 2, four);
+    size_t steps_cells = 6;
+    uint16_t *steps = cells(7);
+    GIVES(24, CREW_STEPS(0));
+    GIVES(WAVE_PLAN_CREW_SPAN, CREW_STEPS(WAVE_PLAN_MOST_COURIERS + 1));
+    IS(p.result[0], 0);
+    GIVES(24, CREW_STEPS(256 + 2));
+    SHORT_RESULT(p, CREW_STEPS(2));
+    SHORT_TALLY(p, CREW_STEPS(2));
+    WRONG_RANKS(p, CREW_STEPS(2));
+    steps_cells = 5;
+    GIVES(2, CREW_STEPS(2));
+    IS(p.result[0], 0);
+    for (int b = 0; b < 7; b++) IS(steps[b], 7);
+    steps_cells = 7;
+    GIVES(0, CREW_STEPS(2));
+    IS(steps[5], 2);
+    IS(steps[6], 7); /* cells beyond the banks' stay */
+    p.waves[0]++;
+    GIVES(3, CREW_STEPS(2));
+    GIVES(3, CREW_STEPS(0)); /* 24 comes after 3 */
+    p.tally[0] = WAVE_PLAN_MOST_BANKS + 1;
+    GIVES(1, CREW_STEPS(0));
+    gone(p);
+    p = opened(0, WAVE_PLAN_CREW_RESULTS);
+    steps_cells = 0;
+    GIVES(0, CREW_STEPS(1));
+    IS(p.result[0], 0);
+    IS(steps[0], 3);
+    gone(p);
+    free(steps);
+}
+
+static void of_least_crew(void) {
+    Plan p = memory(6, WAVE_PLAN_LEAST_CREW_RESULTS);
+    GIVES(0, read_list(p, "N 6\n+ 0 1\n+ 1 2")); /* waves of four and of two banks */
+    static const uint16_t least[] = {0, 0, 4, 2, 2, 2, 1, 1};
+    for (uint16_t limit = 0; limit < 8; limit++) {
+        GIVES(limit < 2 ? WAVE_PLAN_NO_CREW : 0, LEAST_CREW(limit));
+        IS(p.result[0], least[limit]);
+    }
+    GIVES(0, LEAST_CREW(WAVE_PLAN_MOST_LIMIT));
+    IS(p.result[0], 1);
+    GIVES(24, LEAST_CREW(WAVE_PLAN_MOST_LIMIT + 1));
+    IS(p.result[0], 0);
+    SHORT_RESULT(p, LEAST_CREW(3));
+    SHORT_TALLY(p, LEAST_CREW(3));
+    WRONG_RANKS(p, LEAST_CREW(3));
+    p.counts[0]++;
+    GIVES(3, LEAST_CREW(0));
+    GIVES(3, LEAST_CREW(WAVE_PLAN_MOST_LIMIT + 1)); /* 24 and 25 come after 3 */
+    p.counts_cells--;
+    GIVES(2, LEAST_CREW(3));
+    p.tally[0] = WAVE_PLAN_MOST_BANKS + 1;
+    GIVES(1, LEAST_CREW(3));
+    gone(p);
+    p = opened(0, WAVE_PLAN_LEAST_CREW_RESULTS);
+    for (uint16_t limit = 0; limit <= WAVE_PLAN_MOST_LIMIT; limit++) { /* no bank: 0 steps */
+        GIVES(0, LEAST_CREW(limit));
+        IS(p.result[0], 1);
+    }
+    GIVES(24, LEAST_CREW(65535));
+    gone(p);
+    p = opened(WAVE_PLAN_MOST_BANKS, WAVE_PLAN_LEAST_CREW_RESULTS); /* one wave */
+    GIVES(0, LEAST_CREW(16));
+    IS(p.result[0], WAVE_PLAN_MOST_COURIERS);
+    GIVES(25, LEAST_CREW(15));
+    IS(p.result[0], 0);
     gone(p);
 }
 
@@ -966,6 +1060,8 @@ int main(void) {
                  {"wave_plan_clashes_of", of_clashes_of},
                  {"wave_plan_wave_bound", of_wave_bound},
                  {"wave_plan_wave_by_rule", of_wave_by_rule},
+                 {"wave_plan_crew_steps", of_crew_steps},
+                 {"wave_plan_least_crew", of_least_crew},
                  {"wave_plan_read_list", of_read_list},
                  {"wave_plan_write_sheet", of_write_sheet},
                  {"wave_plan_write_poster", of_write_poster},

@@ -15,7 +15,7 @@ use Rattle.c_reads.specs.Reads.{readAnswered, waveDone, waveCall, boundD
 
 -- a call whose only result is one number
 module _ (tally result : List ℕ) (short : ℕ) (t : Tally) (at : t ≡ tallyIn tally) (none : short ≡ 0) where
-  one-done : (numberOf valueOf : Tally → ℕ) (number value : ℕ) (result′ : List ℕ)
+  pub one-done : (numberOf valueOf : Tally → ℕ) (number value : ℕ) (result′ : List ℕ)
       → short ≡ shortNumber 1 (length tally) (length result)
       → number ≡ numberOf t
       → value ≡ valueOf t

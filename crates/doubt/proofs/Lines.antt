@@ -13,23 +13,16 @@ use Rattle.memory.specs.inner.Counts.{byCells}
 use Rattle.memory.specs.inner.View.{Held}
 use Rattle.memory.proofs.Fronts.{take-next}
 use Rattle.memory.proofs.Theorems.{held-of, shown, cells-earlier}
-use Rattle.text.specs.Numbers.{decimal}
 use Rattle.text.specs.Text.{joined}
-use Rattle.text.proofs.Decimal.{few-digits}
 use Rattle.text.proofs.Joined.{texts-append}
 use Rattle.wave_lines.specs.Lines.{letters}
 use Rattle.planner.specs.Calls.{waveOf, clashesOf}
 use Rattle.direct_rule.specs.Calls.{directNumber, ruleWaveOf}
-use Rattle.doubt.specs.Lines.{named, lettered, headText, fromText, linkText, linksText, refusedText, lineBy, lineOf}
+use Rattle.list_program.specs.Answers.{named, refusedText}
+use Rattle.list_program.proofs.Answering.{length-named}
+use Rattle.doubt.specs.Lines.{lettered, headText, fromText, linkText, linksText, lineBy, lineOf}
 
 -- how long they are
-pub number-short : (x : ℕ) → x < 65536 → length (decimal x) ≤ 5
-number-short x h = few-digits 4 x (omega arith)
-
-pub length-named : (text : List ℕ) (x : ℕ) → x < 65536 → length (named text x) ≤ length text + 5
-unfolding named
-length-named text x h = omega (arith, length-append text (decimal x), number-short x h)
-
 pub length-lettered : (text : List ℕ) (w : ℕ) → length (lettered text w) ≡ length text + 1
 unfolding lettered
 length-lettered text w = length-append text (getD letters w 0 ∷ [])
@@ -92,7 +85,7 @@ module _ (b : ℕ) (s : Slices) (t : Tally) where
   unfolding lineOf
   line-by c e = ap (λ (x : ℕ). lineBy x b s t) e
 
-  pub line-refused : (c : ℕ) → c ≡ directNumber b s t → c ≢ 0 → refusedText b c ≡ lineOf b s t
+  pub line-refused : (c : ℕ) → c ≡ directNumber b s t → c ≢ 0 → refusedText (66 ∷ 65 ∷ 78 ∷ 75 ∷ 32 ∷ []) b c ≡ lineOf b s t
   line-refused zero e n = absurd (n refl)
   line-refused (suc c) e n = unfold lineBy in line-by (suc c) e
 

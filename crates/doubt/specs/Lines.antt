@@ -8,13 +8,9 @@ use Rattle.memory.specs.declared.Tally.{Tally}
 use Rattle.memory.specs.Plan.{Slices, graphIn}
 use Rattle.planner.specs.Calls.{waveOf, clashesOf}
 use Rattle.direct_rule.specs.Calls.{directNumber, ruleWaveOf}
-use Rattle.text.specs.Numbers.{decimal}
 use Rattle.text.specs.Text.{joined}
 use Rattle.wave_lines.specs.Lines.{letters}
-
--- a text and a number
-unfoldable pub named : List ℕ → ℕ → List ℕ
-named text x = text ++ decimal x
+use Rattle.list_program.specs.Answers.{named, refusedText}
 
 -- a text and the letter of wave w
 unfoldable pub lettered : List ℕ → ℕ → List ℕ
@@ -38,14 +34,10 @@ linkText b s t v = cond (earlier (graphIn (t .banks) s) v b) (fromText v (ruleWa
 unfoldable pub linksText : ℕ → Slices → Tally → List ℕ → List ℕ
 linksText b s t vs = joined (map (linkText b s t) vs)
 
--- `BANK b REFUSED c`
-unfoldable pub refusedText : ℕ → ℕ → List ℕ
-refusedText b c = named (66 ∷ 65 ∷ 78 ∷ 75 ∷ 32 ∷ []) b ++ (named (32 ∷ 82 ∷ 69 ∷ 70 ∷ 85 ∷ 83 ∷ 69 ∷ 68 ∷ 32 ∷ []) c ++ (10 ∷ []))
-
--- by the number of the first no: both letters and the earlier neighbours, or the refusal
+-- by the number of the first no: both letters and the earlier neighbours, or `BANK b REFUSED c`
 unfoldable pub lineBy : ℕ → ℕ → Slices → Tally → List ℕ
 lineBy zero b s t = headText b (waveOf b s t) (ruleWaveOf b s t) ++ (linksText b s t (clashesOf b s t) ++ (10 ∷ []))
-lineBy (suc c) b s t = refusedText b (suc c)
+lineBy (suc c) b s t = refusedText (66 ∷ 65 ∷ 78 ∷ 75 ∷ 32 ∷ []) b (suc c)
 
 -- the line of bank b
 unfoldable pub lineOf : ℕ → Slices → Tally → List ℕ

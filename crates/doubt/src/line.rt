@@ -1,5 +1,7 @@
 // The line of a doubted bank. Each function writes at `at`, or at the front, and answers the place after what it wrote.
 use direct_rule::wave_by_rule;
+use list_program::put_named;
+use list_program::put_refused;
 use memory::Tally;
 use memory::is_earlier;
 use planner::clashes_of;
@@ -7,7 +9,6 @@ use planner::wave_of;
 use rule::Bank;
 use rule::Wave;
 use text::put_byte;
-use text::put_number;
 use text::put_text;
 use wave_lines::letter;
 ghost use Prim.Native.Nat.{_+_, _≤_, _<_};
@@ -16,19 +17,10 @@ ghost use Rattle.memory.specs.Lent.{slicesGiven, slicesBefore};
 ghost use Rattle.planner.specs.Calls.{clashesOf};
 ghost use Rattle.planner.specs.inner.Held.{PlanIn};
 ghost use Rattle.text.specs.Places.{Wrote};
-ghost use Rattle.doubt.specs.Lines.{named, lettered, headText, fromText, linkText, linksText, refusedText, lineOf};
+ghost use Rattle.doubt.specs.Lines.{lettered, headText, fromText, linkText, linksText, lineOf};
 
 // The most bytes of a line: the bank and its letters, 23 links of 13 bytes, and a line feed.
 pub const LINE_BYTES: usize = 324;
-
-// A text and a number.
-fn put_named(out: &mut [u8], at: usize, text: &[u8], x: u16) -> usize
-    requires { ⌜ at + (length (now text) + 5) ≤ length (now out) ⌝ }
-    ensures { λ r. ⌜ Wrote (named (now (text .entry)) x) at out r ⌝ }
-{
-    let next = put_text(out, at, text);
-    put_number(out, next, x)
-}
 
 // A text and a wave's letter.
 fn put_lettered(out: &mut [u8], at: usize, text: &[u8], w: Wave) -> usize
@@ -121,16 +113,6 @@ fn put_head(out: &mut [u8], b: u16, kept: Wave, read: Wave) -> usize
     put_lettered(out, second, b" READ ", read)
 }
 
-// The bank and its refusal, at the front.
-fn put_refused(out: &mut [u8], b: u16, number: u16) -> usize
-    requires { ⌜ 25 ≤ length (now out) ⌝ }
-    ensures { λ r. ⌜ Wrote (refusedText b number) 0 out r × (r ≤ 25) ⌝ }
-{
-    let first = put_named(out, 0, b"BANK ", b);
-    let second = put_named(out, first, b" REFUSED ", number);
-    put_byte(out, second, b'\n')
-}
-
 // The line of bank b, at the front.
 pub fn put_line(
     out: &mut [u8],
@@ -148,7 +130,7 @@ pub fn put_line(
 {
     let straight = wave_by_rule(neighbours, degrees, waves, counts, ranks, tally, b);
     if straight.number != 0 {
-        return put_refused(out, b.0, straight.number);
+        return put_refused(out, 0, b"BANK ", b.0, straight.number);
     }
     let kept = wave_of(neighbours, degrees, waves, counts, ranks, tally, b);
     let links = put_head(out, b.0, kept.wave, straight.wave);

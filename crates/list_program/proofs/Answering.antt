@@ -1,18 +1,27 @@
 -- The refusal's text, and the answer to a list by what its reading left.
 use mathlib.Core.List.{List, [], _∷_, _++_}
 use mathlib.Core.Path.{_≡_, refl, sym, ap, ap₂, _∙_}
-use Prim.Native.Nat.{ℕ, zero, suc, _+_, _≤_}
+use Prim.Native.Nat.{ℕ, zero, suc, _+_, _≤_, _<_}
 use native.Mathlib.Omega.{arith}
 use lib.ListN.{length, length-append}
 use Rattle.rule.specs.Graph.{Graph}
 use Rattle.memory.specs.Cells.{over}
 use Rattle.text.specs.Numbers.{decimal}
 use Rattle.text.specs.Places.{Puts}
+use Rattle.text.proofs.Decimal.{few-digits}
 use Rattle.text.proofs.Putting.{puts-three, put-front}
 use Rattle.list_pass.specs.Pass.{ListResult, readList}
 use Rattle.wave_lines.specs.Calls.{TextResult, writeText}
 use Rattle.wave_lines.proofs.Writing.{written-within}
-use Rattle.list_program.specs.Answers.{blank, refusalText, answerResult, ofText, answerBy, answerOf}
+use Rattle.list_program.specs.Answers.{blank, refusalText, named, answerResult, ofText, answerBy, answerOf}
+
+-- how long a number after a text is
+pub number-short : (x : ℕ) → x < 65536 → length (decimal x) ≤ 5
+number-short x h = few-digits 4 x (omega arith)
+
+pub length-named : (text : List ℕ) (x : ℕ) → x < 65536 → length (named text x) ≤ length text + 5
+unfolding named
+length-named text x h = omega (arith, length-append text (decimal x), number-short x h)
 
 pub length-refusal : (c r : ℕ) → length (refusalText c r) ≡ 8 + (length (decimal c) + (5 + (length (decimal r) + 1)))
 unfolding refusalText

@@ -33,6 +33,14 @@ unfoldable pub refusalText : ℕ → ℕ → List ℕ
 refusalText c r =
     (82 ∷ 69 ∷ 70 ∷ 85 ∷ 83 ∷ 69 ∷ 68 ∷ 32 ∷ []) ++ (decimal c ++ ((32 ∷ 82 ∷ 79 ∷ 87 ∷ 32 ∷ []) ++ (decimal r ++ (10 ∷ []))))
 
+-- a text and a number
+unfoldable pub named : List ℕ → ℕ → List ℕ
+named text x = text ++ decimal x
+
+-- `.. x REFUSED c`: a call that was refused, by a word and a number
+unfoldable pub refusedText : List ℕ → ℕ → ℕ → List ℕ
+refusedText word x c = named word x ++ (named (32 ∷ 82 ∷ 69 ∷ 70 ∷ 85 ∷ 83 ∷ 69 ∷ 68 ∷ 32 ∷ []) c ++ (10 ∷ []))
+
 -- what is written, and its length
 pub record AnswerResult : Type 0 where
   pub length : ℕ

@@ -11,7 +11,8 @@ use Rattle.memory.specs.inner.View.{Held}
 use Rattle.memory.proofs.Theorems.{held-of}
 use Rattle.planner.specs.Calls.{planNumber}
 use Rattle.wave_bounds.specs.Calls.{boundBy, boundOf}
-use Rattle.wave_bounds.specs.inner.Degrees.{cellsFrom, FewEach, Above}
+use Rattle.cell_counts.specs.inner.Cells.{FewEach}
+use Rattle.wave_bounds.specs.inner.Degrees.{cellsFrom, Above}
 use Rattle.wave_bounds.proofs.Degrees.{bound-is}
 
 module _ {G : Graph} {s : Slices} {t : Tally} (plan : PlanOf G s t) where

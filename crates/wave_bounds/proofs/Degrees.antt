@@ -4,39 +4,21 @@ use mathlib.Core.List.{List, [], _∷_}
 use mathlib.Core.Logic.{inl, inr}
 use mathlib.Core.Path.{_≡_, refl, ap, _∙_}
 use native.Mathlib.Decide.{ℕ-discrete}
-use native.Mathlib.Numerals.{add-one}
 use native.Mathlib.Omega.{arith}
 use Prim.Native.Nat.{ℕ, suc, _+_, _-_, _≤_, _<_}
 use lib.Dec.{T, eqb, leb, leb→le, le→leb}
-use lib.ListN.{length, getD, length-replicate, getD-replicate, replicate}
+use lib.ListN.{length, getD}
 use Rattle.rule.specs.Lists.{upto, filter}
 use Rattle.rule.specs.Graph.{Graph, degree}
 use Rattle.rule.specs.Bounds.{waveBound, banksFrom}
 use Rattle.rule.proofs.Booleans.{lt-or-ge}
 use Rattle.rule.proofs.Lists.{upto-below, length-upto, filter-cong, filter-none, filter-short, count-le}
 use Rattle.rule.proofs.Theorems.{bound-counts}
-use Rattle.memory.specs.inner.Counts.{standing, Tallied, grown}
-use Rattle.memory.proofs.Tallies.{one-counted}
-use Rattle.memory.proofs.Standing.{bit, bit-none, bit-yes, bit-no, kept, standing-cons, standing-le}
-use Rattle.wave_bounds.specs.inner.Degrees.{cellsAt, cellsFrom, FewEach, LookedFrom, Above}
-
--- 24 cells of 0 count no bank
-pub none-counted : (ds : List ℕ) → Tallied (replicate 24 0) (cellsAt ds 0)
-unfolding standing filter upto
-none-counted ds = record { long = length-replicate {A = ℕ} 24 0; counts = λ c h. getD-replicate {A = ℕ} 24 c 0 0 h }
-
--- one more bank is counted
-pub next-counted : (ds : List ℕ) (i : ℕ) {row : List ℕ} → Tallied row (cellsAt ds i) → {d : ℕ} → d ≡ getD ds i 0 → d < 24 → Tallied (grown row d) (cellsAt ds (i + 1))
-unfolding upto
-next-counted ds i t e l = rw (add-one i) (one-counted (λ b. getD ds b 0) (upto i) t i e l)
-
--- what is counted fits: a degree its 24 cells, and a count a cell
-pub degree-small : {ds : List ℕ} {n i d : ℕ} → FewEach ds n → i < n → d ≡ getD ds i 0 → d < 24
-degree-small {i = i} few l e = omega (arith, few .small i l)
-
-pub count-small : {ds row : List ℕ} {n i d : ℕ} → FewEach ds n → i ≤ n → Tallied row (cellsAt ds i) → d < 24 → getD row d 0 ≤ 1024
-count-small {ds} {row} {n} {i} {d} few l t small =
-    omega (arith, few .most, t .counts d small, standing-le (λ b. getD ds b 0) d (upto i), length-upto i)
+use Rattle.memory.specs.inner.Counts.{standing, Tallied}
+use Rattle.memory.proofs.Standing.{bit, bit-none, bit-yes, bit-no, kept, standing-cons}
+use Rattle.cell_counts.specs.inner.Cells.{cellsAt, FewEach}
+use Rattle.cell_counts.proofs.Counting.{count-small}
+use Rattle.wave_bounds.specs.inner.Degrees.{cellsFrom, LookedFrom, Above}
 
 -- d or more: suc d or more, or d
 bit-some : (t : Bool) → T t → bit t ≡ 1

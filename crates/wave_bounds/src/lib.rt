@@ -1,14 +1,15 @@
 // How many waves a plan has at most, from its degrees alone.
+use cell_counts::count_cells;
 use memory::Tally;
 use planner::check_plan;
 use rule::ROW_CELLS;
 use rule::wide;
 ghost use mathlib.Core.Path.{_≡_};
 ghost use Rattle.memory.specs.Lent.{slicesBefore};
-ghost use Rattle.memory.specs.inner.Counts.{Tallied};
+ghost use Rattle.cell_counts.specs.inner.Cells.{FewEach};
 ghost use Rattle.planner.specs.Calls.{planNumber};
 ghost use Rattle.wave_bounds.specs.Calls.{boundOf};
-ghost use Rattle.wave_bounds.specs.inner.Degrees.{cellsAt, cellsFrom, FewEach, Above};
+ghost use Rattle.wave_bounds.specs.inner.Degrees.{cellsFrom, Above};
 
 // The answer of wave_bound.
 pub struct Bound {
@@ -19,29 +20,13 @@ pub struct Bound {
 // The degrees that a bank can have: 0, and one for each cell of its row.
 const DEGREES: usize = ROW_CELLS + 1;
 
-// How many banks have each degree.
-fn count_degrees(degrees: &[u16], banks: u16) -> [u16; DEGREES]
-    requires { ⌜ FewEach (now degrees) banks ⌝ }
-    ensures { λ r. ⌜ Tallied r (cellsAt (now (degrees .entry)) banks) ⌝ }
-{
-    let n = wide(banks);
-    let mut cells = [0u16; DEGREES];
-    let mut i = 0;
-    while i < n {
-        let d = wide(degrees[i]);
-        cells[d] = cells[d] + 1;
-        i += 1;
-    }
-    cells
-}
-
 // The largest over i of the smaller of i and one plus the degree of the i-th bank, the highest degree first: one plus the
 // highest degree that so many banks have or pass. Banks of the same degree need no order.
 fn bound_by_degrees(degrees: &[u16], banks: u16) -> u16
     requires { ⌜ FewEach (now degrees) banks ⌝ }
     ensures { λ r. ⌜ Above (cellsFrom (now (degrees .entry)) banks) r ⌝ }
 {
-    let cells = count_degrees(degrees, banks);
+    let cells = count_cells(degrees, banks);
     let mut high: u16 = 0;
     let mut seen = 0;
     while seen < DEGREES {

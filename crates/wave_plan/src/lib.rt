@@ -1,5 +1,6 @@
 // The C library: the names and parameters of each call, as `include/wave_plan.h` declares them. What a call does is in `c_reads` and `c_calls`, but for
 // opening a shelf, which has neither tally nor results: in `checkpoints`.
+mod crew;
 mod editing;
 mod plan;
 mod recording;
@@ -7,6 +8,8 @@ mod shelves;
 mod sources;
 mod texts;
 
+pub use crew::wave_plan_crew_steps;
+pub use crew::wave_plan_least_crew;
 pub use editing::wave_plan_add;
 pub use editing::wave_plan_set_cap;
 pub use editing::wave_plan_strike;

@@ -14,10 +14,12 @@
 //! - `journal`: a journal's fields, and the calls that start, record and replay.
 //! - `shelf`: three places for kept plans, and the calls that open it, keep and come back.
 //! - `sheet`, `poster`: their texts, the calls that write them, and the outputs of the programs.
+//! - `crew`: the day as a crew serves it, the calls on it, and the output of the program.
 //! - `doubt`: the output of the program.
 //! - `random`, `ranks`, `lists`, `journals`: inputs for the tests.
 
 pub mod calls;
+pub mod crew;
 pub mod doubt;
 pub mod graph;
 pub mod journal;

@@ -8,6 +8,12 @@ pub const MAX_BANKS: usize = 1024;
 /// The most banks of a plan whose waves are read straight off the rule.
 pub const MAX_BANKS_BY_RULE: usize = 16;
 
+/// The most couriers of a crew.
+pub const MAX_COURIERS: usize = 64;
+
+/// The most steps that a crew may be asked to end within.
+pub const MAX_LIMIT: usize = 1024;
+
 /// The most clashes of a bank, and the length of its row of neighbours.
 pub const MAX_DEGREE: usize = 23;
 

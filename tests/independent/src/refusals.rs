@@ -24,6 +24,8 @@ pub const CAP_PASSED: u16 = 20;
 pub const WRONG_NUMBER: u16 = 21;
 pub const MANY_BANKS_BY_RULE: u16 = 22;
 pub const D_RETIRED: u16 = 23;
+pub const CREW_OUT_OF_SPAN: u16 = 24;
+pub const NO_CREW: u16 = 25;
 
 /// A question: the given number if the answer is no.
 pub fn ask(yes: bool, number: u16) -> Result<(), u16> {

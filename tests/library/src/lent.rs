@@ -85,6 +85,19 @@ impl Lent<'_> {
             self.neighbours, self.degrees, self.waves, self.counts, self.ranks, self.tally, self.result; b))
     }
 
+    /// The step of each bank with so many couriers, in its cell. Result: how many steps there are.
+    pub fn crew_steps(&mut self, steps: &mut [u16], couriers: u16) -> u16 {
+        call!(wave_plan_crew_steps(
+            self.neighbours, self.degrees, self.waves, self.counts, self.ranks, self.tally, steps,
+            self.result; couriers))
+    }
+
+    /// The least crew that ends within so many steps: the result.
+    pub fn least_crew(&mut self, limit: u16) -> u16 {
+        call!(wave_plan_least_crew(
+            self.neighbours, self.degrees, self.waves, self.counts, self.ranks, self.tally, self.result; limit))
+    }
+
     /// Read a list. Result: the row of a refusal.
     pub fn read_list(&mut self, list: &[u8]) -> u16 {
         call!(wave_plan_read_list(

@@ -26,6 +26,13 @@ pub struct Edit {
     pub moved: Vec<Bank>,
 }
 
+/// A day as a crew serves it: the step of each bank, from 1, and how many steps there are.
+#[derive(Clone, Debug, PartialEq, Eq)]
+pub struct Day {
+    pub steps: Vec<u16>,
+    pub total: u16,
+}
+
 /// The most banks of a plan.
 pub(crate) const MAX_BANKS: u16 = 1024;
 
@@ -177,6 +184,20 @@ impl Plan {
     pub fn wave_by_rule(&mut self, b: Bank) -> Result<Wave, Refused> {
         answer(self.lent().wave_by_rule(b.0))?;
         Ok(Wave(self.result[0]))
+    }
+
+    /// The day as so many couriers, from 1 to 64, serve it.
+    pub fn crew_steps(&mut self, couriers: u16) -> Result<Day, Refused> {
+        let mut steps = vec![0; usize::from(self.tally[0])];
+        answer(self.lent().crew_steps(&mut steps, couriers))?;
+        let total = self.result[0];
+        Ok(Day { steps, total })
+    }
+
+    /// The least crew, from 1 to 64, that ends within so many steps.
+    pub fn least_crew(&mut self, limit: u16) -> Result<u16, Refused> {
+        answer(self.lent().least_crew(limit))?;
+        Ok(self.result[0])
     }
 
     /// The ranks by bank number, as the K rows of its list or the K fields of its journal set them.

@@ -152,6 +152,44 @@ extern "C" {
         b: u16,
     ) -> u16;
 
+    pub fn wave_plan_crew_steps(
+        neighbours: *const u16,
+        neighbours_length: usize,
+        degrees: *const u16,
+        degrees_length: usize,
+        waves: *const u16,
+        waves_length: usize,
+        counts: *const u16,
+        counts_length: usize,
+        ranks: *const u16,
+        ranks_length: usize,
+        tally: *const u16,
+        tally_length: usize,
+        steps: *mut u16,
+        steps_length: usize,
+        result: *mut u16,
+        result_length: usize,
+        couriers: u16,
+    ) -> u16;
+
+    pub fn wave_plan_least_crew(
+        neighbours: *const u16,
+        neighbours_length: usize,
+        degrees: *const u16,
+        degrees_length: usize,
+        waves: *const u16,
+        waves_length: usize,
+        counts: *const u16,
+        counts_length: usize,
+        ranks: *const u16,
+        ranks_length: usize,
+        tally: *const u16,
+        tally_length: usize,
+        result: *mut u16,
+        result_length: usize,
+        limit: u16,
+    ) -> u16;
+
     pub fn wave_plan_read_list(
         list: *const u8,
         list_length: usize,

@@ -1,4 +1,4 @@
-//! Runs the programs *sheet*, *poster* and *doubt* on a list and judges what they print.
+//! Runs the programs *sheet*, *poster*, *doubt* and *crew* on a list and judges what they print.
 //!
 //! - `run`: starts a program.
 //! - `read_back`: reads the waves and the foot off a printed sheet or poster and holds them against
@@ -7,6 +7,7 @@
 pub mod read_back;
 pub mod run;
 
+use independent::crew::{self, Asked};
 use independent::{doubt, poster, sheet};
 
 /// The program *sheet* prints for this list what the model does; a sheet also follows the rule and adds up.
@@ -33,6 +34,16 @@ pub fn doubt_agrees_with_model(list: &[u8], banks: &[u16]) {
     let arguments: Vec<&str> = arguments.iter().map(String::as_str).collect();
     let told = run::doubt_program(list, &arguments);
     same(list, &told.output, &doubt::program_output(list, banks));
+    assert!(told.errors.is_empty());
+}
+
+/// The program *crew* prints for this list, and so many couriers or steps, what the model does.
+pub fn crew_agrees_with_model(list: &[u8], asked: Asked) {
+    let told = match asked {
+        Asked::Couriers(couriers) => run::crew_program(list, &[&couriers.to_string()]),
+        Asked::Within(limit) => run::crew_program(list, &["within", &limit.to_string()]),
+    };
+    same(list, &told.output, &crew::program_output(list, asked));
     assert!(told.errors.is_empty());
 }
 

@@ -30,6 +30,11 @@ pub fn doubt_program(list: &[u8], arguments: &[&str]) -> Told {
     told(&path("DOUBT_PROGRAM", "doubt"), list, arguments)
 }
 
+/// What the program *crew* tells for a list and arguments.
+pub fn crew_program(list: &[u8], arguments: &[&str]) -> Told {
+    told(&path("CREW_PROGRAM", "crew"), list, arguments)
+}
+
 /// What a program writes to standard output and to standard error.
 pub struct Told {
     pub output: Vec<u8>,

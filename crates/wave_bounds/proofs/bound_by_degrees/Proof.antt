@@ -13,8 +13,8 @@ Inv-loop degrees banks cells high₀ seen₀ high seen = (seen ≤ 24) × Looked
 abbrev μ-loop : tie.MeasureT-loop
 μ-loop degrees banks cells high₀ seen₀ high seen = 24 - seen
 
-count-degrees-requires : tie.Need-count-degrees-requires Inv-loop μ-loop
-count-degrees-requires c κs = search needs
+count-cells-requires : tie.Need-count-cells-requires Inv-loop μ-loop
+count-cells-requires c κs = search needs
 
 loop-holds : tie.Need-loop-holds Inv-loop μ-loop
 loop-holds c = (search needs, none-looked _ _ (c .before .before .pre))
@@ -32,7 +32,7 @@ add-high : tie.Need-add-high Inv-loop μ-loop
 add-high c =
     let loop = c .before in
     let count = loop .before in
-    record { fits = sum-fits _ (count .before .before .pre) (loop .loop .inv .1) (count .count-degrees .ensures) _ (omega arith) }
+    record { fits = sum-fits _ (count .before .before .pre) (loop .loop .inv .1) (count .count-cells .ensures) _ (omega arith) }
 
 add-most : tie.Need-add-most Inv-loop μ-loop
 add-most c = search needs
@@ -47,7 +47,7 @@ returns : tie.Need-returns Inv-loop μ-loop
 returns c =
     let loop = c .before .before .before in
     let count = loop .before in
-    found _ _ (loop .loop .inv .1) (omega arith) (count .count-degrees .ensures) (omega (arith, c .before .wide .ensures, c .if1 .taken))
+    found _ _ (loop .loop .inv .1) (omega arith) (count .count-cells .ensures) (omega (arith, c .before .wide .ensures, c .if1 .taken))
 
 add-seen : tie.Need-add-seen Inv-loop μ-loop
 add-seen c = search needs
@@ -59,7 +59,7 @@ loop-again : tie.Need-loop-again Inv-loop μ-loop
 loop-again c =
     let loop = c .before .before .before in
     let count = loop .before in
-    (search needs, passed _ _ (loop .loop .inv .1) (omega arith) (count .count-degrees .ensures) (omega (arith, c .before .wide .ensures, c .if1 .left)))
+    (search needs, passed _ _ (loop .loop .inv .1) (omega arith) (count .count-cells .ensures) (omega (arith, c .before .wide .ensures, c .if1 .left)))
 
 returns-2 : tie.Need-returns-2 Inv-loop μ-loop
 returns-2 c = none-found _ (c .before .loop .inv .1) (omega arith)
@@ -70,7 +70,7 @@ bound-by-degrees-spec =
     (tie.spec
     Inv-loop
     μ-loop
-    count-degrees-requires
+    count-cells-requires
     loop-holds
     sub-d
     mul-high

@@ -6,22 +6,10 @@ use Prim.Native.Nat.{ℕ, _≤_, _<_}
 use lib.Dec.{leb}
 use lib.ListN.{length, getD}
 use Rattle.rule.specs.Lists.{upto, filter}
-use Rattle.memory.specs.inner.Counts.{standing}
-use Rattle.memory.specs.inner.Test.{Small}
 
--- how many of the first n cells hold d
-abbrev pub cellsAt : List ℕ → ℕ → ℕ → ℕ
-cellsAt cells n d = standing (λ b. getD cells b 0) d (upto n)
-
--- how many of them hold d or more
+-- how many of the first n cells hold d or more
 unfoldable pub cellsFrom : List ℕ → ℕ → ℕ → ℕ
 cellsFrom cells n d = length (filter (λ b. leb d (getD cells b 0)) (upto n))
-
--- the degrees of n banks: 23 at most
-pub record FewEach (cells : List ℕ) (n : ℕ) : Type 0 where
-  pub most : n ≤ 1024
-  pub long : n ≤ length cells
-  pub small : Small cells n
 
 -- the degrees from d on are looked at: `high` banks have one of them, and none is below the number of banks that have it or more
 pub record LookedFrom (many : ℕ → ℕ) (d high : ℕ) : Type 0 where

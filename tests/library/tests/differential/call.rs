@@ -12,7 +12,8 @@ use library_tests::open_shelf;
 use std::fmt;
 
 /// A call with its arguments; a sheet's and a poster's is the length of its output, and a journal is the
-/// slice that is lent, which may be longer than the journal. Keeping and coming back have a name.
+/// slice that is lent, which may be longer than the journal. Crew steps has the cells that are lent for the
+/// steps. Keeping and coming back have a name.
 #[derive(Clone)]
 pub enum Call {
     Open(u16),
@@ -23,6 +24,8 @@ pub enum Call {
     ClashesOf(u16),
     WaveBound,
     WaveByRule(u16),
+    CrewSteps(u16, Vec<u16>),
+    LeastCrew(u16),
     ReadList(Vec<u8>),
     WriteSheet(usize),
     WritePoster(usize),
@@ -46,6 +49,10 @@ impl fmt::Display for Call {
             Call::ClashesOf(b) => write!(f, "clashes of {b}"),
             Call::WaveBound => write!(f, "wave bound"),
             Call::WaveByRule(b) => write!(f, "wave of {b} by the rule"),
+            Call::CrewSteps(couriers, steps) => {
+                write!(f, "steps of {couriers} couriers in {} cells", steps.len())
+            }
+            Call::LeastCrew(limit) => write!(f, "least crew within {limit}"),
             Call::ReadList(list) => {
                 let front = &list[..list.len().min(80)];
                 write!(f, "list of {} bytes, {}", list.len(), front.escape_ascii())
@@ -68,12 +75,13 @@ impl fmt::Display for Call {
     }
 }
 
-/// The answer to a call: the number, the cells of the result slice, and the bytes of the output or
-/// the journal afterwards.
+/// The answer to a call: the number, the cells of the result slice, the bytes of the output or the
+/// journal afterwards, and the cells of the steps.
 pub struct Answer {
     pub number: u16,
     pub results: Vec<usize>,
     pub output: Vec<u8>,
+    pub steps: Vec<u16>,
 }
 
 impl Call {
@@ -88,8 +96,17 @@ impl Call {
         }
     }
 
+    /// The cells lent for the steps.
+    pub fn steps(&self) -> Vec<u16> {
+        match self {
+            Call::CrewSteps(_, steps) => steps.clone(),
+            _ => Vec::new(),
+        }
+    }
+
     /// Makes the call on the model.
     pub fn on_model(&self, model: &mut Memory, shelf: &mut [u16], mut output: Vec<u8>) -> Answer {
+        let mut steps = self.steps();
         let (number, results) = match self {
             Call::Open(n) => (model.open(*n), vec![]),
             Call::Add(a, b) => {
@@ -118,6 +135,14 @@ impl Call {
             Call::WaveByRule(b) => {
                 let answer = model.wave_by_rule(*b);
                 (answer.number, vec![usize::from(answer.wave)])
+            }
+            Call::CrewSteps(couriers, _) => {
+                let answer = model.crew_steps(*couriers, &mut steps);
+                (answer.number, vec![answer.total])
+            }
+            Call::LeastCrew(limit) => {
+                let answer = model.least_crew(*limit);
+                (answer.number, vec![answer.couriers])
             }
             Call::ReadList(list) => {
                 let answer = model.read_list(list);
@@ -155,11 +180,12 @@ impl Call {
             number,
             results,
             output,
+            steps,
         }
     }
 
     /// Makes the call on the library.
-    pub fn on_library(&self, slices: &mut Slices, output: &mut [u8]) -> u16 {
+    pub fn on_library(&self, slices: &mut Slices, output: &mut [u8], steps: &mut [u16]) -> u16 {
         let (mut lent, shelf) = slices.lent();
         match self {
             Call::Open(n) => lent.open(*n),
@@ -170,6 +196,8 @@ impl Call {
             Call::ClashesOf(b) => lent.clashes_of(*b),
             Call::WaveBound => lent.wave_bound(),
             Call::WaveByRule(b) => lent.wave_by_rule(*b),
+            Call::CrewSteps(couriers, _) => lent.crew_steps(steps, *couriers),
+            Call::LeastCrew(limit) => lent.least_crew(*limit),
             Call::ReadList(list) => lent.read_list(list),
             Call::WriteSheet(_) => lent.write_sheet(output),
             Call::WritePoster(_) => lent.write_poster(output),

@@ -11,7 +11,7 @@ use independent::random::Random;
 use independent::reach::Edit;
 
 /// How many calls got each number.
-type Numbers = [usize; 23];
+type Numbers = [usize; 26];
 
 #[test]
 fn calls_on_damaged_plans() {
@@ -64,6 +64,8 @@ fn each_damage_is_seen_by_each_call() {
                 Call::ClashesOf(0),
                 Call::WaveBound,
                 Call::WaveByRule(0),
+                Call::CrewSteps(2, vec![7; n]),
+                Call::LeastCrew(n as u16),
                 Call::WriteSheet(5000),
                 Call::StartJournal(vec![0; 4000]),
                 Call::Record(any_entry(0, 1), any_journal(&memory), 5),
@@ -167,7 +169,7 @@ fn any_call(random: &mut Random, memory: &Memory) -> Call {
         _ => random.below(n.max(1)) as u16,
     };
     let (a, b) = (any(random), any(random));
-    match random.below(39) {
+    match random.below(42) {
         0 => Call::Open(a),
         1 => Call::ReadList(any_list(random, a)),
         2..=9 => Call::Add(a, b),
@@ -183,6 +185,12 @@ fn any_call(random: &mut Random, memory: &Memory) -> Call {
         28 | 29 => Call::Record(any_entry(a, b), any_journal(memory), 5),
         30..=32 => Call::SetCap(random.below(27) as u16),
         33 | 34 => Call::WaveByRule(a),
+        35 | 36 => {
+            let cells = n.min(1024) + random.below(3);
+            let cells = cells - random.below(2).min(cells);
+            Call::CrewSteps(random.below(67) as u16, vec![b; cells])
+        }
+        37 => Call::LeastCrew(*random.pick(&[0, 1, a, b, 1024, 1025])),
         _ => {
             let enough = sheet_length(memory) + 2;
             let any = random.below(enough);

@@ -251,6 +251,8 @@ fn question(random: &mut Random, pair: &mut Pair) {
     let b = random.below(n + 2) as u16;
     pair.call(&Call::WaveBound);
     pair.call(&Call::WaveByRule(b));
+    pair.call(&Call::CrewSteps(random.below(66) as u16, vec![b; n]));
+    pair.call(&Call::LeastCrew(random.below(n + 2) as u16));
     let call = match random.below(3) {
         0 => Call::WaveOf(b),
         1 => Call::ClashesOf(b),

@@ -8,6 +8,7 @@
 //! - `caps`: edits at the waves that they need and one below; the caps that can be set.
 //! - `bounds`: how many waves at most.
 //! - `by_rule`: waves read straight off the rule.
+//! - `crews`: each bank's step with so many couriers, and the least crew.
 //! - `damage`, `damaged`: memory that holds no plan or is too short, and the calls on it.
 //! - `lists`, `sheets`, `posters`: reading lists, writing sheets and posters.
 //! - `journals`, `replays`: starting journals and recording edits; replaying journals.
@@ -23,6 +24,7 @@ mod bounds;
 mod by_rule;
 mod call;
 mod caps;
+mod crews;
 mod damage;
 mod damaged;
 mod edits;

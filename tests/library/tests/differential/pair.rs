@@ -40,7 +40,8 @@ impl Pair {
         let before = self.slices.clone();
         let lent = call.output(&mut self.random);
         let mut output = Guarded::new(&lent, 0xC5);
-        let number = call.on_library(&mut self.slices, output.lend());
+        let mut steps = Guarded::new(&call.steps(), 0x5AC3);
+        let number = call.on_library(&mut self.slices, output.lend(), steps.lend());
         let wanted = call.on_model(&mut self.model, &mut self.shelf, lent.clone());
         let about = |what: &str| {
             let n = self.model.tally.banks;
@@ -49,10 +50,13 @@ impl Pair {
         assert_eq!(number, wanted.number, "{}", about("number"));
         assert_same(output.content(), &wanted.output, &|| about("output"));
         assert!(output.guards_stand(), "{}", about("guards of the output"));
+        assert_same(steps.content(), &wanted.steps, &|| about("steps"));
+        assert!(steps.guards_stand(), "{}", about("guards of the steps"));
         self.compare(&wanted.results, &before, &about);
         if wanted.changes_nothing(call) {
             self.nothing_changed(&before, &about);
             assert_same(output.content(), &lent, &|| about("output"));
+            assert_same(steps.content(), &call.steps(), &|| about("steps"));
         }
         wanted
     }

@@ -44,6 +44,12 @@ fn short_tally_or_result() {
         (Call::WaveBound, 1),
         (Call::WaveByRule(1), 1),
         (Call::WaveByRule(9), 1),
+        (Call::CrewSteps(2, vec![7; 5]), 1),
+        (Call::CrewSteps(65, vec![7; 4]), 1),
+        (Call::CrewSteps(1, vec![7; 3]), 1),
+        (Call::LeastCrew(4), 1),
+        (Call::LeastCrew(1), 1),
+        (Call::LeastCrew(1025), 1),
         (Call::ReadList(b"N 3\n+ 0 1".to_vec()), 1),
         (Call::ReadList(b"N 3\n+ 0".to_vec()), 1),
         (Call::ReadList(b"".to_vec()), 1),
@@ -99,6 +105,10 @@ fn ranks_a_cell_short() {
             (Call::ClashesOf(0), 0),
             (Call::WaveBound, 0),
             (Call::WaveByRule(0), if n > 16 { 22 } else { 0 }),
+            (Call::CrewSteps(3, vec![7; n]), 0),
+            (Call::CrewSteps(0, vec![7; n]), 24),
+            (Call::LeastCrew(1024), 0),
+            (Call::LeastCrew(0), 25),
             (Call::ReadList(format!("N {n}").into_bytes()), 0),
             (Call::WriteSheet(5000), 0),
             (Call::WritePoster(8200), 0),
@@ -131,7 +141,8 @@ fn refused(memory: &Memory, shelf: &[u16], call: &Call, tally: usize, result: us
     let lent = call.output(&mut Random::new(96));
     let mut output = Guarded::new(&lent, b'!');
     let about = || format!("{call}, tally of {tally} cells, result of {result}");
-    let number = call.on_library(&mut slices, output.lend());
+    let mut steps = Guarded::new(&call.steps(), 0x5AC3);
+    let number = call.on_library(&mut slices, output.lend(), steps.lend());
     assert_eq!(number, 2, "{}", about());
     for ((name, slice), (_, old)) in slices.named().into_iter().zip(before.named()) {
         assert_same(slice.content(), old.content(), &|| {
@@ -141,4 +152,6 @@ fn refused(memory: &Memory, shelf: &[u16], call: &Call, tally: usize, result: us
     }
     let untouched = output.content() == lent;
     assert!(untouched && output.guards_stand(), "{}: output", about());
+    let untouched = steps.content() == call.steps();
+    assert!(untouched && steps.guards_stand(), "{}: steps", about());
 }

@@ -3,8 +3,10 @@ use borrow.Author.Needs.{needs}
 use native.Mathlib.Omega.{arith}
 use mathlib.Core.List.{[], _∷_}
 use Rattle.text.proofs.Putting.{puts-then}
-use Rattle.doubt.specs.Lines.{named, lettered, fromText}
-use Rattle.doubt.proofs.Lines.{length-named, length-lettered}
+use Rattle.list_program.specs.Answers.{named}
+use Rattle.list_program.proofs.Answering.{length-named}
+use Rattle.doubt.specs.Lines.{lettered, fromText}
+use Rattle.doubt.proofs.Lines.{length-lettered}
 use Rattle.doubt.proofs.line.put_from.Statement.{statement}
 use Rattle.doubt.proofs.line.put_from.Tie as tie
 

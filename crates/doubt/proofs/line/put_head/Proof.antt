@@ -3,8 +3,10 @@ use borrow.Author.Needs.{needs}
 use native.Mathlib.Omega.{arith}
 use mathlib.Core.List.{[], _∷_}
 use Rattle.text.proofs.Putting.{puts-three}
-use Rattle.doubt.specs.Lines.{named, lettered, headText}
-use Rattle.doubt.proofs.Lines.{length-named, length-lettered}
+use Rattle.list_program.specs.Answers.{named}
+use Rattle.list_program.proofs.Answering.{length-named}
+use Rattle.doubt.specs.Lines.{lettered, headText}
+use Rattle.doubt.proofs.Lines.{length-lettered}
 use Rattle.doubt.proofs.line.put_head.Statement.{statement}
 use Rattle.doubt.proofs.line.put_head.Tie as tie
 

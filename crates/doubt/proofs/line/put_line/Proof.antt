@@ -13,6 +13,9 @@ use Rattle.doubt.proofs.line.put_line.Tie as tie
 wave-by-rule-requires : tie.Need-wave-by-rule-requires
 wave-by-rule-requires c κs = search needs
 
+slice-aggregate-put-refused : tie.Need-slice-aggregate-put-refused
+slice-aggregate-put-refused c = search needs
+
 put-refused-requires : tie.Need-put-refused-requires
 put-refused-requires c κs = search needs
 
@@ -22,9 +25,9 @@ same-length c = search needs
 returns : tie.Need-returns
 returns c =
     let put = c .before .before .put-refused in
-    let start = c .before .before .before .before .before .before .before .before .before .before .before .before .before in
-    let is = line-refused _ _ _ _ (c .before .before .before .before .before .before .wave-by-rule .ensures .0) (c .before .before .before .before .if1 .taken) in
-    (rw is at (put .ensures .0), omega (arith, start .pre, put .kept .0, put .ensures .1))
+    let test = c .before .before .before .before .before in
+    let is = line-refused _ _ _ _ (test .before .before .wave-by-rule .ensures .0) (test .if1 .taken) in
+    (rw is at (put .ensures .0), put .ensures .1)
 
 wave-of-requires : tie.Need-wave-of-requires
 wave-of-requires c κs = search needs
@@ -80,6 +83,7 @@ put-line-spec =
     tie.close
     (tie.spec
     wave-by-rule-requires
+    slice-aggregate-put-refused
     put-refused-requires
     same-length
     returns

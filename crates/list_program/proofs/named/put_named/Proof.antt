@@ -3,10 +3,10 @@ use borrow.Author.Needs.{needs}
 use native.Mathlib.Omega.{arith}
 use Rattle.text.specs.Numbers.{decimal}
 use Rattle.text.proofs.Putting.{puts-then}
-use Rattle.doubt.specs.Lines.{named}
-use Rattle.doubt.proofs.Lines.{number-short}
-use Rattle.doubt.proofs.line.put_named.Statement.{statement}
-use Rattle.doubt.proofs.line.put_named.Tie as tie
+use Rattle.list_program.specs.Answers.{named}
+use Rattle.list_program.proofs.Answering.{number-short}
+use Rattle.list_program.proofs.named.put_named.Statement.{statement}
+use Rattle.list_program.proofs.named.put_named.Tie as tie
 
 put-text-requires : tie.Need-put-text-requires
 put-text-requires c κs = search needs

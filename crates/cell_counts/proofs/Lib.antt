@@ -1,0 +1,2 @@
+-- Counting: the laws of the counts.
+pub mod Counting

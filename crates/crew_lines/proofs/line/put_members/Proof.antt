@@ -1,0 +1,86 @@
+-- The loop has written the banks below b.
+use borrow.Author.Needs.{needs}
+use native.Mathlib.Omega.{arith}
+use Prim.Native.Nat.{_-_, _≤_}
+use mathlib.Core.Path.{_≡_, refl, _∙_}
+use lib.ListN.{length, getD}
+use Rattle.text.specs.Places.{Puts}
+use Rattle.text.proofs.Putting.{puts-none, puts-then}
+use Rattle.sheet_writer.specs.inner.Cells.{memberText, membersText}
+use Rattle.sheet_writer.proofs.Texts.{members-none, members-next, members-room}
+use Rattle.crew_lines.proofs.line.put_members.Statement.{statement}
+use Rattle.crew_lines.proofs.line.put_members.Tie as tie
+
+abbrev Inv-loop : tie.InvT-loop
+Inv-loop out₀ at steps n k next₀ b₀ out next b =
+    Puts (membersText steps k b) at out₀ next out × (b ≤ n) × (length out ≡ length out₀)
+
+abbrev μ-loop : tie.MeasureT-loop
+μ-loop out₀ at steps n k next₀ b₀ out next b = n - b
+
+loop-holds : tie.Need-loop-holds Inv-loop μ-loop
+loop-holds c =
+    let a = c .before .before .args in
+    (rw (members-none (a .steps .now) (a .k)) (puts-none _ _), omega arith, refl)
+
+cast-i : tie.Need-cast-i Inv-loop μ-loop
+cast-i c = search needs
+
+mul-put-member : tie.Need-mul-put-member Inv-loop μ-loop
+mul-put-member c = search needs
+
+shared-slice-read-put-member : tie.Need-shared-slice-read-put-member Inv-loop μ-loop
+shared-slice-read-put-member c = search needs
+
+put-member-requires : tie.Need-put-member-requires Inv-loop μ-loop
+put-member-requires c κs =
+    let w = c .before .before .before .loop in
+    let start = c .before .before .before .before .before .before in
+    let a = start .args in
+    let room = members-room (a .steps .now) (a .k) (w .b) (a .n) (c .before .before .loop-test .taken) in
+    omega (arith, w .inv .0 .next, w .inv .2, start .pre .1)
+
+add-b : tie.Need-add-b Inv-loop μ-loop
+add-b c = search needs
+
+loop-less : tie.Need-loop-less Inv-loop μ-loop
+loop-less c = search needs
+
+loop-again : tie.Need-loop-again Inv-loop μ-loop
+loop-again c =
+    let w = c .before .before .before .before .before .before .loop in
+    let start = c .before .before .before .before .before .before .before .before .before in
+    let a = start .args in
+    let ss = a .steps .now in
+    let room = members-room ss (a .k) (w .b) (a .n) (c .before .before .before .before .before .loop-test .taken) in
+    let fits = start .pre .1 in
+    let one = c .before .before .put-member in
+    let more =
+    puts-then (membersText ss (a .k) (w .b)) (memberText (getD ss (w .b) 0) (a .k) (w .b)) (a .at) (a .out .now) (omega arith) _ _ _ _ (w .inv .0) (one .ensures) in
+    (rw (members-next ss (a .k) (w .b)) more, omega arith, one .kept .0 ∙ w .inv .2)
+
+same-length : tie.Need-same-length Inv-loop μ-loop
+same-length c = search needs
+
+returns : tie.Need-returns Inv-loop μ-loop
+returns c =
+    let w = c .before .loop in
+    let e : w .b ≡ c .before .before .before .before .args .n = omega arith in
+    rw e at (w .inv .0)
+
+pub put-members-spec : {M : Type 1} → statement M
+put-members-spec =
+    tie.close
+    (tie.spec
+    Inv-loop
+    μ-loop
+    loop-holds
+    cast-i
+    mul-put-member
+    shared-slice-read-put-member
+    put-member-requires
+    add-b
+    loop-less
+    loop-again
+    same-length
+    returns)

@@ -1,0 +1,2 @@
+-- Inner vocabulary: for the functions that write lines.
+pub mod Cells

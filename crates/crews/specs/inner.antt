@@ -1,0 +1,2 @@
+-- What functions below the public calls promise each other.
+pub mod Serving
