@@ -9,7 +9,7 @@
  *
  * tally    four cells: banks, clashes, waves, cap. The caller keeps them with the plan and changes them only through these calls.
  * result   the further answers of a call, from the front. Where the call is refused they are 0, but for a list and a replay, whose
- *          result[0] is then the row or the field that was refused.
+ *          result[0] is then the row or the field that was refused, and for check_sheet, where they say what is wrong with the sheet.
  * A tally slice of fewer than four cells, or a result slice shorter than the call's, gets 2 first of all, and nothing is changed.
  * Apart from its result cells a refused call changes nothing (see wave_plan_read_list and wave_plan_replay for the rows or fields
  * before the one refused).
@@ -70,6 +70,7 @@ extern "C" {
 #define WAVE_PLAN_REPLAY_RESULTS 2
 #define WAVE_PLAN_POSTER_RESULTS 1
 #define WAVE_PLAN_COME_BACK_RESULTS 1
+#define WAVE_PLAN_CHECK_SHEET_RESULTS 3
 
 /* The most bytes of a list, of a sheet, of a journal, and of a poster. */
 #define WAVE_PLAN_MOST_LIST_BYTES 60000
@@ -120,6 +121,7 @@ extern "C" {
  *   replay                        9, 13, 1, 2; then each field in turn: 14, 21, 18, 4, 5, 6 or 7, 8
  *   keep                          1, 2, 3, 16
  *   come_back                     1, 2, 3, 16, 17
+ *   check_sheet                   1, 2, 3, 26, 27
  */
 #define WAVE_PLAN_ACCEPTED 0
 #define WAVE_PLAN_TOO_MANY_BANKS 1      /* Is the bank count at most 1024? */
@@ -147,6 +149,8 @@ extern "C" {
 #define WAVE_PLAN_D_RETIRED 23          /* (list that starts with "V 2", each further row in turn) Is it no D row? */
 #define WAVE_PLAN_CREW_SPAN 24          /* (crew steps) Are the couriers from 1 to 64? (least crew) Is the limit at most 1024? */
 #define WAVE_PLAN_NO_CREW 25            /* (least crew) Does some crew of 1 to 64 couriers end within the limit? */
+#define WAVE_PLAN_NO_SHEET 26           /* (check sheet) Is it a sheet with each of the plan's banks once, no empty wave and the plan's foot? */
+#define WAVE_PLAN_SHEET_CLASH 27        /* (check sheet) Are clashing banks in different waves, and the waves no more than the plan's? */
 
 /* Opens a plan of `banks` banks with no clash, all waves and ranks 0, the cap 24. */
 uint16_t wave_plan_open(uint16_t *neighbours, size_t neighbours_cells, uint16_t *degrees, size_t degrees_cells,
@@ -291,6 +295,18 @@ uint16_t wave_plan_come_back(uint16_t *neighbours, size_t neighbours_cells, uint
                              uint16_t *ranks, size_t ranks_cells, uint16_t *moved, size_t moved_cells,
                              uint16_t *tally, size_t tally_cells, const uint16_t *shelf, size_t shelf_cells,
                              const uint8_t *name, size_t name_bytes, uint16_t *result, size_t result_cells);
+
+/* Checks a sheet from anybody: accepted if it is exactly the text, in the form of wave_plan_write_sheet, of some waves of this plan's
+ * banks with this plan's foot, and these waves keep clashing banks apart and are no more than the plan's. The sheet that
+ * wave_plan_write_sheet writes of the same plan is always accepted. Of a sheet so accepted nothing else is said: its waves need not be
+ * the rule's. The bytes may have any length and content. result[0]: where the bytes are no such sheet (26), the first line at fault,
+ * counted from 1, which is the foot's where the lines of all waves can stand there. result[1], result[2]: where two banks that clash
+ * stand in one wave (27), the pair with the lowest first bank, then the lowest second; both 0 where there are too many waves and no
+ * such pair. All others are 0. */
+uint16_t wave_plan_check_sheet(const uint16_t *neighbours, size_t neighbours_cells, const uint16_t *degrees, size_t degrees_cells,
+                               const uint16_t *waves, size_t waves_cells, const uint16_t *counts, size_t counts_cells,
+                               const uint16_t *ranks, size_t ranks_cells, const uint16_t *tally, size_t tally_cells,
+                               uint16_t *result, size_t result_cells, const uint8_t *sheet, size_t sheet_bytes);
 
 #ifdef __cplusplus
 }

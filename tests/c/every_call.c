@@ -6,7 +6,7 @@
 
 #include "wave_plan.h"
 
-enum { ROW = WAVE_PLAN_ROW_CELLS, COUNT = WAVE_PLAN_COUNT_CELLS, TALLY = WAVE_PLAN_TALLY_CELLS, CAP = 3, NUMBERS = 26 };
+enum { ROW = WAVE_PLAN_ROW_CELLS, COUNT = WAVE_PLAN_COUNT_CELLS, TALLY = WAVE_PLAN_TALLY_CELLS, CAP = 3, NUMBERS = 28 };
 
 /* A plan's slices: a caller may lend them shorter than they are, by the numbers of cells. */
 typedef struct {
@@ -1048,6 +1048,80 @@ static void of_come_back(void) {
     gone(p);
 }
 
+/* The bytes are lent from a piece of memory of their own, without the 0 at their end. */
+static uint16_t check_sheet(Plan p, const char *sheet) {
+    size_t length = strlen(sheet);
+    uint8_t *bytes = malloc(length ? length : 1);
+    if (!bytes) exit(2);
+    memcpy(bytes, sheet, length);
+    uint16_t number = wave_plan_check_sheet(PLAN(p), TALLY_OF(p), RESULT_OF(p), bytes, length);
+    free(bytes);
+    return number;
+}
+
+static void results_are(Plan p, uint16_t line, uint16_t first, uint16_t second) {
+    IS(p.result[0], line);
+    IS(p.result[1], first);
+    IS(p.result[2], second);
+}
+
+static void of_check_sheet(void) {
+    static const char own[] = "WAVES 2\nA 0 2\nB 1 3\nTOTAL 4 4\n", other[] = "WAVES 2\nA 1 3\nB 0 2\nTOTAL 4 4\n";
+    static const struct {
+        const char *sheet;
+        uint16_t line;
+    } wrong[] = {{"", 1},
+                 {"WAVES 2", 1},
+                 {"WAVES 02\nA 0 2\nB 1 3\nTOTAL 4 4\n", 1},
+                 {"WAVES 2\nB 0 2\nA 1 3\nTOTAL 4 4\n", 2},
+                 {"WAVES 2\nA 2 0\nB 1 3\nTOTAL 4 4\n", 2},
+                 {"WAVES 2\nA 0 2\nB 2 3\nTOTAL 4 4\n", 3},
+                 {"WAVES 2\nA 0 2\nB 1 4\nTOTAL 4 4\n", 3},
+                 {"WAVES 2\nA 0 2\nB 1 3\nTOTAL 4 5\n", 4},
+                 {"WAVES 2\nA 0 2\nB 1 3\nTOTAL 4 4", 4},
+                 {"WAVES 2\nA 0 2\nB 1 3\nTOTAL 4 4\n\n", 4}};
+    Plan p = four_banks(WAVE_PLAN_CHECK_SHEET_RESULTS);
+    Plan q = copy_of(p);
+    GIVES(0, check_sheet(p, own));
+    results_are(p, 0, 0, 0);
+    GIVES(0, check_sheet(p, other)); /* not the planner's */
+    results_are(p, 0, 0, 0);
+    for (size_t i = 0; i < sizeof wrong / sizeof *wrong; i++) {
+        GIVES(26, check_sheet(p, wrong[i].sheet));
+        results_are(p, wrong[i].line, 0, 0);
+    }
+    GIVES(27, check_sheet(p, "WAVES 2\nA 0\nB 1 2 3\nTOTAL 4 4\n"));
+    results_are(p, 0, 1, 2);
+    GIVES(27, check_sheet(p, "WAVES 3\nA 0\nB 1 3\nC 2\nTOTAL 4 4\n")); /* a wave more than the plan's */
+    results_are(p, 0, 0, 0);
+    GIVES(27, check_sheet(p, "WAVES 3\nA 0\nB 1\nC 2 3\nTOTAL 4 4\n")); /* and a clash */
+    results_are(p, 0, 2, 3);
+    p.result[0] = 9;
+    SHORT_RESULT(p, check_sheet(p, ""));
+    SHORT_TALLY(p, check_sheet(p, ""));
+    IS(p.result[0], 9);
+    WRONG_RANKS(p, check_sheet(p, own));
+    IS(as_copied(p, q), 1);
+    p.counts[0]++;
+    GIVES(3, check_sheet(p, ""));
+    results_are(p, 0, 0, 0);
+    p.counts_cells--;
+    GIVES(2, check_sheet(p, ""));
+    p.tally[0] = WAVE_PLAN_MOST_BANKS + 1;
+    GIVES(1, check_sheet(p, own));
+    gone(p);
+    p = six_banks(WAVE_PLAN_CHECK_SHEET_RESULTS);
+    GIVES(0, STRIKE(2, 5)); /* M9: three waves, and two are enough */
+    IS(p.tally[2], 3);
+    GIVES(0, check_sheet(p, "WAVES 2\nA 0 3 5\nB 1 2 4\nTOTAL 6 5\n"));
+    gone(p);
+    p = opened(0, WAVE_PLAN_CHECK_SHEET_RESULTS);
+    GIVES(0, check_sheet(p, "WAVES 0\nTOTAL 0 0\n"));
+    GIVES(26, check_sheet(p, "WAVES 1\nA\nTOTAL 0 0\n"));
+    results_are(p, 2, 0, 0);
+    gone(p);
+}
+
 int main(void) {
     static const struct {
         const char *name;
@@ -1071,7 +1145,8 @@ int main(void) {
                  {"wave_plan_replay", of_replay},
                  {"wave_plan_open_shelf", of_open_shelf},
                  {"wave_plan_keep", of_keep},
-                 {"wave_plan_come_back", of_come_back}};
+                 {"wave_plan_come_back", of_come_back},
+                 {"wave_plan_check_sheet", of_check_sheet}};
     for (size_t i = 0; i < sizeof calls / sizeof *calls; i++) {
         answers = 0;
         calls[i].test();

@@ -11,7 +11,7 @@ use lib.ListN.{length, getD, take, drop, length-append, take-append-drop}
 use borrow.Author.Tests.{lt-ltb, le-ltb, ne-eqb}
 use Rattle.rule.specs.Lists.{upto, filter, memb}
 use Rattle.rule.specs.Graph.{Graph}
-use Rattle.rule.specs.Wave.{waveCount}
+use Rattle.rule.specs.Wave.{waveCount, banksOf}
 use Rattle.rule.proofs.Booleans.{lt-or-ge}
 use Rattle.rule.proofs.Lists.{length-upto}
 use Rattle.rule.proofs.Order.{ltb-strict}
@@ -19,9 +19,8 @@ use Rattle.rule.proofs.Sorting.{sorted-filter, sorted-upto, memb-filter, memb-u
 use Rattle.rule.proofs.Theorems.{sorted-unique}
 use Rattle.text.specs.Text.{joined}
 use Rattle.text.proofs.Joined.{joined-append, texts-next}
-use Rattle.wave_lines.specs.Lines.{banksOf}
 use Rattle.wave_lines.proofs.Shown.{total, total-append, shown-total}
-use Rattle.crews.specs.Day.{waveBanks, stepsIn, stepsOf, dayTo, day, stepOf}
+use Rattle.crews.specs.Day.{stepsIn, stepsOf, dayTo, day, stepOf}
 use Rattle.crews.proofs.Theorems.{one-step, step-ascends, step-banks}
 
 eqb-sym : (a b : ℕ) → eqb a b ≡ eqb b a
@@ -77,23 +76,23 @@ module _ (q : ℕ) (G : Graph) where
   abbrev n : ℕ
   n = G .banks
 
-  next-joined : (k : ℕ) → joined (dayTo q G (suc k)) ≡ joined (dayTo q G k) ++ joined (stepsOf q (waveBanks G k))
+  next-joined : (k : ℕ) → joined (dayTo q G (suc k)) ≡ joined (dayTo q G k) ++ joined (stepsOf q (banksOf G k))
   unfolding dayTo
-  next-joined k = joined-append (dayTo q G k) (stepsOf q (waveBanks G k))
+  next-joined k = joined-append (dayTo q G k) (stepsOf q (banksOf G k))
 
-  next-length : (k : ℕ) → length (dayTo q G (suc k)) ≡ length (dayTo q G k) + length (stepsOf q (waveBanks G k))
+  next-length : (k : ℕ) → length (dayTo q G (suc k)) ≡ length (dayTo q G k) + length (stepsOf q (banksOf G k))
   unfolding dayTo
-  next-length k = length-append (dayTo q G k) (stepsOf q (waveBanks G k))
+  next-length k = length-append (dayTo q G k) (stepsOf q (banksOf G k))
 
   next-total : (m : ℕ → ℕ) (k : ℕ)
-      → total m (joined (map (waveBanks G) (upto (suc k)))) ≡ total m (joined (map (waveBanks G) (upto k))) + total m (waveBanks G k)
-  next-total m k = ap (total m) (texts-next (waveBanks G) k) ∙ total-append m (joined (map (waveBanks G) (upto k))) (waveBanks G k)
+      → total m (joined (map (banksOf G) (upto (suc k)))) ≡ total m (joined (map (banksOf G) (upto k))) + total m (banksOf G k)
+  next-total m k = ap (total m) (texts-next (banksOf G) k) ∙ total-append m (joined (map (banksOf G) (upto k))) (banksOf G k)
 
-  total-to : (m : ℕ → ℕ) (k : ℕ) → total m (joined (dayTo q G k)) ≤ total m (joined (map (waveBanks G) (upto k)))
+  total-to : (m : ℕ → ℕ) (k : ℕ) → total m (joined (dayTo q G k)) ≤ total m (joined (map (banksOf G) (upto k)))
   unfolding stepsOf
   total-to m zero = unfold dayTo joined upto total in omega arith
   total-to m (suc k) =
-      let banks = waveBanks G k in
+      let banks = banksOf G k in
       let steps = stepsIn (length banks) q banks in
       omega (
         arith,
@@ -104,17 +103,16 @@ module _ (q : ℕ) (G : Graph) where
         steps-total m (length banks) q banks,
       )
 
-  length-to : (k : ℕ) → length (dayTo q G k) ≤ total (λ x. 1) (joined (map (waveBanks G) (upto k)))
+  length-to : (k : ℕ) → length (dayTo q G k) ≤ total (λ x. 1) (joined (map (banksOf G) (upto k)))
   unfolding stepsOf
   length-to zero = unfold dayTo in omega arith
   length-to (suc k) =
-      let banks = waveBanks G k in
+      let banks = banksOf G k in
       omega (arith, next-length k, next-total (λ x. 1) k, length-to k, steps-few (length banks) q banks, length-total banks)
 
   -- all waves have all banks
-  all-waves : (m : ℕ → ℕ) → total m (joined (map (waveBanks G) (upto (waveCount G)))) ≡ total m (upto n)
-  unfolding waveBanks
-  all-waves m = unfold banksOf in shown-total G m
+  all-waves : (m : ℕ → ℕ) → total m (joined (map (banksOf G) (upto (waveCount G)))) ≡ total m (upto n)
+  all-waves m = shown-total G m
 
   pub day-total : (m : ℕ → ℕ) → total m (joined (day q G)) ≤ total m (upto n)
   unfolding day

@@ -6,20 +6,20 @@ use lib.Dec.{eqb, leb}
 use lib.ListN.{length}
 use Rattle.rule.specs.Lists.{upto, filter}
 use Rattle.rule.specs.Graph.{Graph, Same}
-use Rattle.rule.specs.Wave.{wave, waveCount}
+use Rattle.rule.specs.Wave.{wave, waveCount, banksBy, banksOf}
 use Rattle.rule.proofs.Lists.{upto-below, filter-cong}
 use Rattle.rule.proofs.Theorems.{wave-agree}
 use Rattle.memory.specs.declared.Tally.{Tally}
 use Rattle.memory.specs.Cells.{cells}
 use Rattle.memory.specs.Plan.{tallyOf}
 use Rattle.memory.proofs.Theorems.{tally-agree}
-use Rattle.crews.specs.Day.{waveBanks, stepsOf, dayTo, day, stepOf, inTime, leastCrew}
+use Rattle.crews.specs.Day.{stepsOf, dayTo, day, stepOf, inTime, leastCrew}
 use Rattle.crews.specs.Calls.{stepCells}
 use Rattle.crews.proofs.Answers.{first-cong}
 
 module _ {G H : Graph} (a : Same G H) where
-  banks-agree : (w : ℕ) → waveBanks G w ≡ waveBanks H w
-  unfolding waveBanks
+  banks-agree : (w : ℕ) → banksOf G w ≡ banksOf H w
+  unfolding banksBy
   banks-agree w =
       ap (λ (n : ℕ). filter (λ b. eqb (wave G b) w) (upto n)) (a .banks)
       ∙ filter-cong (λ b. eqb (wave G b) w) (λ b. eqb (wave H b) w) (upto (H .banks)) (λ b m.

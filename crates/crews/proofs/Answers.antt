@@ -8,7 +8,7 @@ use lib.Dec.{T, eqb, leb}
 use lib.ListN.{length, getD}
 use Rattle.rule.specs.Lists.{upto, filter, memb}
 use Rattle.rule.specs.Graph.{Graph}
-use Rattle.rule.specs.Wave.{wave, waveCount}
+use Rattle.rule.specs.Wave.{wave, waveCount, banksBy, banksOf}
 use Rattle.rule.proofs.Lists.{in-head, upto-below}
 use Rattle.rule.proofs.Theorems.{wave-count-small}
 use Rattle.memory.specs.declared.Tally.{Tally}
@@ -20,7 +20,7 @@ use Rattle.memory.proofs.Cells.{cells-cong}
 use Rattle.memory.proofs.Standing.{standing-cong}
 use Rattle.memory.proofs.Theorems.{held-of, held-small}
 use Rattle.cell_counts.specs.inner.Cells.{cellsAt, FewEach}
-use Rattle.crews.specs.Day.{waveBanks, day, stepOf, sumUp, inTime, firstFrom, leastCrew}
+use Rattle.crews.specs.Day.{day, stepOf, sumUp, inTime, firstFrom, leastCrew}
 use Rattle.crews.specs.Calls.{stepCells, crewResult}
 use Rattle.crews.specs.inner.Serving.{Served, endsBy, leastBySizes}
 use Rattle.crews.proofs.Starts.{sumUp-cong}
@@ -56,18 +56,18 @@ module _ {G : Graph} {s : Slices} {t : Tally} (plan : PlanOf G s t) where
       standing-cong (λ b. getD ws b 0) (wave G) w (upto i) (λ v m. held .waves v (omega (arith, held .banks, upto-below i v m)))
       ∙ (unfold standing in refl)
 
-  sizes-are : (w : ℕ) → cellsAt ws n w ≡ length (waveBanks G w)
-  unfolding waveBanks
+  sizes-are : (w : ℕ) → cellsAt ws n w ≡ length (banksOf G w)
+  unfolding banksBy
   sizes-are w = lower-are n w (omega arith) ∙ ap (λ (k : ℕ). length (filter (λ v. eqb (wave G v) w) (upto k))) (held .banks)
 
   no-wave : (w : ℕ) → waveCount G ≤ w → cellsAt ws n w ≡ 0
   no-wave w l =
-      sizes-are w ∙ none-in (waveBanks G w) (λ b m.
+      sizes-are w ∙ none-in (banksOf G w) (λ b m.
       let r = wave-banks-in G w b m in omega (arith, wave-below G b (r .0), r .1))
 
   module _ (q : ℕ) (some : 1 ≤ q) where
-    sums-are : (k : ℕ) → sumUp q (cellsAt ws n) k ≡ sumUp q (λ w. length (waveBanks G w)) k
-    sums-are k = sumUp-cong q (cellsAt ws n) (λ w. length (waveBanks G w)) k (λ w l. sizes-are w)
+    sums-are : (k : ℕ) → sumUp q (cellsAt ws n) k ≡ sumUp q (λ w. length (banksOf G w)) k
+    sums-are k = sumUp-cong q (cellsAt ws n) (λ w. length (banksOf G w)) k (λ w l. sizes-are w)
 
     pub total-is : sumUp q (cellsAt ws n) 24 ≡ length (day q G)
     unfolding day

@@ -10,12 +10,12 @@ use lib.Dec.{T, ltb, eqb, ltb→lt, eqb→eq}
 use lib.ListN.{length, getD, length-append}
 use Rattle.rule.specs.Lists.{upto, filter, memb, Sorted, Once}
 use Rattle.rule.specs.Graph.{Graph}
-use Rattle.rule.specs.Wave.{wave, waveCount}
+use Rattle.rule.specs.Wave.{wave, waveCount, banksBy, banksOf}
 use Rattle.rule.proofs.Booleans.{test-ext, eq→eqb}
 use Rattle.rule.proofs.Lists.{in-none, in-append-l, in-append-r, in-append, in-upto, upto-below, in-filter, filter-in, filter-append, filter-kept, most-above}
 use Rattle.rule.proofs.Sorting.{sorted-filter, sorted-upto}
 use Rattle.rule.proofs.Reaches.{sorted-once}
-use Rattle.crews.specs.Day.{waveBanks, stepsOf, dayTo, day, stepOf, sumUp}
+use Rattle.crews.specs.Day.{stepsOf, dayTo, day, stepOf, sumUp}
 use Rattle.crews.proofs.Steps.{served, served-append, Every, every-append, every-of, step-after, step-first, step-serves}
 use Rattle.crews.proofs.Steps.{in-served, step-only, served-steps, length-steps, steps-few, steps-ascend, step-place, once-append}
 
@@ -38,20 +38,20 @@ module _ (G : Graph) where
   n = G .banks
 
   -- the banks of a wave
-  pub wave-banks-in : (w b : ℕ) → T (memb b (waveBanks G w)) → (b < n) × (wave G b ≡ w)
-  unfolding waveBanks
+  pub wave-banks-in : (w b : ℕ) → T (memb b (banksOf G w)) → (b < n) × (wave G b ≡ w)
+  unfolding banksBy
   wave-banks-in w b m = let r = filter-in (λ v. eqb (wave G v) w) (upto n) b m in (upto-below n b (r .0), eqb→eq (wave G b) w (r .1))
 
-  pub in-wave-banks : (b : ℕ) → b < n → T (memb b (waveBanks G (wave G b)))
-  unfolding waveBanks
+  pub in-wave-banks : (b : ℕ) → b < n → T (memb b (banksOf G (wave G b)))
+  unfolding banksBy
   in-wave-banks b l = in-filter (λ v. eqb (wave G v) (wave G b)) (upto n) b (in-upto n b l) (eq→eqb (wave G b) (wave G b) refl)
 
-  pub wave-ascends : (w : ℕ) → Sorted ltb (waveBanks G w)
-  unfolding waveBanks
+  pub wave-ascends : (w : ℕ) → Sorted ltb (banksOf G w)
+  unfolding banksBy
   wave-ascends w = sorted-filter ltb (λ v. eqb (wave G v) w) (upto n) (sorted-upto n)
 
-  wave-once : (w : ℕ) → Once (waveBanks G w)
-  wave-once w = sorted-once ltb (λ x t. omega (arith, ltb→lt x x t)) (waveBanks G w) (wave-ascends w)
+  wave-once : (w : ℕ) → Once (banksOf G w)
+  wave-once w = sorted-once ltb (λ x t. omega (arith, ltb→lt x x t)) (banksOf G w) (wave-ascends w)
 
   pub wave-below : (b : ℕ) → b < n → wave G b < waveCount G
   unfolding waveCount
@@ -67,24 +67,24 @@ module _ (G : Graph) where
   day-none none q = rw (no-waves none)
 
   -- the lower banks of its wave come before b, and no other
-  wave-split : (b : ℕ) → b < n → (ys : List ℕ) × (waveBanks G (wave G b) ≡ filter (λ v. eqb (wave G v) (wave G b)) (upto b) ++ b ∷ ys)
-  unfolding waveBanks
+  wave-split : (b : ℕ) → b < n → (ys : List ℕ) × (banksOf G (wave G b) ≡ filter (λ v. eqb (wave G v) (wave G b)) (upto b) ++ b ∷ ys)
+  unfolding banksBy
   wave-split b l = split-at (λ v. eqb (wave G v) (wave G b)) n b l (eq→eqb (wave G b) (wave G b) refl)
 
   not-lower : (p : ℕ → Bool) (b : ℕ) → T (memb b (filter p (upto b))) → ⊥
   not-lower p b m = omega (arith, upto-below b b (filter-in p (upto b) b m .0))
 
   module _ (q : ℕ) (some : 1 ≤ q) where
-    served-next : (k : ℕ) → served (dayTo q G (suc k)) ≡ served (dayTo q G k) ++ waveBanks G k
+    served-next : (k : ℕ) → served (dayTo q G (suc k)) ≡ served (dayTo q G k) ++ banksOf G k
     unfolding dayTo
     served-next k =
-        served-append (dayTo q G k) (stepsOf q (waveBanks G k)) ∙ ap (λ (l : List ℕ). served (dayTo q G k) ++ l) (served-steps q some (waveBanks G k))
+        served-append (dayTo q G k) (stepsOf q (banksOf G k)) ∙ ap (λ (l : List ℕ). served (dayTo q G k) ++ l) (served-steps q some (banksOf G k))
 
     -- the first k waves serve the banks of the waves below k, each once
     pub day-in : (k b : ℕ) → T (memb b (served (dayTo q G k))) → (b < n) × (wave G b < k)
     day-in zero b m = absurd (in-none b (unfold dayTo served in m))
     day-in (suc k) b m =
-        elim (in-append b (served (dayTo q G k)) (waveBanks G k) (rw (served-next k) at m)) [
+        elim (in-append b (served (dayTo q G k)) (banksOf G k) (rw (served-next k) at m)) [
           | inl t ↦ let r = day-in k b t in (r .0, omega arith)
           | inr t ↦ let r = wave-banks-in k b t in (r .0, omega arith)
         ]
@@ -93,34 +93,34 @@ module _ (G : Graph) where
     in-day zero b l h = absurd (omega arith)
     in-day (suc k) b l h =
         rw (served-next k) (elim (ℕ-discrete (wave G b) k) [
-          | yes e ↦ in-append-r b (served (dayTo q G k)) (waveBanks G k) (rw (← e) (in-wave-banks b l))
-          | no d ↦ in-append-l b (served (dayTo q G k)) (waveBanks G k) (in-day k b l (omega arith))
+          | yes e ↦ in-append-r b (served (dayTo q G k)) (banksOf G k) (rw (← e) (in-wave-banks b l))
+          | no d ↦ in-append-l b (served (dayTo q G k)) (banksOf G k) (in-day k b l (omega arith))
         ])
 
     pub day-once : (k : ℕ) → Once (served (dayTo q G k))
     day-once zero = unfold dayTo served in tt
     day-once (suc k) =
-        rw (served-next k) (once-append (served (dayTo q G k)) (waveBanks G k) (day-once k) (wave-once k) (λ x a b.
+        rw (served-next k) (once-append (served (dayTo q G k)) (banksOf G k) (day-once k) (wave-once k) (λ x a b.
         let r = day-in k x a in let s = wave-banks-in k x b in omega arith))
 
     -- in so many steps
-    pub length-day : (k : ℕ) → length (dayTo q G k) ≡ sumUp q (λ w. length (waveBanks G w)) k
+    pub length-day : (k : ℕ) → length (dayTo q G k) ≡ sumUp q (λ w. length (banksOf G w)) k
     unfolding dayTo sumUp
     length-day zero = refl
     length-day (suc k) =
-        omega (arith, length-append (dayTo q G k) (stepsOf q (waveBanks G k)), length-day k, length-steps q some (waveBanks G k))
+        omega (arith, length-append (dayTo q G k) (stepsOf q (banksOf G k)), length-day k, length-steps q some (banksOf G k))
 
     -- each of which serves at most q banks, ascending, of one wave
     pub day-few : (k : ℕ) → Every (λ s. length s ≤ q) (dayTo q G k)
     unfolding dayTo
     day-few zero = tt
-    day-few (suc k) = every-append (λ s. length s ≤ q) (dayTo q G k) (stepsOf q (waveBanks G k)) (day-few k) (steps-few q some (waveBanks G k))
+    day-few (suc k) = every-append (λ s. length s ≤ q) (dayTo q G k) (stepsOf q (banksOf G k)) (day-few k) (steps-few q some (banksOf G k))
 
     pub day-ascends : (k : ℕ) → Every (Sorted ltb) (dayTo q G k)
     unfolding dayTo
     day-ascends zero = tt
     day-ascends (suc k) =
-        every-append (Sorted ltb) (dayTo q G k) (stepsOf q (waveBanks G k)) (day-ascends k) (steps-ascend q some (waveBanks G k) (wave-ascends k))
+        every-append (Sorted ltb) (dayTo q G k) (stepsOf q (banksOf G k)) (day-ascends k) (steps-ascend q some (banksOf G k) (wave-ascends k))
 
     abbrev pub OfWave : List ℕ → Type 0
     OfWave s = (w : ℕ) × ((b : ℕ) → T (memb b s) → wave G b ≡ w)
@@ -129,17 +129,17 @@ module _ (G : Graph) where
     unfolding dayTo
     day-waves zero = tt
     day-waves (suc k) =
-        every-append OfWave (dayTo q G k) (stepsOf q (waveBanks G k)) (day-waves k) (every-of OfWave (stepsOf q (waveBanks G k)) (λ s of.
-        (k, λ b m. wave-banks-in k b (rw (served-steps q some (waveBanks G k)) at (of b m)) .1)))
+        every-append OfWave (dayTo q G k) (stepsOf q (banksOf G k)) (day-waves k) (every-of OfWave (stepsOf q (banksOf G k)) (λ s of.
+        (k, λ b m. wave-banks-in k b (rw (served-steps q some (banksOf G k)) at (of b m)) .1)))
 
     -- a later wave changes nothing for those served before, and serves its own after them
     next-first : (k b : ℕ) → b < n → wave G b < k → stepOf b (dayTo q G (suc k)) ≡ stepOf b (dayTo q G k)
     unfolding dayTo
-    next-first k b l h = step-first b (dayTo q G k) (stepsOf q (waveBanks G k)) (in-day k b l h)
+    next-first k b l h = step-first b (dayTo q G k) (stepsOf q (banksOf G k)) (in-day k b l h)
 
-    next-after : (b : ℕ) → stepOf b (dayTo q G (suc (wave G b))) ≡ length (dayTo q G (wave G b)) + stepOf b (stepsOf q (waveBanks G (wave G b)))
+    next-after : (b : ℕ) → stepOf b (dayTo q G (suc (wave G b))) ≡ length (dayTo q G (wave G b)) + stepOf b (stepsOf q (banksOf G (wave G b)))
     unfolding dayTo
-    next-after b = step-after b (dayTo q G (wave G b)) (stepsOf q (waveBanks G (wave G b))) (λ m. omega (arith, day-in (wave G b) b m .1))
+    next-after b = step-after b (dayTo q G (wave G b)) (stepsOf q (banksOf G (wave G b))) (λ m. omega (arith, day-in (wave G b) b m .1))
 
     -- b is served after the waves before its own, and after the lower banks of its own
     module _ (b : ℕ) (l : b < n) where
@@ -151,14 +151,14 @@ module _ (G : Graph) where
             | no d ↦ next-first k b l (omega arith) ∙ first-day k (omega arith)
           ]
 
-      wave-step : stepOf b (stepsOf q (waveBanks G (wave G b))) ≡ length (filter (λ v. eqb (wave G v) (wave G b)) (upto b)) / q + 1
+      wave-step : stepOf b (stepsOf q (banksOf G (wave G b))) ≡ length (filter (λ v. eqb (wave G v) (wave G b)) (upto b)) / q + 1
       wave-step =
           let lower = filter (λ v. eqb (wave G v) (wave G b)) (upto b) in
           let r = wave-split b l in
           rw (r .1) (step-place q some b lower (r .0) (not-lower (λ v. eqb (wave G v) (wave G b)) b))
 
       pub day-step : stepOf b (day q G)
-          ≡ sumUp q (λ w. length (waveBanks G w)) (wave G b) + length (filter (λ v. eqb (wave G v) (wave G b)) (upto b)) / q + 1
+          ≡ sumUp q (λ w. length (banksOf G w)) (wave G b) + length (filter (λ v. eqb (wave G v) (wave G b)) (upto b)) / q + 1
       unfolding day
       day-step =
           omega (arith, first-day (waveCount G) (wave-below b l), next-after b, length-day (wave G b), wave-step)

@@ -6,7 +6,6 @@ pub mod Divided
 pub mod Steps
 pub mod Days
 pub mod Answers
-pub mod Apart
 pub mod Agree
 pub mod Theorems
 pub mod Stored

@@ -8,7 +8,7 @@ use lib.Dec.{T, eqb, ltb, leb→le, le→leb}
 use lib.ListN.{length, getD}
 use Rattle.rule.specs.Lists.{memb, Sorted}
 use Rattle.rule.specs.Graph.{Graph, Same, empty}
-use Rattle.rule.specs.Wave.{wave, waveCount}
+use Rattle.rule.specs.Wave.{wave, waveCount, banksOf}
 use Rattle.rule.proofs.Booleans.{lt-or-ge}
 use Rattle.rule.proofs.Lists.{in-none}
 use Rattle.memory.specs.declared.Tally.{Tally}
@@ -16,8 +16,9 @@ use Rattle.memory.specs.Cells.{over}
 use Rattle.memory.specs.Plan.{Slices, Clashes, graphIn, capFits, PlanOf}
 use Rattle.memory.proofs.Theorems.{cells-give}
 use Rattle.memory.proofs.Views.{tally-banks}
+use Rattle.memory.proofs.Apart.{waves-apart}
 use Rattle.planner.proofs.Theorems.{held-number}
-use Rattle.crews.specs.Day.{waveBanks, day, stepOf, dividedUp, sumUp, inTime, leastCrew}
+use Rattle.crews.specs.Day.{day, stepOf, dividedUp, sumUp, inTime, leastCrew}
 use Rattle.crews.specs.Calls.{crewNumber, stepCells, crewResult, crewSteps, leastOf}
 use Rattle.crews.specs.Examples
 use Rattle.crews.specs.Examples.{allRight, cases}
@@ -25,7 +26,6 @@ use Rattle.crews.proofs.Divided.{divided-enough, divided-close, sum-fal
 use Rattle.crews.proofs.Steps.{every-at}
 use Rattle.crews.proofs.Days as Days
 use Rattle.crews.proofs.Least.{First, first-is}
-use Rattle.crews.proofs.Apart.{waves-apart}
 use Rattle.crews.proofs.Agree.{day-agree, cells-agree, least-agree}
 use Rattle.crews.proofs.Numbers.{of-crew, crew-fine, steps-refused, steps-found, crew-late, crew-found}
 
@@ -59,7 +59,7 @@ module _ (G : Graph) (q : ℕ) (some : 1 ≤ q) where
   step-apart good i x y mx my c = waves-apart G good x y (step-banks x i mx) (step-banks y i my) c (step-wave i x y mx my)
 
   -- 3. the total is the sum over the waves of their sizes divided by q, each rounded up
-  pub total-sum : length (day q G) ≡ sumUp q (λ w. length (waveBanks G w)) (waveCount G)
+  pub total-sum : length (day q G) ≡ sumUp q (λ w. length (banksOf G w)) (waveCount G)
   unfolding day
   total-sum = Days.length-day G q some (waveCount G)
 
@@ -74,7 +74,7 @@ no-steps G none q = Days.day-none G none q
 -- 4. more couriers never take longer
 pub more-couriers : (G : Graph) (p q : ℕ) → 1 ≤ p → p ≤ q → length (day q G) ≤ length (day p G)
 more-couriers G p q some l =
-    omega (arith, total-sum G p some, total-sum G q (omega arith), sum-falls (λ w. length (waveBanks G w)) p q some l (waveCount G))
+    omega (arith, total-sum G p some, total-sum G q (omega arith), sum-falls (λ w. length (banksOf G w)) p q some l (waveCount G))
 
 -- 5. the least number of couriers: it ends in time, and no smaller one does; 0 stands for none from 1 to 64; without banks it is 1, for every limit
 module _ (G : Graph) (limit : ℕ) where

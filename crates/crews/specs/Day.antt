@@ -3,15 +3,11 @@
 use mathlib.Core.Bool.{Bool, cond}
 use mathlib.Core.List.{List, [], _∷_, _++_}
 use Prim.Native.Nat.{ℕ, zero, suc, _+_, _-_, _/_}
-use lib.Dec.{leb, eqb}
+use lib.Dec.{leb}
 use lib.ListN.{length, take, drop}
-use Rattle.rule.specs.Lists.{upto, filter, memb}
+use Rattle.rule.specs.Lists.{memb}
 use Rattle.rule.specs.Graph.{Graph}
-use Rattle.rule.specs.Wave.{wave, waveCount}
-
--- the banks of wave w, ascending
-unfoldable pub waveBanks : Graph → ℕ → List ℕ
-waveBanks G w = filter (λ b. eqb (wave G b) w) (upto (G .banks))
+use Rattle.rule.specs.Wave.{waveCount, banksOf}
 
 -- the steps, at most so many, that serve these waiting banks, which ascend: each serves the q lowest, or all if fewer, until none waits
 unfoldable pub stepsIn : ℕ → ℕ → List ℕ → List (List ℕ)
@@ -26,7 +22,7 @@ stepsOf q banks = stepsIn (length banks) q banks
 -- the steps that serve the first k waves: each wave starts in the step after those before it
 unfoldable pub dayTo : ℕ → Graph → ℕ → List (List ℕ)
 dayTo q G zero = []
-dayTo q G (suc k) = dayTo q G k ++ stepsOf q (waveBanks G k)
+dayTo q G (suc k) = dayTo q G k ++ stepsOf q (banksOf G k)
 
 -- the day: the steps that serve all waves
 unfoldable pub day : ℕ → Graph → List (List ℕ)

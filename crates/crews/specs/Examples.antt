@@ -6,9 +6,9 @@ use lib.Dec.{T, eqb}
 use Rattle.rule.specs.Lists.{upto, filter, some, memb}
 use Rattle.rule.specs.Order.{tieBy, earlierBy}
 use Rattle.rule.specs.Graph.{Graph, neighbours, degree, earlier, earlierNeighbours, empty, pair, added}
-use Rattle.rule.specs.Wave.{lowestFrom, lowestFree, waveIn, wave, waveCount}
+use Rattle.rule.specs.Wave.{lowestFrom, lowestFree, waveIn, wave, waveCount, banksBy}
 use Rattle.memory.specs.Cells.{cells}
-use Rattle.crews.specs.Day.{waveBanks, stepsIn, stepsOf, dayTo, day, stepOf, inTime, firstFrom, leastCrew}
+use Rattle.crews.specs.Day.{stepsIn, stepsOf, dayTo, day, stepOf, inTime, firstFrom, leastCrew}
 use Rattle.crews.specs.Calls.{stepCells}
 
 -- are the two lists equal?
@@ -78,5 +78,5 @@ cases =
 
 pub examples-hold : T (allRight cases (empty 0))
 unfolding same sameSteps clashesOf right allRight cases upto filter some memb tieBy earlierBy neighbours degree earlier
-    earlierNeighbours pair lowestFrom lowestFree waveIn wave waveCount cells waveBanks stepsIn stepsOf dayTo day stepOf inTime firstFrom leastCrew stepCells
+    earlierNeighbours pair lowestFrom lowestFree waveIn wave waveCount cells banksBy stepsIn stepsOf dayTo day stepOf inTime firstFrom leastCrew stepCells
 examples-hold = tt

@@ -1,4 +1,4 @@
-// Reading standard input.
+// Reading standard input, or another open file.
 use text::MOST_BYTES;
 ghost use Prim.Native.Nat.{_+_, _≤_};
 ghost use lib.ListN.{length};
@@ -13,24 +13,24 @@ pub struct Input {
 }
 
 // Reads on from place `at`: one call of the system. No bytes are the end of the input.
-fn read_on(list: &mut [u8], at: usize) -> Input
+fn read_on(fd: i32, list: &mut [u8], at: usize) -> Input
     requires { ⌜ at ≤ length (now list) ⌝ }
     ensures { λ r. ⌜ at + r .length ≤ length (now (list .exit)) ⌝ }
 {
-    let got = libc::read(libc::STDIN_FILENO, &mut list[at..]);
+    let got = libc::read(fd, &mut list[at..]);
     Input {
         failed: got < 0,
         length: io::count(got, &list[at..]),
     }
 }
 
-// Reads standard input to its end, or as far as there is room.
-pub fn read_input(list: &mut [u8]) -> Input
+// Reads an open file to its end, or as far as there is room.
+pub fn read_from(fd: i32, list: &mut [u8]) -> Input
     ensures { λ r. ⌜ r .length ≤ length (now (list .exit)) ⌝ }
 {
     let mut at = 0;
     while at < list.len() {
-        let part = read_on(list, at);
+        let part = read_on(fd, list, at);
         if part.length == 0 {
             return Input {
                 failed: part.failed,
@@ -43,4 +43,11 @@ pub fn read_input(list: &mut [u8]) -> Input
         failed: false,
         length: at,
     }
+}
+
+// Reads standard input, likewise.
+pub fn read_input(list: &mut [u8]) -> Input
+    ensures { λ r. ⌜ r .length ≤ length (now (list .exit)) ⌝ }
+{
+    read_from(libc::STDIN_FILENO, list)
 }

@@ -6,7 +6,9 @@ mod printing;
 mod refusal;
 mod texts;
 
+pub use input::Input;
 pub use input::LIST_BYTES;
+pub use input::read_from;
 pub use input::read_input;
 pub use named::put_named;
 pub use named::put_refused;

@@ -13,6 +13,7 @@ pub mod Rows
 pub mod Tallies
 pub mod Sums
 pub mod ClashPairs
+pub mod Apart
 pub mod Tested
 pub mod Question
 pub mod Thin

@@ -7,12 +7,12 @@ use lib.Dec.{T, ltb, eqb, ltb→lt}
 use lib.ListN.{length, getD, replicate, length-append}
 use Rattle.rule.specs.Lists.{upto, memb}
 use Rattle.rule.specs.Graph.{Graph}
-use Rattle.rule.specs.Wave.{wave, waveCount}
+use Rattle.rule.specs.Wave.{wave, waveCount, banksOf}
 use Rattle.rule.proofs.Booleans.{T-along, and-l}
 use Rattle.rule.proofs.Lists.{in-head, in-tail, in-none, upto-below}
 use Rattle.memory.specs.Plan.{clashCount, Clashes}
 use Rattle.text.specs.Text.{joined}
-use Rattle.wave_lines.specs.Lines.{Line, banksOf, lineOf, linesOf, banksShown}
+use Rattle.wave_lines.specs.Lines.{Line, lineOf, linesOf, banksShown}
 use Rattle.wave_lines.specs.Foot.{Totals, totalsOf, totalsOn}
 use Rattle.wave_lines.proofs.Letters.{letter-high}
 use Rattle.wave_lines.proofs.Plans.{few-waves, few-clashes}

@@ -2,8 +2,9 @@
 use mathlib.Core.Bool.{true, false}
 use mathlib.Core.List.{List, map, foldr}
 use Prim.Native.Nat.{ℕ, zero, suc, max}
+use lib.Dec.{eqb}
 use lib.ListN.{length}
-use Rattle.rule.specs.Lists.{memb, upto}
+use Rattle.rule.specs.Lists.{memb, upto, filter}
 use Rattle.rule.specs.Graph.{Graph, earlierNeighbours}
 
 -- the first of from, from + 1, .., from + steps that is not held, or the last of them
@@ -31,3 +32,11 @@ waves G = map (wave G) (upto (G .banks))
 -- the number of waves: the highest wave plus 1, or 0 if there is no bank
 unfoldable pub waveCount : Graph → ℕ
 waveCount G = foldr (λ b k. max (suc (wave G b)) k) 0 (upto (G .banks))
+
+-- the banks of wave c, ascending, where n banks have the waves w
+unfoldable pub banksBy : (ℕ → ℕ) → ℕ → ℕ → List ℕ
+banksBy w n c = filter (λ b. eqb (w b) c) (upto n)
+
+-- the banks of wave c by the rule, ascending
+abbrev pub banksOf : Graph → ℕ → List ℕ
+banksOf G c = banksBy (wave G) (G .banks) c

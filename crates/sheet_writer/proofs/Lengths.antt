@@ -7,7 +7,7 @@ use native.Mathlib.Omega.{arith}
 use lib.ListN.{length, length-append}
 use Rattle.rule.specs.Lists.{upto}
 use Rattle.rule.specs.Graph.{Graph}
-use Rattle.rule.specs.Wave.{waveCount}
+use Rattle.rule.specs.Wave.{waveCount, banksOf}
 use Rattle.rule.proofs.Booleans.{lt-or-ge}
 use Rattle.rule.proofs.Lists.{length-upto}
 use Rattle.memory.specs.Plan.{clashCount, Clashes}
@@ -15,7 +15,7 @@ use Rattle.text.specs.Text.{joined}
 use Rattle.text.specs.Numbers.{decimal}
 use Rattle.text.proofs.Decimal.{length-low, few-digits, length-decimal}
 use Rattle.text.proofs.Joined.{texts-next}
-use Rattle.wave_lines.specs.Lines.{Line, banksOf, lineOf, linesOf}
+use Rattle.wave_lines.specs.Lines.{Line, lineOf, linesOf}
 use Rattle.wave_lines.proofs.Shown.{total, total-append, shown-total, count-lines}
 use Rattle.wave_lines.proofs.Plans.{few-waves, few-clashes}
 use Rattle.wave_lines.proofs.Totals.{length-foot}

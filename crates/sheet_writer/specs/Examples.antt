@@ -6,14 +6,14 @@ use lib.Dec.{T, eqb}
 use Rattle.rule.specs.Lists.{upto, filter, some, memb, insertBy, sortBy}
 use Rattle.rule.specs.Order.{tieBy, earlierBy}
 use Rattle.rule.specs.Graph.{Graph, neighbours, degree, earlier, later, earlierNeighbours, order, empty, pair, added}
-use Rattle.rule.specs.Wave.{lowestFrom, lowestFree, waveIn, wave, waves, waveCount}
+use Rattle.rule.specs.Wave.{lowestFrom, lowestFree, waveIn, wave, waves, waveCount, banksBy}
 use Rattle.rule.specs.Reach.{edited, changed, isNamed, isTurned, isReached, onTrail, trail, moved}
 use Rattle.rule.specs.declared.Kind.{Kind}
 use Rattle.rule.specs.declared.Kind.the-variants.{Adding, Striking}
 use Rattle.memory.specs.Plan.{clashCount}
 use Rattle.text.specs.Text.{joined}
 use Rattle.text.specs.Numbers.{decimalIn, decimal}
-use Rattle.wave_lines.specs.Lines.{letters, banksOf, linesOf}
+use Rattle.wave_lines.specs.Lines.{letters, linesOf}
 use Rattle.wave_lines.specs.Foot.{footText}
 use Rattle.sheet_writer.specs.Sheet.{bankText, lineText, headText, lastText, sheetOf, sheet}
 
@@ -81,5 +81,5 @@ cases =
 pub examples-hold : T (allRight cases (empty 0))
 unfolding same clashes after right allRight cases upto filter some memb insertBy sortBy tieBy earlierBy neighbours degree earlier later
     earlierNeighbours order pair lowestFrom lowestFree waveIn wave waves waveCount edited changed isNamed isTurned isReached onTrail trail moved
-    clashCount letters banksOf linesOf joined decimalIn decimal footText bankText lineText headText lastText sheetOf sheet
+    clashCount letters banksBy linesOf joined decimalIn decimal footText bankText lineText headText lastText sheetOf sheet
 examples-hold = tt

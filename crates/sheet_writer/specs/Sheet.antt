@@ -6,7 +6,7 @@ use Rattle.rule.specs.Graph.{Graph}
 use Rattle.memory.specs.Plan.{clashCount}
 use Rattle.text.specs.Text.{joined}
 use Rattle.text.specs.Numbers.{decimal}
-use Rattle.wave_lines.specs.Lines.{Line, linesOf}
+use Rattle.wave_lines.specs.Lines.{Line, linesBy, linesOf}
 use Rattle.wave_lines.specs.Foot.{footText}
 
 -- a bank, with one space before it
@@ -29,6 +29,10 @@ lastText n m = footText n m ++ (10 ∷ [])
 unfoldable pub sheetOf : List Line → ℕ → ℕ → List ℕ
 sheetOf lines n m = headText (length lines) ++ (joined (map lineText lines) ++ lastText n m)
 
--- the sheet of a plan
+-- the sheet of n banks in k waves w, with m clashes
+abbrev pub sheetBy : (ℕ → ℕ) → ℕ → ℕ → ℕ → List ℕ
+sheetBy w n k m = sheetOf (linesBy w n k) n m
+
+-- the sheet of a plan: its waves are the rule's
 unfoldable pub sheet : Graph → List ℕ
 sheet G = sheetOf (linesOf G) (G .banks) (clashCount G)

@@ -9,7 +9,7 @@ use lib.Dec.{T, eqb}
 use lib.ListN.{length, getD, drop, length-map, List·getD-append}
 use Rattle.rule.specs.Lists.{upto, filter, memb}
 use Rattle.rule.specs.Graph.{Graph, neighbours, degree, earlier, earlierNeighbours}
-use Rattle.rule.specs.Wave.{wave, waves, waveCount}
+use Rattle.rule.specs.Wave.{wave, waves, waveCount, banksBy, banksOf}
 use Rattle.rule.proofs.Booleans.{and-l}
 use Rattle.rule.proofs.Lists.{in-head, in-tail, upto-below, length-upto, filter-cong, count-le}
 use Rattle.rule.proofs.Theorems.{wave-le}
@@ -18,7 +18,7 @@ use Rattle.memory.specs.Cells.{over}
 use Rattle.memory.specs.Plan.{Slices, clashCount, planIn, tallyOf, Clashes, PlanOf}
 use Rattle.memory.proofs.Fronts.{getD-map, getD-upto}
 use Rattle.memory.proofs.Theorems.{long}
-use Rattle.wave_lines.specs.Lines.{letters, Line, banksOf, lineOf, linesOf}
+use Rattle.wave_lines.specs.Lines.{letters, lineOf, linesOf}
 use Rattle.wave_lines.specs.inner.Cells.{membersOf, lineIn}
 
 -- no plan has more than 24 waves
@@ -85,7 +85,7 @@ module _ (G : Graph) (s : Slices) (t : Tally) (p : PlanOf G s t) where
 
   -- the banks whose wave cell is c
   members-are : (c : ℕ) → membersOf (s .waves) c (t .banks) ≡ banksOf G c
-  unfolding membersOf banksOf
+  unfolding membersOf banksBy
   members-are c =
       let at : ℕ → Bool = λ b. eqb (getD (s .waves) b 0) c in
       let same : (b : ℕ) → T (memb b (upto (G .banks))) → at b ≡ eqb (wave G b) c =

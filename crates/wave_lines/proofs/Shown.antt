@@ -11,7 +11,7 @@ use lib.ListN.{length, getD, length-map}
 use borrow.Author.Tests.{lt-ltb, le-ltb, eq-eqb, ne-eqb}
 use Rattle.rule.specs.Lists.{upto, filter, memb, Sorted}
 use Rattle.rule.specs.Graph.{Graph, earlierNeighbours}
-use Rattle.rule.specs.Wave.{wave, waveCount}
+use Rattle.rule.specs.Wave.{wave, waveCount, banksBy, banksOf}
 use Rattle.rule.proofs.Booleans.{both, T-along, lt-or-ge, eq→eqb}
 use Rattle.rule.proofs.Lists.{in-head, in-tail, in-cons, in-none, in-upto, upto-below, length-upto, filter-cong, filter-true}
 use Rattle.rule.proofs.Waves.{earlierNeighbours-in}
@@ -20,7 +20,7 @@ use Rattle.rule.proofs.Sorting.{sorted-filter, sorted-upto, memb-upto, memb-fil
 use Rattle.memory.proofs.Fronts.{getD-upto}
 use Rattle.text.specs.Text.{joined}
 use Rattle.text.proofs.Joined.{texts-next}
-use Rattle.wave_lines.specs.Lines.{Line, banksOf, lineOf, linesOf, banksShown, times}
+use Rattle.wave_lines.specs.Lines.{Line, lineOf, linesOf, banksShown, times}
 
 -- the sum of m over the list
 unfoldable pub total : (ℕ → ℕ) → List ℕ → ℕ
@@ -147,19 +147,25 @@ getD-map f none [] i h = absurd (omega arith)
 getD-map f none (x ∷ xs) zero h = refl
 getD-map f none (x ∷ xs) (suc i) h = getD-map f none xs i (omega arith)
 
+-- wave by wave, all of n banks in k waves w
+module _ (w : ℕ → ℕ) (n k : ℕ) (below : (b : ℕ) → b < n → w b < k) where
+  pub total-by : (m : ℕ → ℕ) → total m (joined (map (banksBy w n) (upto k))) ≡ total m (upto n)
+  unfolding banksBy
+  total-by m =
+      let all : filter (λ b. ltb (w b) k) (upto n) ≡ filter (λ b. true) (upto n) =
+      filter-cong (λ b. ltb (w b) k) (λ b. true) (upto n) (λ b t. lt-ltb (w b) k (below b (upto-below n b t))) in
+      by-wave m w (upto n) k ∙ ap (total m) (all ∙ filter-true (upto n))
+
+  pub once-by : (b : ℕ) → times b (joined (map (banksBy w n) (upto k))) ≡ cond (ltb b n) 1 0
+  once-by b = times-is b (joined (map (banksBy w n) (upto k))) ∙ total-by (one b) ∙ upto-once b n
+
 module _ (G : Graph) where
   pub wave-below : (b : ℕ) → b < G .banks → wave G b < waveCount G
   unfolding waveCount most
   wave-below b h = most-above (wave G) (upto (G .banks)) b (in-upto (G .banks) b h)
 
-  -- wave by wave, all banks
   pub shown-total : (m : ℕ → ℕ) → total m (joined (map (banksOf G) (upto (waveCount G)))) ≡ total m (upto (G .banks))
-  unfolding banksOf
-  shown-total m =
-      let k : ℕ = waveCount G in
-      let all : filter (λ b. ltb (wave G b) k) (upto (G .banks)) ≡ filter (λ b. true) (upto (G .banks)) =
-      filter-cong (λ b. ltb (wave G b) k) (λ b. true) (upto (G .banks)) (λ b t. lt-ltb (wave G b) k (wave-below b (upto-below (G .banks) b t))) in
-      by-wave m (wave G) (upto (G .banks)) k ∙ ap (total m) (all ∙ filter-true (upto (G .banks)))
+  shown-total = total-by (wave G) (G .banks) (waveCount G) wave-below
 
   shown-is : banksShown G ≡ joined (map (banksOf G) (upto (waveCount G)))
   unfolding banksShown linesOf
@@ -171,14 +177,14 @@ module _ (G : Graph) where
       total-ones (banksShown G) ∙ ap (total (λ b. 1)) shown-is ∙ shown-total (λ b. 1) ∙ sym (total-ones (upto (G .banks))) ∙ length-upto (G .banks)
 
   pub bank-once : (b : ℕ) → times b (banksShown G) ≡ cond (ltb b (G .banks)) 1 0
-  bank-once b = times-is b (banksShown G) ∙ ap (total (one b)) shown-is ∙ shown-total (one b) ∙ upto-once b (G .banks)
+  bank-once b = ap (times b) shown-is ∙ once-by (wave G) (G .banks) (waveCount G) wave-below b
 
   pub on-line : (b c : ℕ) → memb b (banksOf G c) ≡ (ltb b (G .banks) && eqb (wave G b) c)
-  unfolding banksOf
+  unfolding banksBy
   on-line b c = memb-filter (λ b. eqb (wave G b) c) (upto (G .banks)) b ∙ ap (λ (t : Bool). t && eqb (wave G b) c) (memb-upto (G .banks) b)
 
   pub line-ascends : (c : ℕ) → Sorted ltb (banksOf G c)
-  unfolding banksOf
+  unfolding banksBy
   line-ascends c = sorted-filter ltb (λ b. eqb (wave G b) c) (upto (G .banks)) (sorted-upto (G .banks))
 
   pub count-lines : length (linesOf G) ≡ waveCount G

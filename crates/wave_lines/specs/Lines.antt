@@ -6,7 +6,7 @@ use lib.Dec.{eqb}
 use lib.ListN.{length, getD}
 use Rattle.rule.specs.Lists.{upto, filter}
 use Rattle.rule.specs.Graph.{Graph}
-use Rattle.rule.specs.Wave.{wave, waveCount}
+use Rattle.rule.specs.Wave.{wave, waveCount, banksBy}
 use Rattle.text.specs.Text.{joined}
 
 -- the wave letters: A to Z without I and O
@@ -18,17 +18,20 @@ pub record Line : Type 0 where
   pub letter : ℕ
   pub banks : List ℕ
 
--- the banks of wave c, ascending
-unfoldable pub banksOf : Graph → ℕ → List ℕ
-banksOf G c = filter (λ b. eqb (wave G b) c) (upto (G .banks))
-
 -- the line of wave c
-abbrev pub lineOf : Graph → ℕ → Line
-lineOf G c = record { letter = getD letters c 0; banks = banksOf G c }
+abbrev pub lineBy : (ℕ → ℕ) → ℕ → ℕ → Line
+lineBy w n c = record { letter = getD letters c 0; banks = banksBy w n c }
 
--- a line for each wave from 0
+-- a line for each of k waves from 0
+abbrev pub linesBy : (ℕ → ℕ) → ℕ → ℕ → List Line
+linesBy w n k = map (lineBy w n) (upto k)
+
+-- those of a plan: its waves are the rule's
+abbrev pub lineOf : Graph → ℕ → Line
+lineOf G c = lineBy (wave G) (G .banks) c
+
 unfoldable pub linesOf : Graph → List Line
-linesOf G = map (lineOf G) (upto (waveCount G))
+linesOf G = linesBy (wave G) (G .banks) (waveCount G)
 
 -- the banks on the lines, in the order in which they stand there
 unfoldable pub banksShown : Graph → List ℕ

@@ -16,9 +16,11 @@
 //! - `sheet`, `poster`: their texts, the calls that write them, and the outputs of the programs.
 //! - `crew`: the day as a crew serves it, the calls on it, and the output of the program.
 //! - `doubt`: the output of the program.
-//! - `random`, `ranks`, `lists`, `journals`: inputs for the tests.
+//! - `check_sheet`: sheets from anybody, the call that checks one, and the output of the program *agree*.
+//! - `random`, `ranks`, `lists`, `journals`, `sheets`: inputs for the tests.
 
 pub mod calls;
+pub mod check_sheet;
 pub mod crew;
 pub mod doubt;
 pub mod graph;
@@ -34,4 +36,5 @@ pub mod ranks;
 pub mod reach;
 pub mod refusals;
 pub mod sheet;
+pub mod sheets;
 pub mod shelf;

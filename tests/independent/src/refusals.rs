@@ -27,6 +27,9 @@ pub const D_RETIRED: u16 = 23;
 pub const CREW_OUT_OF_SPAN: u16 = 24;
 pub const NO_CREW: u16 = 25;
 
+pub const NO_SHEET: u16 = 26;
+pub const SHEET_CLASH: u16 = 27;
+
 /// A question: the given number if the answer is no.
 pub fn ask(yes: bool, number: u16) -> Result<(), u16> {
     if yes {

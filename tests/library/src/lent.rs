@@ -160,6 +160,13 @@ impl Lent<'_> {
             self.neighbours, self.degrees, self.waves, self.counts, self.ranks, self.moved, self.tally,
             const shelf, const name, self.result;))
     }
+
+    /// Check a sheet from anybody. Results: the line at fault, and the two banks that clash in one wave.
+    pub fn check_sheet(&mut self, sheet: &[u8]) -> u16 {
+        call!(wave_plan_check_sheet(
+            self.neighbours, self.degrees, self.waves, self.counts, self.ranks, self.tally, self.result,
+            const sheet;))
+    }
 }
 
 /// Open a shelf for plans of n banks.

@@ -20,5 +20,5 @@ mod raw;
 mod shelf;
 
 pub use lent::{open_shelf, Lent};
-pub use plan::{Bank, Day, Edit, Plan, Refused, Wave};
+pub use plan::{Bank, Day, Edit, Plan, Refused, Wave, WrongSheet};
 pub use shelf::{Name, Shelf};

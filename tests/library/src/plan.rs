@@ -33,6 +33,19 @@ pub struct Day {
     pub total: u16,
 }
 
+/// What is wrong with a sheet from anybody.
+#[derive(Clone, Copy, Debug, PartialEq, Eq)]
+pub enum WrongSheet {
+    /// The bytes are no sheet of the plan (26): the first line at fault, from 1.
+    NoSheet { line: u16 },
+    /// Two banks that clash stand in one wave (27).
+    Clash(Bank, Bank),
+    /// It has more waves than the plan (27).
+    ManyWaves,
+    /// The call was refused before the sheet was read.
+    Refused(Refused),
+}
+
 /// The most banks of a plan.
 pub(crate) const MAX_BANKS: u16 = 1024;
 
@@ -232,6 +245,19 @@ impl Plan {
         answer(self.lent().come_back(&shelf.cells, name.bytes()))?;
         let moved = usize::from(self.result[0]);
         Ok(banks(&self.moved[..moved]))
+    }
+
+    /// Checks a sheet from anybody: some waves of this plan's banks, no more than the plan's, that keep clashing
+    /// banks apart.
+    pub fn check_sheet(&mut self, sheet: &[u8]) -> Result<(), WrongSheet> {
+        let number = self.lent().check_sheet(sheet);
+        let [line, first, second] = self.result;
+        match number {
+            26 => Err(WrongSheet::NoSheet { line }),
+            27 if first == second => Err(WrongSheet::ManyWaves),
+            27 => Err(WrongSheet::Clash(Bank(first), Bank(second))),
+            _ => answer(number).map_err(WrongSheet::Refused),
+        }
     }
 
     /// Memory for a plan of n banks, all cells 0.

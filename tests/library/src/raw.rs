@@ -388,4 +388,23 @@ extern "C" {
         result: *mut u16,
         result_length: usize,
     ) -> u16;
+
+    pub fn wave_plan_check_sheet(
+        neighbours: *const u16,
+        neighbours_length: usize,
+        degrees: *const u16,
+        degrees_length: usize,
+        waves: *const u16,
+        waves_length: usize,
+        counts: *const u16,
+        counts_length: usize,
+        ranks: *const u16,
+        ranks_length: usize,
+        tally: *const u16,
+        tally_length: usize,
+        result: *mut u16,
+        result_length: usize,
+        sheet: *const u8,
+        sheet_length: usize,
+    ) -> u16;
 }

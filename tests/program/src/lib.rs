@@ -1,4 +1,5 @@
-//! Runs the programs *sheet*, *poster*, *doubt* and *crew* on a list and judges what they print.
+//! Runs the programs *sheet*, *poster*, *doubt* and *crew* on a list, and *agree* on a list and a sheet, and judges
+//! what they print.
 //!
 //! - `run`: starts a program.
 //! - `read_back`: reads the waves and the foot off a printed sheet or poster and holds them against
@@ -8,7 +9,7 @@ pub mod read_back;
 pub mod run;
 
 use independent::crew::{self, Asked};
-use independent::{doubt, poster, sheet};
+use independent::{check_sheet, doubt, poster, sheet};
 
 /// The program *sheet* prints for this list what the model does; a sheet also follows the rule and adds up.
 pub fn agrees_with_model(list: &[u8]) {
@@ -45,6 +46,16 @@ pub fn crew_agrees_with_model(list: &[u8], asked: Asked) {
     };
     same(list, &told.output, &crew::program_output(list, asked));
     assert!(told.errors.is_empty());
+}
+
+/// The program *agree* prints for this list and this sheet what the model does: the answer.
+pub fn agree_agrees_with_model(list: &[u8], sheet: &[u8]) -> Vec<u8> {
+    let told = run::agree_on(list, sheet);
+    let about = [list, b" and ", sheet].concat();
+    let wanted = check_sheet::program_output(list, sheet);
+    same(&about, &told.output, &wanted);
+    assert!(told.errors.is_empty());
+    told.output
 }
 
 fn same(list: &[u8], printed: &[u8], wanted: &[u8]) {

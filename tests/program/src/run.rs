@@ -1,9 +1,10 @@
-//! Starts a program with a list on its standard input.
+//! Starts a program with a list on its standard input, or with files.
 
-use std::env;
 use std::io::{ErrorKind, Write};
 use std::path::{Path, PathBuf};
-use std::process::{Command, Stdio};
+use std::process::{self, Command, Stdio};
+use std::sync::atomic::{AtomicUsize, Ordering};
+use std::{env, fs};
 
 /// A program under test: the path in the variable, or the one that the build leaves.
 fn path(variable: &str, name: &str) -> PathBuf {
@@ -33,6 +34,47 @@ pub fn doubt_program(list: &[u8], arguments: &[&str]) -> Told {
 /// What the program *crew* tells for a list and arguments.
 pub fn crew_program(list: &[u8], arguments: &[&str]) -> Told {
     told(&path("CREW_PROGRAM", "crew"), list, arguments)
+}
+
+/// What the program *agree* tells for arguments.
+pub fn agree_program(arguments: &[&str]) -> Told {
+    told(&path("AGREE_PROGRAM", "agree"), b"", arguments)
+}
+
+/// What the program *agree* tells for a file that holds a list and one that holds a sheet.
+pub fn agree_on(list: &[u8], sheet: &[u8]) -> Told {
+    let folder = Folder::new();
+    let (list, sheet) = (folder.file("list", list), folder.file("sheet", sheet));
+    agree_program(&[&list, &sheet])
+}
+
+/// A folder for files of one test, which goes with it.
+pub struct Folder(PathBuf);
+
+impl Folder {
+    pub fn new() -> Folder {
+        static FOLDERS: AtomicUsize = AtomicUsize::new(0);
+        let number = FOLDERS.fetch_add(1, Ordering::Relaxed);
+        let folder = env::temp_dir().join(format!("wave_plan_{}_{number}", process::id()));
+        fs::create_dir(&folder).expect("a new folder");
+        Folder(folder)
+    }
+
+    /// A file in the folder that holds these bytes: its path.
+    pub fn file(&self, name: &str, bytes: &[u8]) -> String {
+        let path = self.0.join(name);
+        fs::write(&path, bytes).expect("a new file");
+        path.into_os_string()
+            .into_string()
+            .expect("a path in UTF-8")
+    }
+}
+
+impl Drop for Folder {
+    fn drop(&mut self) {
+        // Where it cannot be removed, it stays.
+        let _ = fs::remove_dir_all(&self.0);
+    }
 }
 
 /// What a program writes to standard output and to standard error.

@@ -34,3 +34,28 @@ fn posters_beside_their_lists() {
         assert_eq!(run::poster_program(&list), poster);
     }
 }
+
+/// The sheets of README.md for six banks: the planner's, a dispatcher's, and two that are refused.
+#[test]
+fn sheets_drawn_up_by_a_dispatcher() {
+    for (list, drawn) in lists_with("drawn") {
+        let own = run::agree_on(&list, &run::sheet_program(&list)).output;
+        assert_eq!(own, b"ACCEPTED\nthe planner's own sheet\n");
+        let other = run::agree_on(&list, &drawn).output;
+        assert_eq!(other, b"ACCEPTED\nnot the planner's own sheet\n");
+        let drawn = String::from_utf8(drawn).expect("ASCII");
+        for (from, to, wanted) in [
+            (
+                "0 3 5\nB 1 2 4",
+                "0 3\nB 1 2 4 5",
+                "REFUSED 27 banks 1 and 5 clash in wave B\n",
+            ),
+            ("TOTAL 6 5", "TOTAL 6 6", "REFUSED 26 line 4\n"),
+        ] {
+            let changed = drawn.replace(from, to);
+            assert_ne!(changed, drawn);
+            let told = run::agree_on(&list, changed.as_bytes()).output;
+            assert_eq!(told, wanted.as_bytes());
+        }
+    }
+}

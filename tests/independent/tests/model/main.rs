@@ -3,6 +3,7 @@
 mod bounds;
 mod by_rule;
 mod caps;
+mod check_sheet;
 mod crew;
 mod journal;
 mod journal_numbers;

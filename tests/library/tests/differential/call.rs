@@ -13,7 +13,7 @@ use std::fmt;
 
 /// A call with its arguments; a sheet's and a poster's is the length of its output, and a journal is the
 /// slice that is lent, which may be longer than the journal. Crew steps has the cells that are lent for the
-/// steps. Keeping and coming back have a name.
+/// steps. Keeping and coming back have a name, checking a sheet its bytes.
 #[derive(Clone)]
 pub enum Call {
     Open(u16),
@@ -35,6 +35,7 @@ pub enum Call {
     OpenShelf(u16),
     Keep(Vec<u8>),
     ComeBack(Vec<u8>),
+    CheckSheet(Vec<u8>),
 }
 
 /// The call for a message; a list or a journal is cut short.
@@ -71,6 +72,11 @@ impl fmt::Display for Call {
             Call::OpenShelf(n) => write!(f, "shelf for {n}"),
             Call::Keep(name) => write!(f, "keep {}", name.escape_ascii()),
             Call::ComeBack(name) => write!(f, "come back to {}", name.escape_ascii()),
+            Call::CheckSheet(sheet) => {
+                let front = &sheet[..sheet.len().min(80)];
+                let length = sheet.len();
+                write!(f, "check a sheet of {length}, {}", front.escape_ascii())
+            }
         }
     }
 }
@@ -175,6 +181,11 @@ impl Call {
                 let answer = model.come_back(shelf, name);
                 (answer.number, vec![answer.moved])
             }
+            Call::CheckSheet(sheet) => {
+                let answer = model.check_sheet(sheet);
+                let results = vec![answer.line, answer.first, answer.second];
+                (answer.number, results)
+            }
         };
         Answer {
             number,
@@ -210,6 +221,7 @@ impl Call {
             Call::OpenShelf(n) => open_shelf(shelf, *n),
             Call::Keep(name) => lent.keep(shelf, padded(name).content()),
             Call::ComeBack(name) => lent.come_back(shelf, padded(name).content()),
+            Call::CheckSheet(sheet) => lent.check_sheet(ended(sheet).content()),
         }
     }
 }
@@ -227,6 +239,11 @@ impl Answer {
             _ => self.number != ACCEPTED,
         }
     }
+}
+
+/// The sheet between line feeds that are not lent: read beyond its end, one that ends too early would be whole.
+fn ended(sheet: &[u8]) -> Guarded<u8> {
+    Guarded::new(sheet, b'\n')
 }
 
 /// The name between spaces that are not lent: read beyond its end, a short name would be known.

@@ -11,7 +11,7 @@ use independent::random::Random;
 use independent::reach::Edit;
 
 /// How many calls got each number.
-type Numbers = [usize; 26];
+type Numbers = [usize; 28];
 
 #[test]
 fn calls_on_damaged_plans() {
@@ -72,6 +72,7 @@ fn each_damage_is_seen_by_each_call() {
                 Call::WritePoster(8200),
                 Call::Keep(b"NOON    ".to_vec()),
                 Call::ComeBack(b"CLOSE   ".to_vec()),
+                Call::CheckSheet(own_sheet(&whole)),
             ] {
                 Pair::with_shelf(memory.clone(), shelf.clone(), random.draw()).call(&call);
             }
@@ -169,7 +170,7 @@ fn any_call(random: &mut Random, memory: &Memory) -> Call {
         _ => random.below(n.max(1)) as u16,
     };
     let (a, b) = (any(random), any(random));
-    match random.below(42) {
+    match random.below(45) {
         0 => Call::Open(a),
         1 => Call::ReadList(any_list(random, a)),
         2..=9 => Call::Add(a, b),
@@ -191,12 +192,21 @@ fn any_call(random: &mut Random, memory: &Memory) -> Call {
             Call::CrewSteps(random.below(67) as u16, vec![b; cells])
         }
         37 => Call::LeastCrew(*random.pick(&[0, 1, a, b, 1024, 1025])),
+        38..=40 => Call::CheckSheet(own_sheet(memory)),
         _ => {
             let enough = sheet_length(memory) + 2;
             let any = random.below(enough);
             Call::WriteSheet(*random.pick(&[any, enough, 5000]))
         }
     }
+}
+
+/// The sheet of memory that holds a plan, or nothing.
+fn own_sheet(memory: &Memory) -> Vec<u8> {
+    let mut sheet = vec![0; 5000];
+    let length = memory.write_sheet(&mut sheet).length;
+    sheet.truncate(length);
+    sheet
 }
 
 /// An edit of two banks: an add if the first is smaller, else a strike.

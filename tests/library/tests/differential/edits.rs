@@ -9,6 +9,8 @@ use crate::plans::{sheet_length, slices, store, SLICES};
 use crate::{quick, rounds};
 use independent::plan::MAX_DEGREE;
 use independent::random::Random;
+use independent::sheet::sheet_text;
+use independent::sheets::other_waves;
 
 /// What came up in a number of sequences.
 #[derive(Debug, Default)]
@@ -253,6 +255,11 @@ fn question(random: &mut Random, pair: &mut Pair) {
     pair.call(&Call::WaveByRule(b));
     pair.call(&Call::CrewSteps(random.below(66) as u16, vec![b; n]));
     pair.call(&Call::LeastCrew(random.below(n + 2) as u16));
+    if let Some(graph) = pair.model.held_graph().filter(|_| random.one_in(4)) {
+        let waves = other_waves(random, &graph);
+        let sheet = sheet_text(&waves, graph.clashes());
+        pair.call(&Call::CheckSheet(sheet.into_bytes()));
+    }
     let call = match random.below(3) {
         0 => Call::WaveOf(b),
         1 => Call::ClashesOf(b),

@@ -11,6 +11,7 @@
 //! - `crews`: each bank's step with so many couriers, and the least crew.
 //! - `damage`, `damaged`: memory that holds no plan or is too short, and the calls on it.
 //! - `lists`, `sheets`, `posters`: reading lists, writing sheets and posters.
+//! - `check_sheets`: checking sheets from anybody.
 //! - `journals`, `replays`: starting journals and recording edits; replaying journals.
 //! - `shelves`, `kept`: sequences of keepings and returns; shelves that are damaged or too short.
 //! - `totals`: runs of all calls with a total kept beside them.
@@ -24,6 +25,7 @@ mod bounds;
 mod by_rule;
 mod call;
 mod caps;
+mod check_sheets;
 mod crews;
 mod damage;
 mod damaged;

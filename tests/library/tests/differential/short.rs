@@ -70,6 +70,11 @@ fn short_tally_or_result() {
         (Call::ComeBack(b"NOON    ".to_vec()), 1),
         (Call::ComeBack(b"CLOSE   ".to_vec()), 1),
         (Call::ComeBack(b"noon    ".to_vec()), 1),
+        (Call::CheckSheet(b"".to_vec()), 3),
+        (
+            Call::CheckSheet(b"WAVES 2\nA 1 3\nB 0 2\nTOTAL 4 2\n".to_vec()),
+            3,
+        ),
     ];
     for memory in [&whole, &too_many_banks, &no_plan, &no_room] {
         for (call, results) in &calls {
@@ -118,6 +123,7 @@ fn ranks_a_cell_short() {
             (Call::Replay(journal), 0),
             (Call::Keep(b"CLOSE   ".to_vec()), 0),
             (Call::ComeBack(b"NOON    ".to_vec()), 0),
+            (Call::CheckSheet(b"".to_vec()), 26),
         ] {
             for short in [true, false] {
                 let mut memory = whole.clone();

@@ -3,14 +3,14 @@ use borrow.Author.Needs.{needs}
 use Prim.Native.Nat.{_-_, _≤_}
 use mathlib.Core.Path.{_≡_}
 use lib.ListN.{length}
-use Rattle.list_program.proofs.input.read_input.Statement.{statement}
-use Rattle.list_program.proofs.input.read_input.Tie as tie
+use Rattle.list_program.proofs.input.read_from.Statement.{statement}
+use Rattle.list_program.proofs.input.read_from.Tie as tie
 
 abbrev Inv-loop : tie.InvT-loop
-Inv-loop list₀ at₀ list at = (at ≤ length list) × (length list ≡ length list₀)
+Inv-loop fd list₀ at₀ list at = (at ≤ length list) × (length list ≡ length list₀)
 
 abbrev μ-loop : tie.MeasureT-loop
-μ-loop list₀ at₀ list at = length list - at
+μ-loop fd list₀ at₀ list at = length list - at
 
 loop-holds : tie.Need-loop-holds Inv-loop μ-loop
 loop-holds c = search needs
@@ -39,8 +39,8 @@ same-length-2 c = search needs
 returns-2 : tie.Need-returns-2 Inv-loop μ-loop
 returns-2 c = search needs
 
-pub read-input-spec : {M : Type 1} → statement M
-read-input-spec =
+pub read-from-spec : {M : Type 1} → statement M
+read-from-spec =
     tie.close
     (tie.spec
     Inv-loop

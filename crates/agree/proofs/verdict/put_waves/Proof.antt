@@ -1,0 +1,46 @@
+-- One bank: too many waves. Two: the wave of the first one.
+use borrow.Author.Needs.{needs}
+use native.Mathlib.Omega.{arith}
+use Rattle.agree.proofs.Verdicts.{waves-many, waves-clash, as-text}
+use Rattle.agree.proofs.verdict.put_waves.Statement.{statement}
+use Rattle.agree.proofs.verdict.put_waves.Tie as tie
+
+put-many-requires : tie.Need-put-many-requires
+put-many-requires c κs = search needs
+
+same-length : tie.Need-same-length
+same-length c = search needs
+
+returns : tie.Need-returns
+returns c =
+    let put = c .before .before .put-many .ensures in
+    (as-text (waves-many _ _ _ _ (c .before .before .before .before .if1 .taken)) (put .0), put .1)
+
+wave-on-requires : tie.Need-wave-on-requires
+wave-on-requires c κs =
+    let pre = c .before .before .before .before .before .pre in
+    (pre .1 .0 .0, pre .1 .1 (c .if1 .left), pre .1 .0 .1)
+
+put-clash-requires : tie.Need-put-clash-requires
+put-clash-requires c κs = search needs
+
+same-length-2 : tie.Need-same-length-2
+same-length-2 c = search needs
+
+returns-2 : tie.Need-returns-2
+returns-2 c =
+    let put = c .before .before .put-clash .ensures in
+    let named = rw (c .before .before .before .before .wave-on .ensures .0) at (put .0) in
+    (as-text (waves-clash _ _ _ _ (c .before .before .before .before .before .if1 .left)) named, put .1)
+
+pub put-waves-spec : {M : Type 1} → statement M
+put-waves-spec =
+    tie.close
+    (tie.spec
+    put-many-requires
+    same-length
+    returns
+    wave-on-requires
+    put-clash-requires
+    same-length-2
+    returns-2)

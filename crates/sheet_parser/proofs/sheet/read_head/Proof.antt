@@ -1,0 +1,64 @@
+-- `read_head` meets its contract: the word, the number of waves, the line feed.
+use Rattle.sheet_parser.proofs.Sheets.{no-word, no-count, many-waves, no-feed, head-read}
+use Rattle.memory.proofs.Tested.{granted, denied}
+use borrow.Author.Tests.{not-true, not-false}
+use borrow.Author.Needs.{needs}
+use native.Mathlib.Omega.{arith}
+use Rattle.sheet_parser.proofs.sheet.read_head.Statement.{statement}
+use Rattle.sheet_parser.proofs.sheet.read_head.Tie as tie
+
+slice-aggregate-text-at : tie.Need-slice-aggregate-text-at
+slice-aggregate-text-at c = search needs
+
+text-at-requires : tie.Need-text-at-requires
+text-at-requires c κs = search needs
+
+returns : tie.Need-returns
+returns c = no-word (denied _ (c .before .text-at .result) (c .before .text-at .ensures) (c .if1 .taken))
+
+read-number-requires : tie.Need-read-number-requires
+read-number-requires c κs = search needs
+
+returns-2 : tie.Need-returns-2
+returns-2 c = no-count (c .before .before .read-number .ensures .none (not-true _ (c .if2 .taken)))
+
+returns-3 : tie.Need-returns-3
+returns-3 c = many-waves (c .before .before .before .before .read-number .ensures .some (not-false _ (c .before .before .if2 .left))) (c .if3 .taken)
+
+byte-at-requires : tie.Need-byte-at-requires
+byte-at-requires c κs = search needs
+
+returns-4 : tie.Need-returns-4
+returns-4 c =
+    let test = c .before .before .before .before in
+    no-feed (test .before .before .read-number .ensures .some (not-false _ (test .if2 .left))) (denied _ (c .before .byte-at .result) (c .before .byte-at .ensures) (c .if4 .taken))
+
+add-t8 : tie.Need-add-t8
+add-t8 c = let feed = granted _ (c .before .before .byte-at .result) (c .before .before .byte-at .ensures) (c .before .if4 .left) in omega (arith, feed .inside)
+
+returns-5 : tie.Need-returns-5
+returns-5 c =
+    let feeds = c .before .before in
+    let most = feeds .before in
+    let counts = most .before .before in
+    let number = counts .before .before in
+    let begins = number .before in
+    let count = number .read-number .ensures .some (not-false _ (counts .if2 .left)) in
+    let word = granted _ (begins .before .text-at .result) (begins .before .text-at .ensures) (begins .if1 .left) in
+    let feed = granted _ (feeds .byte-at .result) (feeds .byte-at .ensures) (c .before .if4 .left) in
+    head-read count word (most .if3 .left) feed
+
+pub read-head-spec : {M : Type 1} → statement M
+read-head-spec =
+    tie.close
+    (tie.spec
+    slice-aggregate-text-at
+    text-at-requires
+    returns
+    read-number-requires
+    returns-2
+    returns-3
+    byte-at-requires
+    returns-4
+    add-t8
+    returns-5)

@@ -1,0 +1,3 @@
+-- What functions below the public call promise each other.
+pub mod Numbers
+pub mod Lines

@@ -1,0 +1,2 @@
+-- What functions below the public call promise each other.
+pub mod Rows
