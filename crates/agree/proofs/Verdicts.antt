@@ -128,9 +128,9 @@ module _ {n m : ℕ} {bytes : List ℕ} (sheet : isSheet n m bytes ≡ true) whe
 
 -- the lines by the number
 module _ (s : Slices) (t : Tally) (bytes : List ℕ) (v : Verdict) where
-  pub text-accepted : v .number ≡ 0 → acceptedText (isOwn s t bytes) ≡ verdictText s t bytes v
+  pub text-accepted : {own : Bool} → own ≡ isOwn s t bytes → v .number ≡ 0 → acceptedText own ≡ verdictText s t bytes v
   unfolding verdictText
-  text-accepted e = rw e
+  text-accepted is e = ap acceptedText is ∙ rw e
 
   pub text-no-sheet : v .number ≡ 26 → noSheetText (v .line) ≡ verdictText s t bytes v
   unfolding verdictText
@@ -159,9 +159,9 @@ pub waves-many : (a b w k : ℕ) → a ≡ b → manyText k ≡ wavesText a b w 
 unfolding wavesText
 waves-many a b w k e = rw (eq-eqb a b e)
 
-pub waves-clash : (a b w k : ℕ) → (a ≡ b → ⊥) → clashText a b w ≡ wavesText a b w k
+pub waves-clash : (a b w k : ℕ) {c : ℕ} → c ≡ w → (a ≡ b → ⊥) → clashText a b c ≡ wavesText a b w k
 unfolding wavesText
-waves-clash a b w k n = rw (ne-eqb a b n)
+waves-clash a b w k e n = ap (clashText a b) e ∙ rw (ne-eqb a b n)
 
 -- the same text
 pub as-text : {text text′ out out′ : List ℕ} {r : ℕ} → text ≡ text′ → Puts text 0 out r out′ → Puts text′ 0 out r out′

@@ -23,7 +23,8 @@ returns c =
     let start = c .before .before .before .before .before .before .before .before .before .before .before .before .before .before in
     let check = c .before .before .before .before .before .before .check-sheet in
     let put = c .before .before .put-accepted in
-    let lines = as-text (text-accepted _ _ _ _ (c .before .before .before .before .before .if1 .taken)) (rw (c .before .before .before .before .is-own .ensures) at (put .ensures .0)) in
+    let own = c .before .before .before .before .is-own .ensures in
+    let lines = as-text (text-accepted _ _ _ _ own (c .before .before .before .before .before .if1 .taken)) (put .ensures .0) in
     (record { verdict = check .result; is = check .ensures; text = lines }, omega (arith, start .pre, put .kept .0, put .ensures .1))
 
 put-no-sheet-requires : tie.Need-put-no-sheet-requires

@@ -30,8 +30,8 @@ same-length-2 c = search needs
 returns-2 : tie.Need-returns-2
 returns-2 c =
     let put = c .before .before .put-clash .ensures in
-    let named = rw (c .before .before .before .before .wave-on .ensures .0) at (put .0) in
-    (as-text (waves-clash _ _ _ _ (c .before .before .before .before .before .if1 .left)) named, put .1)
+    let wave = c .before .before .before .before .wave-on .ensures .0 in
+    (as-text (waves-clash _ _ _ _ wave (c .before .before .before .before .before .if1 .left)) (put .0), put .1)
 
 pub put-waves-spec : {M : Type 1} → statement M
 put-waves-spec =
