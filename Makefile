@@ -6,7 +6,7 @@
 # make papers           docs, header and README against the sources, in seconds
 # make quick            the tests alone, over the programs and the library as they are built
 # make test             every proof, every must-fail edit, every test: the gate
-# make bench            times against colouring from scratch, into docs/BENCHMARKS.md
+# make bench            times against colouring from scratch, in Rust, C++ and Python, into docs/BENCHMARKS.md (BENCH=quick: a few repeats, into target/bench)
 # make fmt              the layout of all sources
 .PHONY: run poster lib dev check papers quick test bench fmt
 .SILENT: run poster dev check papers quick test
@@ -52,7 +52,8 @@ bench:
 	rt check sheet
 	rt staticlib wave_plan
 	rt staticlib bench_edit
-	cd bench && cargo run --release
+	bench/peers/build
+	cd bench && cargo run --release -- $(BENCH)
 
 fmt:
 	rt fmt

@@ -2,7 +2,7 @@
 //! repeat.
 
 use crate::clock::processor_time;
-use crate::edits::REPEATS;
+use crate::effort::Effort;
 use crate::library::{Memory, CHECKED};
 
 /// The bank counts, up to the most that are read so.
@@ -18,7 +18,7 @@ pub struct Measured {
     pub kept: Vec<f64>,
 }
 
-pub fn measure(banks: usize) -> Measured {
+pub fn measure(effort: &Effort, banks: usize) -> Measured {
     let mut memory = complete(banks);
     let last = banks as u16 - 1;
     let mut measured = Measured {
@@ -26,7 +26,7 @@ pub fn measure(banks: usize) -> Measured {
         straight: Vec::new(),
         kept: Vec::new(),
     };
-    for _ in 0..REPEATS {
+    for _ in 0..effort.repeats {
         let straight = timed(|| assert_eq!(memory.wave_by_rule(last), last));
         let kept = timed(|| assert_eq!(memory.wave_of(last), last));
         measured.straight.push(straight);

@@ -1,6 +1,5 @@
 //! Clashes as rows of neighbours, and random edits of them.
 
-use crate::BANKS;
 use independent::random::Random;
 
 /// An edit of two banks.
@@ -19,23 +18,24 @@ impl Edit {
     }
 }
 
-/// Clashes on 1,024 banks, as rows and degrees like those of plan memory.
+/// Clashes as rows and degrees like those of plan memory.
 pub struct Clashes {
     pub neighbours: Vec<u16>,
     pub degrees: Vec<u16>,
 }
 
 impl Clashes {
-    pub fn none() -> Clashes {
+    /// None, on so many banks.
+    pub fn none(banks: usize) -> Clashes {
         Clashes {
-            neighbours: vec![65_535; 23 * BANKS],
-            degrees: vec![0; BANKS],
+            neighbours: vec![65_535; 23 * banks],
+            degrees: vec![0; banks],
         }
     }
 
     /// So many random clashes.
-    pub fn drawn(random: &mut Random, clashes: usize) -> Clashes {
-        let mut drawn = Clashes::none();
+    pub fn drawn(random: &mut Random, banks: usize, clashes: usize) -> Clashes {
+        let mut drawn = Clashes::none(banks);
         for _ in 0..clashes {
             let edit = drawn.random_add(random);
             drawn.make(edit);
@@ -43,11 +43,22 @@ impl Clashes {
         drawn
     }
 
+    pub fn banks(&self) -> usize {
+        self.degrees.len()
+    }
+
+    /// How many clashes there are.
+    pub fn count(&self) -> usize {
+        let ends: usize = self.degrees.iter().map(|&d| usize::from(d)).sum();
+        ends / 2
+    }
+
     /// A random add to which no refusal is due.
     pub fn random_add(&self, random: &mut Random) -> Edit {
         let room = |b: u16| self.degrees[usize::from(b)] < 23;
         loop {
-            let (a, b) = (random.below(BANKS) as u16, random.below(BANKS) as u16);
+            let a = random.below(self.banks()) as u16;
+            let b = random.below(self.banks()) as u16;
             if a != b && room(a) && room(b) && !self.row(a).contains(&b) {
                 return Edit::Add(a, b);
             }
@@ -57,7 +68,7 @@ impl Clashes {
     /// A random strike to which no refusal is due; there is a clash.
     pub fn random_strike(&self, random: &mut Random) -> Edit {
         loop {
-            let b = random.below(BANKS) as u16;
+            let b = random.below(self.banks()) as u16;
             if let Some(&q) = self.row(b).get(random.below(23)) {
                 return Edit::Strike(b, q);
             }
@@ -67,7 +78,7 @@ impl Clashes {
     /// All clashes, smaller bank first.
     pub fn pairs(&self) -> impl Iterator<Item = (u16, u16)> + '_ {
         let above = move |b: u16| self.row(b).iter().filter(move |&&q| b < q);
-        (0..BANKS as u16).flat_map(move |b| above(b).map(move |&q| (b, q)))
+        (0..self.banks() as u16).flat_map(move |b| above(b).map(move |&q| (b, q)))
     }
 
     /// Makes an edit to which no refusal is due.
@@ -82,6 +93,14 @@ impl Clashes {
                 self.remove(b, a);
             }
         }
+    }
+
+    /// The strikes of all clashes of b, lowest neighbour first, made.
+    pub fn strike_all(&mut self, b: u16) -> Vec<Edit> {
+        let strike = |&q: &u16| Edit::Strike(b, q);
+        let strikes: Vec<Edit> = self.row(b).iter().map(strike).collect();
+        strikes.iter().for_each(|&edit| self.make(edit));
+        strikes
     }
 
     /// The neighbours of b, ascending.

@@ -26,3 +26,10 @@ pub fn processor_time() -> f64 {
     assert_eq!(failed, 0);
     time.seconds as f64 + time.nanoseconds as f64 * 1e-9
 }
+
+/// The processor time of a batch of so many calls, per call.
+pub fn timed(calls: usize, batch: impl FnOnce()) -> f64 {
+    let start = processor_time();
+    batch();
+    (processor_time() - start) / calls as f64
+}

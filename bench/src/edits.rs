@@ -1,45 +1,35 @@
-//! The measurements on one plan of 1,024 banks: core edits, checked edits, question 5, with all ranks 0
-//! and with random ranks, checked edits under caps, and colourings from scratch, in turn, repeat by
-//! repeat.
+//! The measurements on one plan of 1,024 banks, with all ranks 0 and with random ranks: core edits,
+//! checked edits, question 5, one read of all cells, and colourings from scratch; and checked edits
+//! under caps, with all ranks 0. In turn, repeat by repeat.
 
 use crate::clashes::{Clashes, Edit};
-use crate::clock::processor_time;
+use crate::clock::timed;
+use crate::effort::Effort;
 use crate::library::{EditCalls, Memory, CHECKED, CORE};
 use crate::scratch::Colouring;
-use crate::BANKS;
+use crate::{random_ranks_of, BANKS};
 use independent::random::Random;
-use independent::ranks::random_ranks;
-
-/// How often everything is measured.
-pub const REPEATS: usize = 25;
-
-/// The edits of one batch: half of them, adds and strikes in turn, and then their inverses in
-/// reverse, so that a batch ends in the plan that it started from.
-pub const EDITS: usize = 1000;
-
-/// The question-5 tests of one batch, and the colourings of one batch.
-const TESTS: usize = 200;
+use std::ptr;
 
 /// The cap that no plan passes.
 const MOST_CAP: u16 = 24;
 
-/// How many edits that pass the plan's waves are looked for, and among how many random ones at most.
+/// How many edits that pass the plan's waves are looked for.
 const PASSING: usize = 100;
-const TRIES: usize = 100_000;
 
-/// What was measured on one plan, with all ranks 0 and with random ranks. Times are processor times of
-/// one call, in seconds, by repeat.
+/// What was measured on one plan.
 pub struct Measured {
     pub clashes: usize,
+    pub ranks_0: OnPlan,
+    pub ranked: OnPlan,
+    pub caps: Caps,
+}
+
+/// With all ranks 0, or with random ranks.
+pub struct OnPlan {
     pub waves: u16,
     pub reach: Reach,
     pub times: Times,
-    pub ranked_reach: Reach,
-    pub ranked: Times,
-    pub caps: Caps,
-    pub counting_sort: Vec<f64>,
-    pub standard_sort: Vec<f64>,
-    pub whole_plan: Vec<f64>,
 }
 
 /// The reach of the edits of a batch.
@@ -51,12 +41,17 @@ pub struct Reach {
     pub most_waves: u16,
 }
 
-/// The times of the library's calls.
+/// Processor times of one call, in seconds, by repeat.
 #[derive(Default)]
 pub struct Times {
     pub core: Vec<f64>,
     pub checked: Vec<f64>,
     pub question: Vec<f64>,
+    /// One read of all cells of the plan.
+    pub read: Vec<f64>,
+    pub counting_sort: Vec<f64>,
+    pub standard_sort: Vec<f64>,
+    pub whole_plan: Vec<f64>,
 }
 
 /// Checked edits under caps. Refused are edits that lead to more waves than the plan has; they are
@@ -85,45 +80,28 @@ impl Measured {
 }
 
 /// Measures on a random plan of so many clashes.
-pub fn measure(clashes: usize) -> Measured {
+pub fn measure(effort: &Effort, clashes: usize) -> Measured {
     let mut random = Random::new(clashes as u64);
-    let mut drawn = Clashes::drawn(&mut random, clashes);
-    let edits = batch(&mut random, &mut drawn);
-    let ranks: Vec<u16> = random_ranks(&mut random, BANKS)
-        .into_iter()
-        .map(|rank| rank as u16)
-        .collect();
+    let mut drawn = Clashes::drawn(&mut random, BANKS, clashes);
+    let edits = batch(&mut random, &mut drawn, effort.edits);
+    let ranks = random_ranks_of(&mut random, BANKS);
     let mut plan = Subject::new(&drawn, &[0; BANKS], &edits);
     let mut ranked = Subject::new(&drawn, &ranks, &edits);
-    let mut caps = Caps::new(&mut random, &drawn, &mut plan);
-    let mut colouring = Colouring::new();
-    let [mut counting_sort, mut standard_sort, mut whole_plan] = [(); 3].map(|()| Vec::new());
-    for _ in 0..REPEATS {
+    let mut caps = Caps::new(&mut random, effort, &drawn, &mut plan);
+    for _ in 0..effort.repeats {
         plan.time_core(&edits);
         ranked.time_core(&edits);
-        let memory = &plan.memory;
-        let mut scratch = |colour| colouring_time(&mut colouring, memory, colour);
-        counting_sort.push(scratch(Colouring::by_counting_sort));
-        standard_sort.push(scratch(Colouring::by_standard_sort));
-        whole_plan.push(scratch(Colouring::whole_plan));
-        assert!(colouring.counts == memory.counts && colouring.tally == memory.tally[1..3]);
-        plan.time_checked(&edits);
+        plan.time_scratch(effort);
+        ranked.time_scratch(effort);
+        plan.time_checked(effort, &edits);
         caps.time(&mut plan, &edits);
-        ranked.time_checked(&edits);
+        ranked.time_checked(effort, &edits);
     }
-    colouring.by_ranks(&drawn.neighbours, &drawn.degrees, &ranks);
-    assert!(same_waves(&colouring, &ranked.memory));
     Measured {
         clashes,
-        waves: plan.memory.tally[2],
-        reach: plan.reach,
-        times: plan.times,
-        ranked_reach: ranked.reach,
-        ranked: ranked.times,
+        ranks_0: plan.measured(),
+        ranked: ranked.measured(),
         caps,
-        counting_sort,
-        standard_sort,
-        whole_plan,
     }
 }
 
@@ -132,23 +110,21 @@ struct Subject {
     memory: Memory,
     /// The plan before and after each batch.
     start: Memory,
+    colouring: Colouring,
     reach: Reach,
     times: Times,
 }
 
 impl Subject {
-    /// The plan of the clashes with these ranks, made by core edits, after one batch that is not timed.
+    /// The plan of the clashes with these ranks, after one batch that is not timed.
     fn new(clashes: &Clashes, ranks: &[u16], edits: &[Edit]) -> Subject {
-        let mut memory = Memory::opened(ranks);
-        for (a, b) in clashes.pairs() {
-            memory.edit(CORE.add, a, b);
-        }
-        assert!(memory.neighbours == clashes.neighbours);
+        let mut memory = Memory::of(clashes, ranks);
         let start = memory.clone();
         let reach = reach_of(&mut memory, edits);
         let subject = Subject {
             memory,
             start,
+            colouring: Colouring::new(ranks),
             reach,
             times: Times::default(),
         };
@@ -161,30 +137,79 @@ impl Subject {
     }
 
     fn time_core(&mut self, edits: &[Edit]) {
-        let core = timed(EDITS, || make_all(&mut self.memory, edits, CORE));
+        let core = timed(edits.len(), || make_all(&mut self.memory, edits, CORE));
         self.times.core.push(core);
         self.is_back();
     }
 
-    fn time_checked(&mut self, edits: &[Edit]) {
-        let checked = timed(EDITS, || make_all(&mut self.memory, edits, CHECKED));
+    fn time_checked(&mut self, effort: &Effort, edits: &[Edit]) {
+        let checked = timed(edits.len(), || make_all(&mut self.memory, edits, CHECKED));
         self.times.checked.push(checked);
-        let question = timed(TESTS, || {
-            for b in 0..TESTS as u16 {
-                self.memory.wave_of(b);
-            }
-        });
+        let question = question_time(&mut self.memory, effort.tests);
         self.times.question.push(question);
+        let read = read_time(&self.memory, effort.tests);
+        self.times.read.push(read);
         self.is_back();
     }
+
+    /// The colourings, each of which must give the plan's waves, and the last one Counts and tally too.
+    fn time_scratch(&mut self, effort: &Effort) {
+        let (memory, colouring) = (&self.memory, &mut self.colouring);
+        let mut time = |colour: fn(&mut Colouring, &[u16], &[u16])| {
+            let time = timed(effort.tests, || {
+                for _ in 0..effort.tests {
+                    colour(colouring, &memory.neighbours, &memory.degrees);
+                }
+            });
+            let waves = colouring.waves.iter().map(|&wave| u16::from(wave));
+            assert!(waves.eq(memory.waves.iter().copied()));
+            time
+        };
+        let times = &mut self.times;
+        times.counting_sort.push(time(Colouring::by_counting_sort));
+        times.standard_sort.push(time(Colouring::by_standard_sort));
+        times.whole_plan.push(time(Colouring::whole_plan));
+        assert!(colouring.counts == memory.counts && colouring.tally == memory.tally[1..3]);
+    }
+
+    fn measured(self) -> OnPlan {
+        OnPlan {
+            waves: self.memory.tally[2],
+            reach: self.reach,
+            times: self.times,
+        }
+    }
+}
+
+/// The time of question 5.
+pub fn question_time(memory: &mut Memory, tests: usize) -> f64 {
+    timed(tests, || {
+        for b in 0..tests {
+            memory.wave_of((b % memory.waves.len()) as u16);
+        }
+    })
+}
+
+/// The time of one read of all cells of the plan, which adds them up.
+pub fn read_time(memory: &Memory, tests: usize) -> f64 {
+    let sum = memory.sum();
+    timed(tests, || {
+        for _ in 0..tests {
+            // Sound: it is a reference that is read. The compiler does not know which, and so cannot
+            // take the sum of the read before.
+            let memory = unsafe { ptr::read_volatile(&memory) };
+            assert_eq!(memory.sum(), sum);
+        }
+    })
 }
 
 impl Caps {
     /// The cap of a batch, and edits from the plan that is there between batches.
-    fn new(random: &mut Random, clashes: &Clashes, plan: &mut Subject) -> Caps {
+    fn new(random: &mut Random, effort: &Effort, clashes: &Clashes, plan: &mut Subject) -> Caps {
         let cap = plan.reach.most_waves;
         assert!(cap < MOST_CAP, "a cap that is asked about");
-        let (passing, average_trail) = passing(random, clashes, &mut plan.memory);
+        let tries = effort.tries;
+        let (passing, average_trail) = passing(random, tries, clashes, &mut plan.memory);
         plan.is_back();
         Caps {
             cap,
@@ -199,17 +224,18 @@ impl Caps {
     fn time(&mut self, plan: &mut Subject, edits: &[Edit]) {
         let memory = &mut plan.memory;
         memory.set_cap(self.cap);
-        let accepted = timed(EDITS, || make_all(memory, edits, CHECKED));
+        let count = edits.len();
+        let accepted = timed(count, || make_all(memory, edits, CHECKED));
         self.accepted.push(accepted);
         if !self.passing.is_empty() {
             memory.set_cap(memory.tally[2]);
             let again = || self.passing.iter().copied().cycle();
-            let refused = timed(EDITS, || {
-                again().take(EDITS).for_each(|edit| refuse(memory, edit));
+            let refused = timed(count, || {
+                again().take(count).for_each(|edit| refuse(memory, edit));
             });
             memory.set_cap(MOST_CAP);
-            let made = timed(EDITS, || {
-                for edit in again().take(EDITS / 2) {
+            let made = timed(count, || {
+                for edit in again().take(count / 2) {
                     make(memory, edit, CHECKED);
                     make(memory, edit.inverse(), CHECKED);
                 }
@@ -224,7 +250,12 @@ impl Caps {
 
 /// Edits after which the plan has more waves, and their average trail. Tried are random edits, then adds
 /// of two banks of the highest wave. The memory ends as it was, but for trail and moved.
-fn passing(random: &mut Random, clashes: &Clashes, memory: &mut Memory) -> (Vec<Edit>, f64) {
+fn passing(
+    random: &mut Random,
+    tries: usize,
+    clashes: &Clashes,
+    memory: &mut Memory,
+) -> (Vec<Edit>, f64) {
     let highest = memory.tally[2] - 1;
     let top: Vec<u16> = (0..BANKS as u16)
         .filter(|&b| memory.waves[usize::from(b)] == highest)
@@ -236,7 +267,7 @@ fn passing(random: &mut Random, clashes: &Clashes, memory: &mut Memory) -> (Vec<
         0 => clashes.random_add(random),
         _ => clashes.random_strike(random),
     };
-    let drawn = std::iter::from_fn(|| Some(drawn())).take(TRIES);
+    let drawn = std::iter::from_fn(|| Some(drawn())).take(tries);
     let (mut passing, mut trail) = (Vec::new(), 0);
     for edit in drawn.chain(within) {
         make(memory, edit, CORE);
@@ -253,10 +284,10 @@ fn passing(random: &mut Random, clashes: &Clashes, memory: &mut Memory) -> (Vec<
     (passing, average)
 }
 
-/// The edits of a batch. The clashes end as they were.
-fn batch(random: &mut Random, clashes: &mut Clashes) -> Vec<Edit> {
-    let mut edits = Vec::with_capacity(EDITS);
-    for place in 0..EDITS / 2 {
+/// So many edits of a batch. The clashes end as they were.
+fn batch(random: &mut Random, clashes: &mut Clashes, count: usize) -> Vec<Edit> {
+    let mut edits = Vec::with_capacity(count);
+    for place in 0..count / 2 {
         let edit = match place % 2 {
             0 => clashes.random_add(random),
             _ => clashes.random_strike(random),
@@ -264,7 +295,7 @@ fn batch(random: &mut Random, clashes: &mut Clashes) -> Vec<Edit> {
         clashes.make(edit);
         edits.push(edit);
     }
-    for place in (0..EDITS / 2).rev() {
+    for place in (0..count / 2).rev() {
         let edit = edits[place].inverse();
         clashes.make(edit);
         edits.push(edit);
@@ -278,7 +309,7 @@ fn make_all(memory: &mut Memory, edits: &[Edit], calls: EditCalls) {
     }
 }
 
-fn make(memory: &mut Memory, edit: Edit, calls: EditCalls) {
+pub fn make(memory: &mut Memory, edit: Edit, calls: EditCalls) {
     match edit {
         Edit::Add(a, b) => memory.edit(calls.add, a, b),
         Edit::Strike(a, b) => memory.edit(calls.strike, a, b),
@@ -312,31 +343,4 @@ fn reach_of(memory: &mut Memory, edits: &[Edit]) -> Reach {
         longest_trail,
         most_waves,
     }
-}
-
-/// The time of one colouring, which must give the plan's waves.
-fn colouring_time(
-    colouring: &mut Colouring,
-    memory: &Memory,
-    colour: fn(&mut Colouring, &[u16], &[u16]),
-) -> f64 {
-    let time = timed(TESTS, || {
-        for _ in 0..TESTS {
-            colour(colouring, &memory.neighbours, &memory.degrees);
-        }
-    });
-    assert!(same_waves(colouring, memory));
-    time
-}
-
-fn same_waves(colouring: &Colouring, memory: &Memory) -> bool {
-    let waves = colouring.waves.iter().map(|&wave| u16::from(wave));
-    waves.eq(memory.waves.iter().copied())
-}
-
-/// The time of a batch of so many calls, per call.
-fn timed(calls: usize, batch: impl FnOnce()) -> f64 {
-    let start = processor_time();
-    batch();
-    (processor_time() - start) / calls as f64
 }

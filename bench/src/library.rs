@@ -1,8 +1,9 @@
 //! Plan memory, and the calls of the static libraries that are timed.
 
+use crate::clashes::Clashes;
 use crate::raw::{
-    wave_plan_add, wave_plan_open, wave_plan_set_cap, wave_plan_strike, wave_plan_wave_by_rule,
-    wave_plan_wave_of,
+    wave_plan_add, wave_plan_open, wave_plan_read_list, wave_plan_set_cap, wave_plan_strike,
+    wave_plan_wave_by_rule, wave_plan_wave_of, wave_plan_write_sheet,
 };
 
 /// An edit by the C interface: seven slices, tally, result, and the two banks.
@@ -80,7 +81,7 @@ pub const CHECKED: EditCalls = EditCalls {
     strike: wave_plan_strike,
 };
 
-/// The memory of a plan of 1,024 banks.
+/// The memory of a plan.
 #[derive(Clone, PartialEq, Eq)]
 pub struct Memory {
     pub neighbours: Vec<u16>,
@@ -131,6 +132,16 @@ impl Memory {
         };
         assert_eq!(number, 0);
         memory.ranks.copy_from_slice(ranks);
+        memory
+    }
+
+    /// The plan of these clashes and ranks, made by core edits.
+    pub fn of(clashes: &Clashes, ranks: &[u16]) -> Memory {
+        let mut memory = Memory::opened(ranks);
+        for (a, b) in clashes.pairs() {
+            memory.edit(CORE.add, a, b);
+        }
+        assert!(memory.neighbours == clashes.neighbours);
         memory
     }
 
@@ -245,6 +256,77 @@ impl Memory {
         };
         assert_eq!(number, 0);
         self.result[0]
+    }
+
+    /// Reads a list, which must be accepted.
+    pub fn read_list(&mut self, list: &[u8]) {
+        // Sound: each slice is valid for its length, and no two overlap.
+        let number = unsafe {
+            wave_plan_read_list(
+                list.as_ptr(),
+                list.len(),
+                self.neighbours.as_mut_ptr(),
+                self.neighbours.len(),
+                self.degrees.as_mut_ptr(),
+                self.degrees.len(),
+                self.waves.as_mut_ptr(),
+                self.waves.len(),
+                self.counts.as_mut_ptr(),
+                self.counts.len(),
+                self.ranks.as_mut_ptr(),
+                self.ranks.len(),
+                self.trail.as_mut_ptr(),
+                self.trail.len(),
+                self.moved.as_mut_ptr(),
+                self.moved.len(),
+                self.tally.as_mut_ptr(),
+                self.tally.len(),
+                self.result.as_mut_ptr(),
+                self.result.len(),
+            )
+        };
+        assert_eq!(number, 0);
+    }
+
+    /// Writes the sheet, which must fit, to the front of the bytes. Answers its length.
+    pub fn write_sheet(&mut self, out: &mut [u8]) -> usize {
+        // Sound: each slice is valid for its length, and no two overlap.
+        let number = unsafe {
+            wave_plan_write_sheet(
+                self.neighbours.as_ptr(),
+                self.neighbours.len(),
+                self.degrees.as_ptr(),
+                self.degrees.len(),
+                self.waves.as_ptr(),
+                self.waves.len(),
+                self.counts.as_ptr(),
+                self.counts.len(),
+                self.ranks.as_ptr(),
+                self.ranks.len(),
+                self.tally.as_ptr(),
+                self.tally.len(),
+                out.as_mut_ptr(),
+                out.len(),
+                self.result.as_mut_ptr(),
+                self.result.len(),
+            )
+        };
+        assert_eq!(number, 0);
+        usize::from(self.result[0])
+    }
+
+    /// The sum of all cells of the plan.
+    #[inline(never)]
+    pub fn sum(&self) -> u32 {
+        let cells = [
+            &self.neighbours,
+            &self.degrees,
+            &self.waves,
+            &self.counts,
+            &self.ranks,
+        ];
+        let sum = |cells: &Vec<u16>| cells.iter().map(|&cell| u32::from(cell)).sum::<u32>();
+        cells.iter().map(|cells| sum(cells)).sum()
     }
 
     /// Whether the plan cells and the tally are equal.

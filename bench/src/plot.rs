@@ -1,9 +1,9 @@
-//! The plot: for each plan, the times of the calls relative to a colouring from scratch with a
-//! counting sort, on a logarithmic scale, with quartiles.
+//! The plot of ratios: for each plan, the times of the calls relative to a colouring from scratch with
+//! a counting sort, on a logarithmic scale, with quartiles.
 
-use crate::edits::Measured;
+use crate::edits::{Measured, Times};
 use crate::spread::{figure, Spread};
-use std::fmt::Write;
+use crate::svg::{dot, line, page, text};
 
 const WIDTH: f64 = 760.0;
 const HEIGHT: f64 = 440.0;
@@ -23,20 +23,16 @@ struct Series {
 
 pub fn svg(plans: &[Measured]) -> String {
     let series = [
-        series(plans, "core edit", "#1b7f5c", -8.0, |plan| &plan.times.core),
-        series(plans, "checked edit", "#b3541e", -8.0, |plan| {
-            &plan.times.checked
+        series(plans, "core edit", "#1b7f5c", -8.0, |times| &times.core),
+        series(plans, "checked edit", "#b3541e", -8.0, |times| {
+            &times.checked
         }),
-        series(plans, "question 5", "#3a5fa8", 18.0, |plan| {
-            &plan.times.question
+        series(plans, "question 5", "#3a5fa8", 18.0, |times| {
+            &times.question
         }),
     ];
     let scale = Scale::around(&series, plans.len());
-    let mut svg = format!(
-        "<svg xmlns=\"http://www.w3.org/2000/svg\" viewBox=\"0 0 {WIDTH} {HEIGHT}\" \
-         font-family=\"sans-serif\" font-size=\"12\">\n\
-         <rect width=\"100%\" height=\"100%\" fill=\"white\"/>\n"
-    );
+    let mut svg = page(WIDTH, HEIGHT);
     grid(&mut svg, &scale);
     labels(&mut svg, plans, &scale);
     for (place, series) in series.iter().enumerate() {
@@ -51,9 +47,12 @@ fn series(
     name: &'static str,
     colour: &'static str,
     label: f64,
-    times: fn(&Measured) -> &Vec<f64>,
+    times: fn(&Times) -> &Vec<f64>,
 ) -> Series {
-    let spread = |plan| Spread::ratio(times(plan), &plan.counting_sort);
+    let spread = |plan: &Measured| {
+        let of = &plan.ranks_0.times;
+        Spread::ratio(times(of), &of.counting_sort)
+    };
     Series {
         name,
         colour,
@@ -105,7 +104,7 @@ fn grid(svg: &mut String, scale: &Scale) {
 fn labels(svg: &mut String, plans: &[Measured], scale: &Scale) {
     for (place, plan) in plans.iter().enumerate() {
         let x = scale.x(place);
-        let trail = format!("trail {}", figure(plan.reach.average_trail));
+        let trail = format!("trail {}", figure(plan.ranks_0.reach.average_trail));
         let clashes = plan.clashes.to_string();
         text(svg, (x, BOTTOM + 20.0), "middle", &clashes);
         text(svg, (x, BOTTOM + 36.0), "middle", &trail);
@@ -140,29 +139,4 @@ fn curve(svg: &mut String, series: &Series, scale: &Scale) {
 fn legend(svg: &mut String, series: &Series, x: f64) {
     dot(svg, (x + 6.0, 41.0), series.colour);
     text(svg, (x + 16.0, 45.0), "start", series.name);
-}
-
-fn line(svg: &mut String, from: (f64, f64), to: (f64, f64), colour: &str) {
-    let ((x1, y1), (x2, y2)) = (from, to);
-    writeln!(
-        svg,
-        "<line x1=\"{x1:.1}\" y1=\"{y1:.1}\" x2=\"{x2:.1}\" y2=\"{y2:.1}\" stroke=\"{colour}\"/>"
-    )
-    .expect("a string takes all");
-}
-
-fn dot(svg: &mut String, (x, y): (f64, f64), colour: &str) {
-    writeln!(
-        svg,
-        "<circle cx=\"{x:.1}\" cy=\"{y:.1}\" r=\"4\" fill=\"{colour}\"/>"
-    )
-    .expect("a string takes all");
-}
-
-fn text(svg: &mut String, (x, y): (f64, f64), anchor: &str, words: &str) {
-    writeln!(
-        svg,
-        "<text x=\"{x:.1}\" y=\"{y:.1}\" text-anchor=\"{anchor}\">{words}</text>"
-    )
-    .expect("a string takes all");
 }

@@ -1,49 +1,126 @@
-//! The program *sheet* on a list of 60,000 bytes, against programs that colour from scratch: after
-//! every row, or once at the end. The latter are this program again, with a mode as its argument. And
-//! *sheet* on a list with random ranks, against the same list with all ranks 0.
+//! The program *sheet* on lists of 60,000 bytes, with all ranks 0 and with random ranks, against
+//! programs that colour from scratch, after every row or once at the end: in Rust, which is this
+//! program again with a mode as its argument, in C++ with Boost, and in Python with networkx. And
+//! each on a list of no banks, which takes as long as starting and ending it does.
 
 use crate::clashes::{Clashes, Edit};
+use crate::effort::Effort;
+use crate::lists::{list_of_60_000_bytes, sheet_by_scratch, sheet_of, Depot};
 use crate::scratch::Colouring;
-use crate::BANKS;
+use crate::{random_ranks_of, repository, BANKS};
 use independent::list::{later_row, n_row, rows, Row};
 use independent::random::Random;
-use independent::ranks::random_ranks;
-use independent::sheet::{program_output, sheet_text};
+use independent::sheet::program_output;
 use std::io::{self, Read, Write};
-use std::path::{Path, PathBuf};
+use std::path::PathBuf;
 use std::process::{Command, Stdio};
 use std::time::Instant;
-use std::{env, thread};
+use std::{env, fs, thread};
 
-/// How often each program is run, the model aside.
-pub const RUNS: usize = 15;
-
-/// How often the model is run.
-pub const MODEL_RUNS: usize = 5;
-
-/// Waves from scratch after every row.
+/// The modes of this program: waves from scratch after every row; once, after the last row; and the
+/// model, which works out waves, trail and moved from scratch after every row.
 const EVERY_ROW: &str = "every-row";
-
-/// Waves from scratch once, after the last row.
 const AT_END: &str = "at-end";
-
-/// Waves from scratch once, after the last row, of a list with ranks.
-const RANKED: &str = "ranked";
-
-/// The model: waves, trail and moved from scratch after every row.
 const MODEL: &str = "model";
 
-/// What was measured. Times are of a whole run, in seconds, by repeat.
+/// What is run.
+#[derive(Clone, Copy)]
+pub enum Program {
+    Sheet,
+    EveryRow,
+    AtEnd,
+    BoostEveryRow,
+    BoostKept,
+    BoostOnce,
+    BoostByHand,
+    Networkx,
+    Model,
+}
+
+use Program::*;
+
+impl Program {
+    /// All, in the order of their declaration.
+    pub const ALL: [Program; 9] = [
+        Sheet,
+        EveryRow,
+        AtEnd,
+        BoostEveryRow,
+        BoostKept,
+        BoostOnce,
+        BoostByHand,
+        Networkx,
+        Model,
+    ];
+
+    pub fn name(self) -> &'static str {
+        match self {
+            Sheet => "`sheet`",
+            EveryRow => "Rust, after every row",
+            AtEnd => "Rust, once",
+            BoostEveryRow => "Boost, after every row",
+            BoostKept => "Boost, after every row, sorting from the order before",
+            BoostOnce => "Boost, once",
+            BoostByHand => "Boost, once, rows read by hand",
+            Networkx => "networkx, once",
+            Model => "the model: waves, trail and moved after every row",
+        }
+    }
+
+    fn command(self) -> Command {
+        match self {
+            Sheet => Command::new(sheet_program()),
+            EveryRow => with(this_program(), EVERY_ROW),
+            AtEnd => with(this_program(), AT_END),
+            BoostEveryRow => with(boost(), "every-row"),
+            BoostKept => with(boost(), "every-row-kept"),
+            BoostOnce => with(boost(), "once"),
+            BoostByHand => with(boost(), "once-by-hand"),
+            Networkx => networkx(),
+            Model => with(this_program(), MODEL),
+        }
+    }
+
+    fn runs(self, effort: &Effort) -> usize {
+        match self {
+            Model => effort.model_runs,
+            _ => effort.runs,
+        }
+    }
+
+    /// Whether it is run on the list with random ranks too.
+    fn takes_ranks(self) -> bool {
+        !matches!(self, Networkx | Model)
+    }
+}
+
+/// The times of one program: of a whole run, in seconds, by repeat.
+#[derive(Default)]
+pub struct Runs {
+    /// On the list without K rows.
+    pub ranks_0: Vec<f64>,
+    /// On the list with random ranks, if it is run on that.
+    pub ranked: Vec<f64>,
+    /// On a list of no banks.
+    pub nothing: Vec<f64>,
+}
+
+/// What was measured.
 pub struct Programs {
     pub rows: usize,
-    /// The edit rows of the lists with ranks, and the times of *sheet* on them.
+    /// The edit rows of the lists with K rows.
     pub ranked_rows: usize,
-    pub ranks_0: Vec<f64>,
-    pub ranked: Vec<f64>,
-    pub sheet: Vec<f64>,
-    pub every_row: Vec<f64>,
-    pub at_end: Vec<f64>,
-    pub model: Vec<f64>,
+    runs: Vec<Runs>,
+    /// *sheet* on the list whose K rows have all ranks 0.
+    pub ranks_0_in_rows: Vec<f64>,
+    /// What the peers say of their versions.
+    pub versions: String,
+}
+
+impl Programs {
+    pub fn of(&self, program: Program) -> &Runs {
+        &self.runs[program as usize]
+    }
 }
 
 /// A list, and the sheet that all programs print for it.
@@ -53,62 +130,94 @@ struct Task {
 }
 
 impl Task {
-    /// The list with these ranks in K rows, or without such rows.
-    fn new(ranks: &[usize]) -> Task {
-        let list = list_of_60_000_bytes(ranks);
-        let mode = if ranks.is_empty() { AT_END } else { RANKED };
-        let sheet = output_of(Command::new(this_program()).arg(mode), &list).0;
+    fn new(list: Vec<u8>) -> Task {
+        let depot = Depot::of(&list);
+        let sheet = sheet_by_scratch(&depot.clashes, &depot.ranks);
         Task { list, sheet }
     }
 
-    fn run(&self, times: &mut Vec<f64>, command: &mut Command) {
-        let (output, time) = output_of(command, &self.list);
-        assert!(output == self.sheet, "all programs print the same sheet");
+    fn run(&self, times: &mut Vec<f64>, program: Program) {
+        let (output, time) = output_of(&mut program.command(), &self.list);
+        let name = program.name();
+        assert!(output == self.sheet, "{name} prints another sheet");
         times.push(time);
+    }
+
+    /// How many rows change clashes.
+    fn edit_rows(&self) -> usize {
+        Depot::of(&self.list).edits.len()
     }
 }
 
-pub fn measure() -> Programs {
-    let task = Task::new(&[]);
-    let ranks_0 = Task::new(&[0; BANKS]);
-    let ranked = Task::new(&random_ranks(&mut Random::new(9999), BANKS));
+pub fn measure(effort: &Effort) -> Programs {
+    let list = Task::new(list_of_60_000_bytes(&[]));
+    let ranks_0_in_rows = Task::new(list_of_60_000_bytes(&[0; BANKS]));
+    let ranked = Task::new(list_with_random_ranks());
+    let nothing = Task::new(b"N 0".to_vec());
     let mut programs = Programs {
-        rows: rows(&task.list).len(),
-        ranked_rows: rows(&ranked.list).len() - 1 - BANKS,
-        ranks_0: Vec::new(),
-        ranked: Vec::new(),
-        sheet: Vec::new(),
-        every_row: Vec::new(),
-        at_end: Vec::new(),
-        model: Vec::new(),
+        rows: rows(&list.list).len(),
+        ranked_rows: ranked.edit_rows(),
+        runs: Program::ALL.map(|_| Runs::default()).into(),
+        ranks_0_in_rows: Vec::new(),
+        versions: versions(),
     };
-    for repeat in 0..RUNS {
-        task.run(&mut programs.sheet, &mut Command::new(sheet_program()));
-        ranks_0.run(&mut programs.ranks_0, &mut Command::new(sheet_program()));
-        ranked.run(&mut programs.ranked, &mut Command::new(sheet_program()));
-        for (times, mode, repeats) in [
-            (&mut programs.every_row, EVERY_ROW, RUNS),
-            (&mut programs.at_end, AT_END, RUNS),
-            (&mut programs.model, MODEL, MODEL_RUNS),
-        ] {
-            if repeat < repeats {
-                task.run(times, Command::new(this_program()).arg(mode));
+    for repeat in 0..effort.runs {
+        for program in Program::ALL {
+            if repeat < program.runs(effort) {
+                let runs = &mut programs.runs[program as usize];
+                list.run(&mut runs.ranks_0, program);
+                if program.takes_ranks() {
+                    ranked.run(&mut runs.ranked, program);
+                }
+                nothing.run(&mut runs.nothing, program);
             }
         }
+        ranks_0_in_rows.run(&mut programs.ranks_0_in_rows, Sheet);
     }
     programs
 }
 
+/// The list of 60,000 bytes with random ranks.
+pub fn list_with_random_ranks() -> Vec<u8> {
+    list_of_60_000_bytes(&random_ranks_of(&mut Random::new(9999), BANKS))
+}
+
 /// The program *sheet*: the path in SHEET_PROGRAM, or the one that the build leaves.
-fn sheet_program() -> PathBuf {
+pub fn sheet_program() -> PathBuf {
     match env::var_os("SHEET_PROGRAM") {
         Some(path) => PathBuf::from(path),
-        None => Path::new(env!("CARGO_MANIFEST_DIR")).join("../target/bin/sheet"),
+        None => repository().join("target/bin/sheet"),
     }
 }
 
 fn this_program() -> PathBuf {
     env::current_exe().expect("the path of this program")
+}
+
+fn with(program: PathBuf, mode: &str) -> Command {
+    let mut command = Command::new(program);
+    command.arg(mode);
+    command
+}
+
+/// The programs that bench/peers/build leaves.
+fn boost() -> PathBuf {
+    repository().join("target/peers/boost")
+}
+
+fn networkx() -> Command {
+    let path = repository().join("target/peers/python");
+    let python = fs::read_to_string(path).expect("what bench/peers/build leaves");
+    let mut command = Command::new(python.trim());
+    command.arg(repository().join("bench/peers/largest_first.py"));
+    command
+}
+
+fn versions() -> String {
+    let said = |mut command: Command| output_of(command.arg("version"), b"").0;
+    let said = [said(Command::new(boost())), said(networkx())];
+    let said = said.map(|bytes| String::from_utf8_lossy(&bytes).trim().to_string());
+    said.join("; ")
 }
 
 /// What the program prints for a list, and the time from its start to its end.
@@ -127,127 +236,42 @@ fn output_of(command: &mut Command, list: &[u8]) -> (Vec<u8>, f64) {
     (output.stdout, start.elapsed().as_secs_f64())
 }
 
-/// Reads an accepted list of 1,024 banks from standard input and prints its sheet, by a mode.
+/// Reads an accepted list from standard input and prints its sheet, by a mode.
 pub fn from_scratch(mode: &str) -> io::Result<()> {
     let mut list = Vec::new();
     io::stdin().read_to_end(&mut list)?;
     let sheet = match mode {
         EVERY_ROW => colour_rows(&list, true),
         AT_END => colour_rows(&list, false),
-        RANKED => colour_ranked(&list),
         MODEL => program_output(&list),
         _ => panic!("no such mode: {mode}"),
     };
     io::stdout().write_all(&sheet)
 }
 
-/// The sheet of a list without K rows.
+/// The sheet of a list, coloured at its end, and if so after every row but the K rows too.
 fn colour_rows(list: &[u8], every_row: bool) -> Vec<u8> {
-    let mut depot = Depot::new();
-    let mut colouring = Colouring::new();
-    for row in later_rows(list) {
-        depot.make(row);
+    let mut rows = rows(list).into_iter();
+    let banks = rows.next().and_then(n_row).expect("an N row");
+    let mut clashes = Clashes::none(banks);
+    let mut ranks = vec![0; banks];
+    let mut colouring = None;
+    for row in rows {
+        match later_row(row).expect("an accepted list") {
+            Row::Rank(b, rank) => {
+                ranks[b] = rank as u16;
+                continue;
+            }
+            Row::Add(a, b) => clashes.make(Edit::Add(a as u16, b as u16)),
+            Row::Strike(a, b) => clashes.make(Edit::Strike(a as u16, b as u16)),
+            Row::StrikeAll(b) => drop(clashes.strike_all(b as u16)),
+        }
         if every_row {
-            let clashes = &depot.clashes;
+            let colouring = colouring.get_or_insert_with(|| Colouring::new(&ranks));
             colouring.by_counting_sort(&clashes.neighbours, &clashes.degrees);
         }
     }
-    colouring.by_counting_sort(&depot.clashes.neighbours, &depot.clashes.degrees);
-    sheet_of(&colouring, &depot.clashes)
-}
-
-/// The sheet of a list with K rows.
-fn colour_ranked(list: &[u8]) -> Vec<u8> {
-    let mut depot = Depot::new();
-    later_rows(list).for_each(|row| depot.make(row));
-    let Depot { clashes, ranks } = depot;
-    let mut colouring = Colouring::new();
-    colouring.by_ranks(&clashes.neighbours, &clashes.degrees, &ranks);
+    let mut colouring = colouring.unwrap_or_else(|| Colouring::new(&ranks));
+    colouring.by_counting_sort(&clashes.neighbours, &clashes.degrees);
     sheet_of(&colouring, &clashes)
-}
-
-/// The rows after the first one of an accepted list of 1,024 banks.
-fn later_rows(list: &[u8]) -> impl Iterator<Item = Row> + '_ {
-    let mut rows = rows(list).into_iter();
-    assert_eq!(rows.next().and_then(n_row), Some(BANKS));
-    rows.map(|row| later_row(row).expect("an accepted list"))
-}
-
-/// The sheet of a colouring of these clashes.
-fn sheet_of(colouring: &Colouring, clashes: &Clashes) -> Vec<u8> {
-    let waves: Vec<usize> = colouring.waves.iter().map(|&w| usize::from(w)).collect();
-    let ends: usize = clashes.degrees.iter().map(|&d| usize::from(d)).sum();
-    sheet_text(&waves, ends / 2).into_bytes()
-}
-
-/// The clashes and the ranks that a list leads to.
-struct Depot {
-    clashes: Clashes,
-    ranks: Vec<u16>,
-}
-
-impl Depot {
-    fn new() -> Depot {
-        Depot {
-            clashes: Clashes::none(),
-            ranks: vec![0; BANKS],
-        }
-    }
-
-    fn make(&mut self, row: Row) {
-        match row {
-            Row::Add(a, b) => self.clashes.make(Edit::Add(a as u16, b as u16)),
-            Row::Strike(a, b) => self.clashes.make(Edit::Strike(a as u16, b as u16)),
-            Row::StrikeAll(b) => {
-                let b = b as u16;
-                for q in self.clashes.row(b).to_vec() {
-                    self.clashes.make(Edit::Strike(b, q));
-                }
-            }
-            Row::Rank(b, rank) => self.ranks[b] = rank as u16,
-        }
-    }
-}
-
-/// A random list for 1,024 banks: K rows with the given ranks, four digits each, so that the edits after
-/// them do not hang on the ranks; then adds, a strike in about eight rows, a D row in about 200.
-fn list_of_60_000_bytes(ranks: &[usize]) -> Vec<u8> {
-    let mut random = Random::new(60_000);
-    let mut clashes = Clashes::none();
-    let mut list = format!("N {BANKS}").into_bytes();
-    for (b, rank) in ranks.iter().enumerate() {
-        list.extend(format!("\nK {b} {rank:04}").bytes());
-    }
-    let strikes_from = list.len() + 94;
-    while list.len() < 60_000 {
-        let left = 60_000 - list.len();
-        if left > 100 && random.one_in(200) {
-            let b = random.below(BANKS) as u16;
-            list.extend(format!("\nD {b}").bytes());
-            for q in clashes.row(b).to_vec() {
-                clashes.make(Edit::Strike(b, q));
-            }
-            continue;
-        }
-        let edit = if random.one_in(8) && list.len() > strikes_from {
-            clashes.random_strike(&mut random)
-        } else {
-            clashes.random_add(&mut random)
-        };
-        let row = match edit {
-            Edit::Add(a, b) => format!("\n+ {a} {b}"),
-            Edit::Strike(a, b) => format!("\n- {a} {b}"),
-        };
-        // The last rows are drawn until they just fit. One row has up to 12 bytes, and rows of
-        // at least 8 are frequent enough to wait for.
-        let fits = match left.checked_sub(row.len()) {
-            Some(rest) => matches!(rest, 0 | 8..=12 | 16..),
-            None => false,
-        };
-        if fits {
-            list.extend(row.bytes());
-            clashes.make(edit);
-        }
-    }
-    list
 }

@@ -43,6 +43,7 @@ pub fn figure(value: f64) -> String {
         value if value >= 100.0 => format!("{value:.0}"),
         value if value >= 10.0 => format!("{value:.1}"),
         value if value >= 0.1 => format!("{value:.2}"),
-        value => format!("{value:.4}"),
+        value if value > -0.1 => format!("{value:.4}"),
+        value => format!("{value:.1}"),
     }
 }
