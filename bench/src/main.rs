@@ -38,7 +38,7 @@ mod plot;
 mod program;
 /// The declarations of the C library, shared with its tests; the benchmarks call a part of them.
 #[allow(dead_code)]
-#[path = "../../tests/library/src/raw.rs"]
+#[path = "../../bindings/rust/src/raw.rs"]
 mod raw;
 mod report;
 mod scratch;

@@ -6,7 +6,7 @@ use crate::plans::{bank_count, blocks, graph, memory_of};
 use crate::{quick, rounds};
 use independent::graph::Graph;
 use independent::random::Random;
-use library_tests::{Bank, Plan};
+use wave_plan::{Bank, Plan};
 
 /// What the call answers of the plan of a graph, beside the tally's clashes and waves.
 struct Bounded {

@@ -8,7 +8,7 @@ use crate::{quick, rounds};
 use independent::graph::Graph;
 use independent::random::Random;
 use independent::ranks::drawn_ranks;
-use library_tests::{Bank, Plan};
+use wave_plan::{Bank, Plan};
 
 /// The call for each bank, on library and model, and for one that is not there: the kept wave, or 4.
 fn kept_waves(random: &mut Random, graph: &Graph) {

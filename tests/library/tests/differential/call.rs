@@ -8,7 +8,7 @@ use independent::random::Random;
 use independent::reach::Edit;
 use independent::refusals::ACCEPTED;
 use independent::shelf;
-use library_tests::open_shelf;
+use wave_plan::open_shelf;
 use std::fmt;
 
 /// A call with its arguments; a sheet's and a poster's is the length of its output, and a journal is the

@@ -10,7 +10,7 @@ use independent::lists;
 use independent::random::Random;
 use independent::sheet::sheet_text;
 use independent::sheets::{any_waves, fewest_waves, one_byte_off, other_waves, wrong_sheets};
-use library_tests::{Bank, Plan, WrongSheet};
+use wave_plan::{Bank, Plan, WrongSheet};
 use std::collections::BTreeMap;
 
 /// The call on library and model with the sheet of these waves.

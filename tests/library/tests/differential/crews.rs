@@ -8,7 +8,7 @@ use crate::{quick, rounds};
 use independent::crew::served_day;
 use independent::graph::Graph;
 use independent::random::Random;
-use library_tests::{Bank, Plan};
+use wave_plan::{Bank, Plan};
 
 /// Cells for the steps of n banks, with some more, all of one content.
 fn cells(random: &mut Random, n: usize) -> Vec<u16> {
@@ -163,7 +163,7 @@ fn a_day_of_an_owned_plan() {
     assert_eq!(day.total, 5);
     assert_eq!(plan.least_crew(5), Ok(2));
     assert_eq!(plan.least_crew(4), Ok(4));
-    let number = |refused: Result<u16, _>| refused.map_err(|r: library_tests::Refused| r.number);
+    let number = |refused: Result<u16, _>| refused.map_err(|r: wave_plan::Refused| r.number);
     assert_eq!(number(plan.least_crew(2)), Err(25));
     assert_eq!(number(plan.least_crew(1025)), Err(24));
     assert_eq!(plan.crew_steps(65).expect_err("out of span").number, 24);

@@ -1,7 +1,7 @@
 //! Slices between guard cells, so that a write outside the lent part shows.
 
 use independent::memory::Memory;
-use library_tests::Lent;
+use wave_plan::Lent;
 
 /// The guard cells on each side.
 const GUARDS: usize = 32;

@@ -1,7 +1,7 @@
 //! The paper's marked examples, its example sheet, ranks, caps, a journal and a shelf, through the
 //! wrapper that owns its memory.
 
-use library_tests::{Bank, Edit, Name, Plan, Refused, Shelf, Wave};
+use wave_plan::{Bank, Edit, Name, Plan, Refused, Shelf, Wave};
 
 fn banks(numbers: &[u16]) -> Vec<Bank> {
     numbers.iter().copied().map(Bank).collect()

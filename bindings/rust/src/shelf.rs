@@ -1,7 +1,8 @@
 //! A shelf that owns its memory, and the names under which plans are kept in it.
 
 use crate::lent::open_shelf;
-use crate::plan::{answer, Refused, MAX_BANKS};
+use crate::plan::MAX_BANKS;
+use crate::refusal::{answer, Refused};
 
 /// A name under which a plan is kept.
 #[derive(Clone, Copy, Debug, PartialEq, Eq)]

@@ -1,22 +1,22 @@
 //! A plan that owns its memory.
 
 use crate::lent::Lent;
+use crate::refusal::{answer, answer_at, Refusal, Refused};
 use crate::shelf::{Name, Shelf};
 
 /// The number of a bank (a vertex id).
-#[derive(Clone, Copy, Debug, PartialEq, Eq)]
+#[derive(Clone, Copy, Debug, PartialEq, Eq, PartialOrd, Ord, Hash)]
 pub struct Bank(pub u16);
 
 /// The number of a wave (a colour).
-#[derive(Clone, Copy, Debug, PartialEq, Eq)]
+#[derive(Clone, Copy, Debug, PartialEq, Eq, PartialOrd, Ord, Hash)]
 pub struct Wave(pub u16);
 
-/// A refused call: its number, and the row of a list or the field of a journal that got it (else
-/// 0).
-#[derive(Clone, Copy, Debug, PartialEq, Eq)]
-pub struct Refused {
-    pub number: u16,
-    pub place: u16,
+impl Wave {
+    /// The letter of the wave: A to Z without I and O. The waves of a plan are below 24.
+    pub fn letter(self) -> char {
+        char::from(b"ABCDEFGHJKLMNPQRSTUVWXYZ"[usize::from(self.0)])
+    }
 }
 
 /// An accepted edit: the banks taken up and the banks whose wave changed, both in the new order.
@@ -48,6 +48,10 @@ pub enum WrongSheet {
 
 /// The most banks of a plan.
 pub(crate) const MAX_BANKS: u16 = 1024;
+
+/// The largest rank, and the cells of a row.
+const MAX_RANK: u16 = 9999;
+const ROW_CELLS: usize = 23;
 
 /// The bytes of the longest sheet: 9 for its first line, 2 for each of 24 waves, 4,010 for 1,024
 /// banks, 17 for its foot.
@@ -169,6 +173,21 @@ impl Plan {
         answer(self.lent().set_cap(cap))
     }
 
+    /// How many banks the plan has.
+    pub fn banks(&self) -> u16 {
+        self.tally[0]
+    }
+
+    /// How many clashes the plan has.
+    pub fn clashes(&self) -> u16 {
+        self.tally[1]
+    }
+
+    /// How many waves the plan has.
+    pub fn wave_count(&self) -> u16 {
+        self.tally[2]
+    }
+
     /// The cap.
     pub fn cap(&self) -> u16 {
         self.tally[3]
@@ -218,6 +237,39 @@ impl Plan {
         &self.ranks[..usize::from(self.tally[0])]
     }
 
+    /// Sets the rank of bank b, in a plan without clashes. Refused as a K row is: 18 where there are clashes, 4 where there is no such
+    /// bank; 3 for a rank above 9,999, with which the memory would hold no plan.
+    pub fn set_rank(&mut self, b: Bank, rank: u16) -> Result<(), Refused> {
+        let refusal = if self.clashes() > 0 {
+            Refusal::LateRank
+        } else if b.0 >= self.banks() {
+            Refusal::NoSuchBank
+        } else if rank > MAX_RANK {
+            Refusal::NoPlan
+        } else {
+            self.ranks[usize::from(b.0)] = rank;
+            return Ok(());
+        };
+        answer(refusal.number())
+    }
+
+    /// The kept waves by bank number. Only the library's calls wrote them.
+    pub fn waves(&self) -> Vec<Wave> {
+        let n = usize::from(self.banks());
+        self.waves[..n].iter().copied().map(Wave).collect()
+    }
+
+    /// The banks that clash with bank b, ascending; none if there is no such bank. `clashes_of` without its questions: only the
+    /// library's calls wrote the rows.
+    pub fn neighbours_of(&self, b: Bank) -> Vec<Bank> {
+        let at = usize::from(b.0);
+        if b.0 >= self.banks() {
+            return Vec::new();
+        }
+        let degree = usize::from(self.degrees[at]);
+        banks(&self.neighbours[ROW_CELLS * at..ROW_CELLS * at + degree])
+    }
+
     /// The sheet.
     pub fn sheet(&mut self) -> Result<String, Refused> {
         let mut out = vec![0; SHEET_BYTES];
@@ -264,7 +316,7 @@ impl Plan {
     fn memory_for(n: u16) -> Plan {
         let n = usize::from(n);
         Plan {
-            neighbours: vec![0; 23 * n],
+            neighbours: vec![0; ROW_CELLS * n],
             degrees: vec![0; n],
             waves: vec![0; n],
             counts: vec![0; 24 * n],
@@ -302,17 +354,4 @@ impl Plan {
 
 fn banks(cells: &[u16]) -> Vec<Bank> {
     cells.iter().copied().map(Bank).collect()
-}
-
-/// The refusal of a number, if it is one.
-pub(crate) fn answer(number: u16) -> Result<(), Refused> {
-    answer_at(number, 0)
-}
-
-/// The refusal of a number at a row or a field, if it is one.
-fn answer_at(number: u16, place: u16) -> Result<(), Refused> {
-    match number {
-        0 => Ok(()),
-        number => Err(Refused { number, place }),
-    }
 }

@@ -14,7 +14,7 @@ fn rust_example() {
         .output()
         .expect("the example starts");
     assert!(run.status.success(), "{}", run.status);
-    let expected = Path::new(env!("CARGO_MANIFEST_DIR")).join("../c/expected.txt");
+    let expected = Path::new(env!("CARGO_MANIFEST_DIR")).join("../../tests/c/expected.txt");
     let expected = fs::read(expected).expect("the expected output");
     assert_eq!(
         run.stdout.escape_ascii().to_string(),

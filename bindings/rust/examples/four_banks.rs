@@ -1,6 +1,6 @@
 //! Calls the library from Rust: opens a plan of four banks, adds four clashes, prints the sheet.
 
-use library_tests::{Bank, Plan, Refused};
+use wave_plan::{Bank, Plan, Refused};
 
 fn main() -> Result<(), Refused> {
     let mut plan = Plan::open(4)?;
