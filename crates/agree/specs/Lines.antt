@@ -21,11 +21,11 @@ acceptedText false =
     116 ∷ 104 ∷ 101 ∷ 32 ∷ 112 ∷ 108 ∷ 97 ∷ 110 ∷ 110 ∷ 101 ∷ 114 ∷ 39 ∷ 115 ∷ 32 ∷ 111 ∷ 119 ∷ 110 ∷ 32 ∷ 115 ∷ 104 ∷ 101 ∷ 101 ∷ 116 ∷ 10 ∷ []
 
 -- `REFUSED 26 line l`
-unfoldable pub noSheetText : ℕ → List ℕ
+abbrev pub noSheetText : ℕ → List ℕ
 noSheetText l = numbered (82 ∷ 69 ∷ 70 ∷ 85 ∷ 83 ∷ 69 ∷ 68 ∷ 32 ∷ 50 ∷ 54 ∷ 32 ∷ 108 ∷ 105 ∷ 110 ∷ 101 ∷ 32 ∷ []) l (10 ∷ [])
 
 -- `REFUSED 27 more than k waves`
-unfoldable pub manyText : ℕ → List ℕ
+abbrev pub manyText : ℕ → List ℕ
 manyText k =
     numbered
     (82 ∷ 69 ∷ 70 ∷ 85 ∷ 83 ∷ 69 ∷ 68 ∷ 32 ∷ 50 ∷ 55 ∷ 32 ∷ 109 ∷ 111 ∷ 114 ∷ 101 ∷ 32 ∷ 116 ∷ 104 ∷ 97 ∷ 110 ∷ 32 ∷ [])
