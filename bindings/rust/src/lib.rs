@@ -1,12 +1,5 @@
 //! A safe wrapper of the static library wave_plan.
 //!
-//! - `raw`: the functions that include/wave_plan.h declares.
-//! - `lent`: the calls on lent slices. The library takes slices of any content and length, so
-//!   that nothing is asked of a caller.
-//! - `plan`: a plan that owns its memory, for programs.
-//! - `refusal`: the refusals, by name and number.
-//! - `shelf`: a shelf that owns its memory, and the names of kept plans.
-//!
 //! A bank number where a wave number belongs does not compile, nor the other way round:
 //!
 //! ```compile_fail,E0308
@@ -16,15 +9,21 @@
 //! ```
 
 #![deny(unsafe_code)]
+#![warn(missing_docs)]
 
+mod edit;
 #[allow(unsafe_code)]
-mod lent;
+pub mod lent;
+mod numbers;
 mod plan;
 mod raw;
 mod refusal;
+mod sheet;
 mod shelf;
 
-pub use lent::{open_shelf, Lent};
-pub use plan::{Bank, Day, Edit, Plan, Wave, WrongSheet};
+pub use edit::Edit;
+pub use numbers::{Bank, Wave};
+pub use plan::{Day, Plan};
 pub use refusal::{Refusal, Refused};
+pub use sheet::WrongSheet;
 pub use shelf::{Name, Shelf};

@@ -83,10 +83,12 @@ impl Refusal {
     }
 }
 
-/// A refused call: the refusal, and the row of a list or the field of a journal that got it (else 0).
+/// A refused call.
 #[derive(Clone, Copy, Debug, PartialEq, Eq)]
 pub struct Refused {
+    /// The question that was answered no.
     pub refusal: Refusal,
+    /// The row of a list or the field of a journal that got it, from 1; 0 where there is none.
     pub place: u16,
 }
 

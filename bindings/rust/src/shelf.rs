@@ -7,8 +7,11 @@ use crate::refusal::{answer, Refused};
 /// A name under which a plan is kept.
 #[derive(Clone, Copy, Debug, PartialEq, Eq)]
 pub enum Name {
+    /// `MORNING`
     Morning,
+    /// `NOON`
     Noon,
+    /// `CLOSE`
     Close,
 }
 
