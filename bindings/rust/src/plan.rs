@@ -1,10 +1,8 @@
 //! A plan that owns its memory.
 
-use crate::edit::{banks, Edit, Left};
+use crate::edit::{banks, Edit, OwnedAnswers};
 use crate::lent::{Answers, Lent, Read};
 use crate::refusal::{answer, answer_at, Refusal, Refused};
-use crate::sheet::WrongSheet;
-use crate::shelf::{Name, Shelf};
 use crate::{Bank, Wave};
 use std::fmt;
 
@@ -16,27 +14,16 @@ const MAX_RANK: u16 = 9999;
 const ROW_CELLS: usize = 23;
 const COUNT_CELLS: usize = 24;
 
-/// The bytes of the longest sheet and of the longest poster.
-const SHEET_BYTES: usize = 4084;
-const POSTER_BYTES: usize = 8200;
-
-/// The most bytes of a journal, and of the field of one edit.
-const JOURNAL_BYTES: usize = 60_000;
-const ENTRY_BYTES: usize = 11;
-
-/// A day as a crew serves it.
-#[derive(Clone, Debug, PartialEq, Eq)]
-pub struct Day {
-    /// The step of each bank by its number, from 1.
-    pub steps: Vec<u16>,
-    /// How many steps there are.
-    pub total: u16,
-}
-
 /// A plan and the memory that it stands in.
 ///
-/// Only the library's calls write that memory, and `set_rank` before the first clash. So it always
-/// holds a plan: the refusals 1 to 3 are not due once a plan is open.
+/// After each call its waves are those of the rule: the bank with the most clashes first, equal ones by rank and then by
+/// number, each in the lowest wave that no earlier clashing bank holds. A refused call changes nothing.
+///
+/// Only the library's calls write the memory, and [`set_rank`](Plan::set_rank) before the first clash. So it always holds
+/// a plan, and a call that reads it is refused for its arguments alone; [`sheet`](Plan::sheet), [`poster`](Plan::poster)
+/// and [`wave_bound`](Plan::wave_bound) have none, and answer a `Result` since the library may refuse any call.
+///
+/// Plans are equal if they have the same banks, clashes, ranks and cap; then they have the same waves.
 #[derive(Clone, PartialEq, Eq)]
 pub struct Plan {
     neighbours: Vec<u16>,
@@ -51,71 +38,134 @@ pub struct Plan {
 /// Making a plan.
 impl Plan {
     /// A plan of n banks without a clash, all of rank 0, the cap 24.
+    ///
+    /// # Errors
+    ///
+    /// [`TooManyBanks`](Refusal::TooManyBanks) above 1,024.
     pub fn open(n: u16) -> Result<Plan, Refused> {
         let mut plan = Plan::memory_for(n.min(MAX_BANKS));
         answer(plan.lent().open(n))?;
         Ok(plan)
     }
 
-    /// The plan of a list.
+    /// The plan of a list: rows `N n`, `K b r`, `+ a b`, `- a b` and `D b`, as the README describes them. The last row
+    /// counts with or without a line feed.
+    ///
+    /// ```
+    /// # fn main() -> Result<(), wave_plan::Refused> {
+    /// let plan = wave_plan::Plan::read_list("N 4\n+ 0 1\n+ 1 2\n+ 2 3\n+ 0 3")?;
+    /// assert_eq!(plan.sheet()?, "WAVES 2\nA 0 2\nB 1 3\nTOTAL 4 4\n");
+    /// # Ok(())
+    /// # }
+    /// ```
+    ///
+    /// # Errors
+    ///
+    /// The first refusal that is due, with the row that was refused as its [`place`](Refused::place). The rows before it
+    /// then make no plan here; [`Lent::read_list`] leaves theirs.
     pub fn read_list(list: impl AsRef<[u8]>) -> Result<Plan, Refused> {
         let (plan, _) = Plan::made(|plan, answers| plan.read_list(list.as_ref(), answers))?;
         Ok(plan)
     }
 
-    /// The plan of a journal, and how many bytes of it were left over.
-    pub fn replay(journal: &[u8]) -> Result<(Plan, usize), Refused> {
-        Plan::made(|plan, answers| plan.replay(journal, answers))
-    }
-
     /// The plan that a call makes from a text, and the call's second result.
-    fn made(call: impl FnOnce(&mut Lent, &mut Answers) -> u16) -> Result<(Plan, usize), Refused> {
+    pub(crate) fn made(
+        call: impl FnOnce(&mut Lent, &mut Answers) -> u16,
+    ) -> Result<(Plan, usize), Refused> {
         let mut plan = Plan::memory_for(MAX_BANKS);
-        let mut left = Left::of(MAX_BANKS);
-        let number = call(&mut plan.lent(), &mut left.lent());
-        answer_at(number, left.result[0])?;
+        let mut answers = OwnedAnswers::of(MAX_BANKS);
+        let number = call(&mut plan.lent(), &mut answers.lent());
+        let [place, second, _] = answers.result;
+        answer_at(number, place)?;
         plan.give_back_memory();
-        Ok((plan, usize::from(left.result[1])))
+        Ok((plan, usize::from(second)))
     }
 }
 
 /// Changing a plan.
 impl Plan {
     /// Adds the clash of a and b.
+    ///
+    /// # Errors
+    ///
+    /// The first that is due of [`NoSuchBank`](Refusal::NoSuchBank), [`SameBank`](Refusal::SameBank),
+    /// [`ClashThere`](Refusal::ClashThere), [`RowFull`](Refusal::RowFull) and [`CapPassed`](Refusal::CapPassed).
     pub fn add(&mut self, a: Bank, b: Bank) -> Result<Edit, Refused> {
         self.edit(|plan, answers| plan.add(a.0, b.0, answers))
     }
 
-    /// Strikes the clash of a and b.
+    /// Strikes the clash of a and b. That can take a wave more, since it changes who comes first.
+    ///
+    /// # Errors
+    ///
+    /// The first that is due of [`NoSuchBank`](Refusal::NoSuchBank), [`SameBank`](Refusal::SameBank),
+    /// [`NoClash`](Refusal::NoClash) and [`CapPassed`](Refusal::CapPassed).
     pub fn strike(&mut self, a: Bank, b: Bank) -> Result<Edit, Refused> {
         self.edit(|plan, answers| plan.strike(a.0, b.0, answers))
     }
 
-    /// Sets the cap: edits that would need more waves are refused from now on.
+    /// Sets the cap, from 1 to 24: an edit, add or strike, that would need more waves is refused from now on.
+    ///
+    /// ```
+    /// # fn main() -> Result<(), wave_plan::Refused> {
+    /// use wave_plan::{Bank, Plan, Refusal};
+    ///
+    /// let mut plan = Plan::read_list("N 3\n+ 0 1\n+ 1 2\n")?;
+    /// plan.set_cap(2)?;
+    /// let refused = plan.add(Bank(0), Bank(2)).unwrap_err();
+    /// assert_eq!(refused.refusal, Refusal::CapPassed);
+    /// # Ok(())
+    /// # }
+    /// ```
+    ///
+    /// # Errors
+    ///
+    /// [`CapOutOfSpan`](Refusal::CapOutOfSpan), and [`CapPassed`](Refusal::CapPassed) for one below the waves in use.
     pub fn set_cap(&mut self, cap: u16) -> Result<(), Refused> {
         answer(self.lent().set_cap(cap))
     }
 
-    /// Sets the rank of bank b, in a plan without clashes. Refused as a K row is: 18 where there are clashes, 4 where
-    /// there is no such bank; 3 for a rank above 9,999, with which the memory would hold no plan.
+    /// Sets the rank of bank b, from 0 to 9,999, in a plan without clashes. Of two banks with as many clashes the one of
+    /// the smaller rank comes first.
+    ///
+    /// ```
+    /// # fn main() -> Result<(), wave_plan::Refused> {
+    /// use wave_plan::{Bank, Plan};
+    ///
+    /// let mut plan = Plan::open(2)?;
+    /// plan.set_rank(Bank(0), 10)?;
+    /// plan.add(Bank(0), Bank(1))?;
+    /// assert_eq!(plan.sheet()?, "WAVES 2\nA 1\nB 0\nTOTAL 2 1\n");
+    /// # Ok(())
+    /// # }
+    /// ```
+    ///
+    /// # Errors
+    ///
+    /// As for a K row, [`LateRank`](Refusal::LateRank) where there are clashes, then
+    /// [`NoSuchBank`](Refusal::NoSuchBank); and [`NoPlan`](Refusal::NoPlan) for a rank above 9,999, with which the memory
+    /// would hold no plan.
     pub fn set_rank(&mut self, b: Bank, rank: u16) -> Result<(), Refused> {
-        let refusal = if self.clashes() > 0 {
-            Refusal::LateRank
-        } else if b.0 >= self.banks() {
-            Refusal::NoSuchBank
-        } else if rank > MAX_RANK {
-            Refusal::NoPlan
-        } else {
-            self.ranks[usize::from(b.0)] = rank;
-            return Ok(());
-        };
-        answer(refusal.number())
+        if self.clashes() > 0 {
+            return Err(Refusal::LateRank.into());
+        }
+        let cell = self.ranks.get_mut(usize::from(b.0));
+        let cell = cell.ok_or(Refusal::NoSuchBank)?;
+        if rank > MAX_RANK {
+            return Err(Refusal::NoPlan.into());
+        }
+        *cell = rank;
+        Ok(())
     }
 
-    fn edit(&mut self, call: impl FnOnce(&mut Lent, &mut Answers) -> u16) -> Result<Edit, Refused> {
-        let mut left = Left::of(self.banks());
-        answer(call(&mut self.lent(), &mut left.lent()))?;
-        Ok(left.edit())
+    /// A call that changes the plan, and how far it reached.
+    pub(crate) fn edit(
+        &mut self,
+        call: impl FnOnce(&mut Lent, &mut Answers) -> u16,
+    ) -> Result<Edit, Refused> {
+        let mut answers = OwnedAnswers::of(self.banks());
+        answer(call(&mut self.lent(), &mut answers.lent()))?;
+        Ok(answers.edit())
     }
 }
 
@@ -136,7 +186,7 @@ impl Plan {
         self.tally[2]
     }
 
-    /// The cap.
+    /// The cap: the most waves that an edit may lead to.
     pub fn cap(&self) -> u16 {
         self.tally[3]
     }
@@ -146,12 +196,13 @@ impl Plan {
         self.waves.iter().copied().map(Wave).collect()
     }
 
-    /// The ranks by bank number, as the K rows of its list or the K fields of its journal set them.
+    /// The ranks by bank number.
     pub fn ranks(&self) -> &[u16] {
         &self.ranks
     }
 
-    /// The banks that clash with bank b, ascending; none if there is no such bank. `clashes_of` without its questions.
+    /// The banks that clash with bank b, ascending; none if there is no such bank. That is [`clashes_of`](Plan::clashes_of)
+    /// without its questions, the test of all cells included.
     pub fn neighbours_of(&self, b: Bank) -> Vec<Bank> {
         let at = usize::from(b.0);
         match self.degrees.get(at) {
@@ -161,45 +212,48 @@ impl Plan {
     }
 
     /// The wave of bank b.
+    ///
+    /// # Errors
+    ///
+    /// [`NoSuchBank`](Refusal::NoSuchBank).
     pub fn wave_of(&self, b: Bank) -> Result<Wave, Refused> {
         let [wave] = self.ask(|plan, result| plan.wave_of(b.0, result))?;
         Ok(Wave(wave))
     }
 
     /// The banks that clash with bank b, ascending.
+    ///
+    /// # Errors
+    ///
+    /// [`NoSuchBank`](Refusal::NoSuchBank).
     pub fn clashes_of(&self, b: Bank) -> Result<Vec<Bank>, Refused> {
         let row = self.ask(|plan, result| plan.clashes_of(b.0, result))?;
         let [start, length] = row.map(usize::from);
         Ok(banks(&self.neighbours[start..start + length]))
     }
 
-    /// How many waves the plan has at most, from its degrees alone.
+    /// How many waves the plan has at most, from its numbers of clashes alone (Welsh and Powell).
+    ///
+    /// # Errors
+    ///
+    /// None is due.
     pub fn wave_bound(&self) -> Result<u16, Refused> {
         let [bound] = self.ask(Read::wave_bound)?;
         Ok(bound)
     }
 
-    /// The wave of bank b in a plan of at most 16 banks, read straight off the rule.
+    /// The wave of bank b in a plan of at most 16 banks, read straight off the rule and not from the kept waves.
+    ///
+    /// # Errors
+    ///
+    /// [`ManyBanksByRule`](Refusal::ManyBanksByRule), then [`NoSuchBank`](Refusal::NoSuchBank).
     pub fn wave_by_rule(&self, b: Bank) -> Result<Wave, Refused> {
         let [wave] = self.ask(|plan, result| plan.wave_by_rule(b.0, result))?;
         Ok(Wave(wave))
     }
 
-    /// The day as so many couriers, from 1 to 64, serve it.
-    pub fn crew_steps(&self, couriers: u16) -> Result<Day, Refused> {
-        let mut steps = vec![0; usize::from(self.banks())];
-        let [total] = self.ask(|plan, result| plan.crew_steps(couriers, &mut steps, result))?;
-        Ok(Day { steps, total })
-    }
-
-    /// The least crew, from 1 to 64, that ends within so many steps.
-    pub fn least_crew(&self, limit: u16) -> Result<u16, Refused> {
-        let [couriers] = self.ask(|plan, result| plan.least_crew(limit, result))?;
-        Ok(couriers)
-    }
-
     /// A call that reads the plan, and its results.
-    fn ask<'a, const N: usize>(
+    pub(crate) fn ask<'a, const N: usize>(
         &'a self,
         call: impl FnOnce(Read<'a>, &mut [u16]) -> u16,
     ) -> Result<[u16; N], Refused> {
@@ -209,116 +263,7 @@ impl Plan {
     }
 }
 
-/// Sheets and posters.
-impl Plan {
-    /// The sheet.
-    pub fn sheet(&self) -> Result<String, Refused> {
-        let sheet = self.written(SHEET_BYTES, Read::write_sheet)?;
-        Ok(String::from_utf8(sheet).expect("a sheet is ASCII"))
-    }
-
-    /// The gate poster.
-    pub fn poster(&self) -> Result<String, Refused> {
-        let poster = self.written(POSTER_BYTES, Read::write_poster)?;
-        Ok(String::from_utf8(poster).expect("a poster is ASCII"))
-    }
-
-    /// Checks a sheet from anybody: some waves of this plan's banks, no more than the plan's, that keep clashing
-    /// banks apart.
-    pub fn check_sheet(&self, sheet: impl AsRef<[u8]>) -> Result<(), WrongSheet> {
-        let mut result = [0; 3];
-        let number = self.read().check_sheet(sheet.as_ref(), &mut result);
-        let [line, first, second] = result;
-        answer(number).map_err(|refused| match refused.refusal {
-            Refusal::NoSheet => WrongSheet::NoSheet { line },
-            Refusal::SheetClash if first == second => WrongSheet::ManyWaves,
-            Refusal::SheetClash => WrongSheet::Clash(Bank(first), Bank(second)),
-            _ => WrongSheet::Refused(refused),
-        })
-    }
-
-    /// What a call writes of the plan, at most so many bytes.
-    fn written<'a>(
-        &'a self,
-        most: usize,
-        call: impl FnOnce(Read<'a>, &mut [u8], &mut [u16]) -> u16,
-    ) -> Result<Vec<u8>, Refused> {
-        let mut bytes = vec![0; most];
-        let [length] = self.ask(|plan, result| call(plan, &mut bytes, result))?;
-        bytes.truncate(usize::from(length));
-        Ok(bytes)
-    }
-}
-
-/// Journals.
-impl Plan {
-    /// A new journal of the plan.
-    pub fn start_journal(&self) -> Result<Vec<u8>, Refused> {
-        self.written(JOURNAL_BYTES, Read::start_journal)
-    }
-
-    /// Adds the clash of a and b and records it at the journal's end.
-    pub fn add_recorded(
-        &mut self,
-        a: Bank,
-        b: Bank,
-        journal: &mut Vec<u8>,
-    ) -> Result<Edit, Refused> {
-        self.recorded(journal, |plan, bytes, length, answers| {
-            plan.add_recorded(a.0, b.0, bytes, length, answers)
-        })
-    }
-
-    /// Strikes the clash of a and b and records it at the journal's end.
-    pub fn strike_recorded(
-        &mut self,
-        a: Bank,
-        b: Bank,
-        journal: &mut Vec<u8>,
-    ) -> Result<Edit, Refused> {
-        self.recorded(journal, |plan, bytes, length, answers| {
-            plan.strike_recorded(a.0, b.0, bytes, length, answers)
-        })
-    }
-
-    /// A call that records an edit, with space for its field. The journal keeps its length if the
-    /// call is refused.
-    fn recorded(
-        &mut self,
-        journal: &mut Vec<u8>,
-        call: impl FnOnce(&mut Lent, &mut [u8], usize, &mut Answers) -> u16,
-    ) -> Result<Edit, Refused> {
-        let mut length = journal.len();
-        journal.resize(length + ENTRY_BYTES, 0);
-        let edit = self.edit(|plan, answers| {
-            let number = call(plan, journal, length, answers);
-            if number == 0 {
-                length = usize::from(answers.result[2]);
-            }
-            number
-        });
-        journal.truncate(length);
-        edit
-    }
-}
-
-/// Kept plans.
-impl Plan {
-    /// Keeps the plan and its cap under a name, in the place of what was kept there before.
-    pub fn keep(&self, shelf: &mut Shelf, name: Name) -> Result<(), Refused> {
-        answer(self.read().keep(&mut shelf.cells, name.bytes()))
-    }
-
-    /// Comes back to the plan and the cap kept under a name. The answer is the banks whose wave differs,
-    /// ascending.
-    pub fn come_back(&mut self, shelf: &Shelf, name: Name) -> Result<Vec<Bank>, Refused> {
-        let edit =
-            self.edit(|plan, answers| plan.come_back(&shelf.cells, name.bytes(), answers))?;
-        Ok(edit.moved)
-    }
-}
-
-/// Its memory.
+/// Its memory: the cells of its banks and no others.
 impl Plan {
     /// Memory for a plan of n banks, all cells 0.
     fn memory_for(n: u16) -> Plan {
@@ -347,7 +292,7 @@ impl Plan {
         cut(&mut self.ranks, n);
     }
 
-    fn read(&self) -> Read<'_> {
+    pub(crate) fn read(&self) -> Read<'_> {
         Read {
             neighbours: &self.neighbours,
             degrees: &self.degrees,
@@ -358,7 +303,7 @@ impl Plan {
         }
     }
 
-    fn lent(&mut self) -> Lent<'_> {
+    pub(crate) fn lent(&mut self) -> Lent<'_> {
         Lent {
             neighbours: &mut self.neighbours,
             degrees: &mut self.degrees,
@@ -370,7 +315,7 @@ impl Plan {
     }
 }
 
-/// The tally: a plan has up to 50,000 cells.
+/// The tally alone: a plan has up to 51,200 cells.
 impl fmt::Debug for Plan {
     fn fmt(&self, f: &mut fmt::Formatter<'_>) -> fmt::Result {
         f.debug_struct("Plan")

@@ -1,11 +1,84 @@
-//! What is wrong with a sheet from anybody.
+//! Sheets and posters, and sheets from anybody.
 
-use crate::refusal::{Refusal, Refused};
+use crate::lent::Read;
+use crate::plan::Plan;
+use crate::refusal::{answer, Refusal, Refused};
 use crate::Bank;
 use std::error::Error;
 use std::fmt;
 
-/// Why [`Plan::check_sheet`](crate::Plan::check_sheet) does not accept a sheet.
+/// The bytes of the longest sheet and of the longest poster.
+const SHEET_BYTES: usize = 4084;
+const POSTER_BYTES: usize = 8200;
+
+/// Sheets and posters.
+impl Plan {
+    /// The sheet: its waves, a line for each, and a foot with the numbers of banks and clashes.
+    ///
+    /// # Errors
+    ///
+    /// None is due.
+    pub fn sheet(&self) -> Result<String, Refused> {
+        let sheet = self.written(SHEET_BYTES, Read::write_sheet)?;
+        Ok(String::from_utf8(sheet).expect("a sheet is ASCII"))
+    }
+
+    /// The gate poster: the sheet's waves in pages of 50 lines of 40 characters.
+    ///
+    /// # Errors
+    ///
+    /// None is due.
+    pub fn poster(&self) -> Result<String, Refused> {
+        let poster = self.written(POSTER_BYTES, Read::write_poster)?;
+        Ok(String::from_utf8(poster).expect("a poster is ASCII"))
+    }
+
+    /// Checks a sheet from anybody. It is accepted exactly if it names every bank once, has no empty wave, ends in this
+    /// plan's foot, keeps clashing banks in different waves and has no more waves than the plan. Its waves need not be the
+    /// rule's.
+    ///
+    /// ```
+    /// # fn main() -> Result<(), wave_plan::Refused> {
+    /// use wave_plan::{Bank, Plan, WrongSheet};
+    ///
+    /// let plan = Plan::read_list("N 3\n+ 0 1\n+ 1 2\n")?;
+    /// assert_eq!(plan.check_sheet(plan.sheet()?), Ok(()));
+    /// assert_eq!(plan.check_sheet("WAVES 2\nA 0 2\nB 1\nTOTAL 3 2\n"), Ok(()));
+    /// let wrong = plan.check_sheet("WAVES 2\nA 0\nB 1 2\nTOTAL 3 2\n");
+    /// assert_eq!(wrong, Err(WrongSheet::Clash(Bank(1), Bank(2))));
+    /// # Ok(())
+    /// # }
+    /// ```
+    ///
+    /// # Errors
+    ///
+    /// What is wrong with it.
+    pub fn check_sheet(&self, sheet: impl AsRef<[u8]>) -> Result<(), WrongSheet> {
+        let mut result = [0; 3];
+        let number = self.read().check_sheet(sheet.as_ref(), &mut result);
+        let [line, first, second] = result;
+        answer(number).map_err(|refused| match refused.refusal {
+            Refusal::NoSheet => WrongSheet::NoSheet { line },
+            Refusal::SheetClash if first == second => WrongSheet::ManyWaves,
+            Refusal::SheetClash => WrongSheet::Clash(Bank(first), Bank(second)),
+            _ => WrongSheet::Refused(refused),
+        })
+    }
+
+    /// What a call writes of the plan, at most so many bytes.
+    pub(crate) fn written<'a>(
+        &'a self,
+        most: usize,
+        call: impl FnOnce(Read<'a>, &mut [u8], &mut [u16]) -> u16,
+    ) -> Result<Vec<u8>, Refused> {
+        let mut bytes = vec![0; most];
+        let [length] = self.ask(|plan, result| call(plan, &mut bytes, result))?;
+        bytes.truncate(usize::from(length));
+        Ok(bytes)
+    }
+}
+
+/// Why [`Plan::check_sheet`](Plan::check_sheet) does not accept a sheet.
 #[derive(Clone, Copy, Debug, PartialEq, Eq)]
 pub enum WrongSheet {
     /// The bytes are no sheet of the plan (26).
