@@ -1,6 +1,7 @@
 //! What an edit leaves beside the plan: the banks that it took up and those that it moved.
 
 use crate::lent::Answers;
+use crate::limits::RECORD_RESULTS;
 use crate::Bank;
 
 /// How far an accepted edit reached.
@@ -34,7 +35,7 @@ pub struct Edit {
 pub(crate) struct OwnedAnswers {
     trail: Vec<u16>,
     moved: Vec<u16>,
-    pub(crate) result: [u16; 3],
+    pub(crate) result: [u16; RECORD_RESULTS],
 }
 
 impl OwnedAnswers {
@@ -43,7 +44,7 @@ impl OwnedAnswers {
         OwnedAnswers {
             trail: vec![0; usize::from(n)],
             moved: vec![0; usize::from(n)],
-            result: [0; 3],
+            result: [0; RECORD_RESULTS],
         }
     }
 

@@ -2,15 +2,12 @@
 
 use crate::edit::Edit;
 use crate::lent::{Answers, Lent, Read};
+use crate::limits::{ENTRY_BYTES, MOST_JOURNAL_BYTES};
 use crate::plan::Plan;
 use crate::refusal::Refused;
 use crate::Bank;
 #[cfg(doc)]
 use crate::Refusal;
-
-/// The most bytes of a journal, and of the field of one edit.
-const JOURNAL_BYTES: usize = 60_000;
-const ENTRY_BYTES: usize = 11;
 
 /// Journals.
 impl Plan {
@@ -30,7 +27,7 @@ impl Plan {
     ///
     /// [`NoSpace`](Refusal::NoSpace) where that takes more than 60,000 bytes.
     pub fn start_journal(&self) -> Result<Vec<u8>, Refused> {
-        self.written(JOURNAL_BYTES, Read::start_journal)
+        self.written(MOST_JOURNAL_BYTES, Read::start_journal)
     }
 
     /// Adds the clash of a and b and records it at the journal's end. Refused, both stay as they were.

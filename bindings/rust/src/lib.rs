@@ -118,6 +118,7 @@ mod edit;
 mod journal;
 #[allow(unsafe_code)]
 pub mod lent;
+mod limits;
 mod numbers;
 mod plan;
 mod raw;

@@ -2,17 +2,10 @@
 
 use crate::edit::{banks, Edit, OwnedAnswers};
 use crate::lent::{Answers, Lent, Read};
+use crate::limits::{COUNT_CELLS, MOST_BANKS, MOST_RANK, ROW_CELLS, TALLY_CELLS};
 use crate::refusal::{answer, answer_at, Refusal, Refused};
 use crate::{Bank, Wave};
 use std::fmt;
-
-/// The most banks of a plan.
-pub(crate) const MAX_BANKS: u16 = 1024;
-
-/// The largest rank, the cells of a row and the cells of a bank's counts.
-const MAX_RANK: u16 = 9999;
-const ROW_CELLS: usize = 23;
-const COUNT_CELLS: usize = 24;
 
 /// A plan and the memory that it stands in.
 ///
@@ -32,7 +25,7 @@ pub struct Plan {
     counts: Vec<u16>,
     ranks: Vec<u16>,
     /// Banks, clashes, waves, cap.
-    tally: [u16; 4],
+    tally: [u16; TALLY_CELLS],
 }
 
 /// Making a plan.
@@ -43,7 +36,7 @@ impl Plan {
     ///
     /// [`TooManyBanks`](Refusal::TooManyBanks) above 1,024.
     pub fn open(n: u16) -> Result<Plan, Refused> {
-        let mut plan = Plan::memory_for(n.min(MAX_BANKS));
+        let mut plan = Plan::memory_for(n.min(MOST_BANKS));
         answer(plan.lent().open(n))?;
         Ok(plan)
     }
@@ -72,8 +65,8 @@ impl Plan {
     pub(crate) fn made(
         call: impl FnOnce(&mut Lent, &mut Answers) -> u16,
     ) -> Result<(Plan, usize), Refused> {
-        let mut plan = Plan::memory_for(MAX_BANKS);
-        let mut answers = OwnedAnswers::of(MAX_BANKS);
+        let mut plan = Plan::memory_for(MOST_BANKS);
+        let mut answers = OwnedAnswers::of(MOST_BANKS);
         let number = call(&mut plan.lent(), &mut answers.lent());
         let [place, second, _] = answers.result;
         answer_at(number, place)?;
@@ -151,7 +144,7 @@ impl Plan {
         }
         let cell = self.ranks.get_mut(usize::from(b.0));
         let cell = cell.ok_or(Refusal::NoSuchBank)?;
-        if rank > MAX_RANK {
+        if rank > MOST_RANK {
             return Err(Refusal::NoPlan.into());
         }
         *cell = rank;
@@ -274,7 +267,7 @@ impl Plan {
             waves: vec![0; n],
             counts: vec![0; COUNT_CELLS * n],
             ranks: vec![0; n],
-            tally: [0; 4],
+            tally: [0; TALLY_CELLS],
         }
     }
 

@@ -1,15 +1,12 @@
 //! Sheets and posters, and sheets from anybody.
 
 use crate::lent::Read;
+use crate::limits::{MOST_POSTER_BYTES, MOST_SHEET_BYTES};
 use crate::plan::Plan;
 use crate::refusal::{answer, Refusal, Refused};
 use crate::Bank;
 use std::error::Error;
 use std::fmt;
-
-/// The bytes of the longest sheet and of the longest poster.
-const SHEET_BYTES: usize = 4084;
-const POSTER_BYTES: usize = 8200;
 
 /// Sheets and posters.
 impl Plan {
@@ -19,7 +16,7 @@ impl Plan {
     ///
     /// None is due.
     pub fn sheet(&self) -> Result<String, Refused> {
-        let sheet = self.written(SHEET_BYTES, Read::write_sheet)?;
+        let sheet = self.written(MOST_SHEET_BYTES, Read::write_sheet)?;
         Ok(String::from_utf8(sheet).expect("a sheet is ASCII"))
     }
 
@@ -29,7 +26,7 @@ impl Plan {
     ///
     /// None is due.
     pub fn poster(&self) -> Result<String, Refused> {
-        let poster = self.written(POSTER_BYTES, Read::write_poster)?;
+        let poster = self.written(MOST_POSTER_BYTES, Read::write_poster)?;
         Ok(String::from_utf8(poster).expect("a poster is ASCII"))
     }
 

@@ -1,7 +1,8 @@
 //! A shelf that owns its memory, and the names under which plans are kept in it.
 
 use crate::lent::open_shelf;
-use crate::plan::{Plan, MAX_BANKS};
+use crate::limits::{place_cells, MOST_BANKS, PLACES};
+use crate::plan::Plan;
 use crate::refusal::{answer, Refusal, Refused};
 use crate::Bank;
 use std::fmt;
@@ -29,7 +30,7 @@ pub enum Name {
 
 impl Name {
     /// The names in the order of their places.
-    pub const ALL: [Name; 3] = [Name::Morning, Name::Noon, Name::Close];
+    pub const ALL: [Name; PLACES] = [Name::Morning, Name::Noon, Name::Close];
 
     /// The name as the library takes it: eight bytes, filled up with spaces.
     pub fn bytes(self) -> &'static [u8; 8] {
@@ -82,8 +83,7 @@ impl Shelf {
     ///
     /// [`TooManyBanks`](Refusal::TooManyBanks) above 1,024.
     pub fn open(n: u16) -> Result<Shelf, Refused> {
-        let place_cells = 50 * usize::from(n.min(MAX_BANKS)) + 5;
-        let mut cells = vec![0; Name::ALL.len() * place_cells];
+        let mut cells = vec![0; PLACES * place_cells(n.min(MOST_BANKS))];
         answer(open_shelf(&mut cells, n))?;
         Ok(Shelf { banks: n, cells })
     }
