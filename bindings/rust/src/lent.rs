@@ -5,6 +5,32 @@
 //! result slice. The slices may have any content, and be longer or shorter than the call needs: memory
 //! that holds no plan gets 3, a short slice gets 2.
 //!
+//! ```
+//! use wave_plan::lent::{Answers, Lent};
+//!
+//! let (mut neighbours, mut counts) = ([0; 23 * 2], [0; 24 * 2]);
+//! let (mut degrees, mut waves, mut ranks, mut tally) = ([0; 2], [0; 2], [0; 2], [0; 4]);
+//! let (mut trail, mut moved, mut result) = ([0; 2], [0; 2], [0; 2]);
+//! let mut plan = Lent {
+//!     neighbours: &mut neighbours,
+//!     degrees: &mut degrees,
+//!     waves: &mut waves,
+//!     counts: &mut counts,
+//!     ranks: &mut ranks,
+//!     tally: &mut tally,
+//! };
+//! let mut answers = Answers {
+//!     trail: &mut trail,
+//!     moved: &mut moved,
+//!     result: &mut result,
+//! };
+//! assert_eq!(plan.open(2), 0);
+//! assert_eq!(plan.add(0, 1, &mut answers), 0);
+//! assert_eq!(plan.add(0, 1, &mut answers), 6);
+//! assert_eq!(plan.read().wave_of(1, &mut result), 0);
+//! assert_eq!((result[0], waves), (1, [0, 1]));
+//! ```
+//!
 //! # Why the unsafe code is sound
 //!
 //! This is the only file of the package with unsafe code, and the one unsafe expression in it is the
