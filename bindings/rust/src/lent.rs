@@ -44,7 +44,8 @@
 //!   header and against the sources of the library.
 //!
 //! The function asks nothing of what the cells hold. It keeps no pointer, and it has no state of its
-//! own, so that calls on different slices may run in several threads. It needs up to 56 KB of stack.
+//! own, so that calls on different slices may run in several threads. It needs up to 56 KB of stack,
+//! which types cannot say: a thread that is started with less than Rust's default must have them free.
 
 use crate::raw;
 

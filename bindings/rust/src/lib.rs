@@ -30,7 +30,7 @@
 //! A [`Plan`] owns the memory that it lends to the library: 50 cells of 16 bits for each bank, at most 1,024 banks, so
 //! 100 KB at most. Nothing is shared between plans, and the library keeps nothing: a plan can be cloned, sent to another
 //! thread, and read from several at once. A call that reads takes `&self`, one that changes the plan `&mut self`. A call
-//! needs up to 56 KB of stack.
+//! needs up to 56 KB of stack; see to that where a thread is started with less than the default.
 //!
 //! Who keeps the cells elsewhere, in a file that is mapped, say, lends them to the calls in [`lent`].
 //!
