@@ -36,7 +36,7 @@ mod night;
 mod parts;
 mod plot;
 mod program;
-/// The declarations of the C library, shared with its tests; the benchmarks call a part of them.
+/// The declarations of the C library, shared with the safe wrapper; the benchmarks call a part of them.
 #[allow(dead_code)]
 #[path = "../../bindings/rust/src/raw.rs"]
 mod raw;

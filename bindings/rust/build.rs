@@ -15,4 +15,8 @@ fn main() {
     println!("cargo:rerun-if-changed={}", archive.display());
     println!("cargo:rustc-link-search=native={}", folder.display());
     println!("cargo:rustc-link-lib=static=wave_plan");
+    if !archive.exists() {
+        let archive = archive.display();
+        println!("cargo:warning=no {archive}: run `make lib`, or set WAVE_PLAN_LIB_DIR");
+    }
 }

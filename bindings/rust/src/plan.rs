@@ -1,178 +1,169 @@
 //! A plan that owns its memory.
 
-use crate::lent::Lent;
+use crate::edit::{banks, Edit, OwnedAnswers};
+use crate::lent::{Answers, Lent, Read};
+use crate::limits::{COUNT_CELLS, MOST_BANKS, MOST_RANK, ROW_CELLS, TALLY_CELLS};
 use crate::refusal::{answer, answer_at, Refusal, Refused};
-use crate::shelf::{Name, Shelf};
-
-/// The number of a bank (a vertex id).
-#[derive(Clone, Copy, Debug, PartialEq, Eq, PartialOrd, Ord, Hash)]
-pub struct Bank(pub u16);
-
-/// The number of a wave (a colour).
-#[derive(Clone, Copy, Debug, PartialEq, Eq, PartialOrd, Ord, Hash)]
-pub struct Wave(pub u16);
-
-impl Wave {
-    /// The letter of the wave: A to Z without I and O. The waves of a plan are below 24.
-    pub fn letter(self) -> char {
-        char::from(b"ABCDEFGHJKLMNPQRSTUVWXYZ"[usize::from(self.0)])
-    }
-}
-
-/// An accepted edit: the banks taken up and the banks whose wave changed, both in the new order.
-#[derive(Clone, Debug, PartialEq, Eq)]
-pub struct Edit {
-    pub trail: Vec<Bank>,
-    pub moved: Vec<Bank>,
-}
-
-/// A day as a crew serves it: the step of each bank, from 1, and how many steps there are.
-#[derive(Clone, Debug, PartialEq, Eq)]
-pub struct Day {
-    pub steps: Vec<u16>,
-    pub total: u16,
-}
-
-/// What is wrong with a sheet from anybody.
-#[derive(Clone, Copy, Debug, PartialEq, Eq)]
-pub enum WrongSheet {
-    /// The bytes are no sheet of the plan (26): the first line at fault, from 1.
-    NoSheet { line: u16 },
-    /// Two banks that clash stand in one wave (27).
-    Clash(Bank, Bank),
-    /// It has more waves than the plan (27).
-    ManyWaves,
-    /// The call was refused before the sheet was read.
-    Refused(Refused),
-}
-
-/// The most banks of a plan.
-pub(crate) const MAX_BANKS: u16 = 1024;
-
-/// The largest rank, and the cells of a row.
-const MAX_RANK: u16 = 9999;
-const ROW_CELLS: usize = 23;
-
-/// The bytes of the longest sheet: 9 for its first line, 2 for each of 24 waves, 4,010 for 1,024
-/// banks, 17 for its foot.
-const SHEET_BYTES: usize = 4084;
-
-/// The most bytes of a journal, and of the field of one edit.
-const JOURNAL_BYTES: usize = 60_000;
-const ENTRY_BYTES: usize = 11;
-
-/// The bytes of the longest poster: four pages.
-const POSTER_BYTES: usize = 8200;
+use crate::{Bank, Wave};
+use std::fmt;
 
 /// A plan and the memory that it stands in.
-#[derive(Clone, Debug)]
+///
+/// After each call its waves are those of the rule: the bank with the most clashes first, equal ones by rank and then by
+/// number, each in the lowest wave that no earlier clashing bank holds. A refused call changes nothing.
+///
+/// Only the library's calls write the memory, and [`set_rank`](Plan::set_rank) before the first clash. So it always holds
+/// a plan, and a call that reads it is refused for its arguments alone; [`sheet`](Plan::sheet), [`poster`](Plan::poster)
+/// and [`wave_bound`](Plan::wave_bound) have none, and answer a `Result` since the library may refuse any call.
+///
+/// Plans are equal if they have the same banks, clashes, ranks and cap; then they have the same waves.
+#[derive(Clone, PartialEq, Eq)]
 pub struct Plan {
     neighbours: Vec<u16>,
     degrees: Vec<u16>,
     waves: Vec<u16>,
     counts: Vec<u16>,
     ranks: Vec<u16>,
-    trail: Vec<u16>,
-    moved: Vec<u16>,
     /// Banks, clashes, waves, cap.
-    tally: [u16; 4],
-    result: [u16; 3],
+    tally: [u16; TALLY_CELLS],
 }
 
+/// Making a plan.
 impl Plan {
     /// A plan of n banks without a clash, all of rank 0, the cap 24.
+    ///
+    /// # Errors
+    ///
+    /// [`TooManyBanks`](Refusal::TooManyBanks) above 1,024.
     pub fn open(n: u16) -> Result<Plan, Refused> {
-        let mut plan = Plan::memory_for(n.min(MAX_BANKS));
+        let mut plan = Plan::memory_for(n.min(MOST_BANKS));
         answer(plan.lent().open(n))?;
         Ok(plan)
     }
 
-    /// The plan of a list.
-    pub fn read_list(list: &[u8]) -> Result<Plan, Refused> {
-        let mut plan = Plan::memory_for(MAX_BANKS);
-        let number = plan.lent().read_list(list);
-        answer_at(number, plan.result[0])?;
+    /// The plan of a list: rows `N n`, `K b r`, `+ a b`, `- a b` and `D b`, as the README describes them. The last row
+    /// counts with or without a line feed.
+    ///
+    /// ```
+    /// # fn main() -> Result<(), wave_plan::Refused> {
+    /// let plan = wave_plan::Plan::read_list("N 4\n+ 0 1\n+ 1 2\n+ 2 3\n+ 0 3")?;
+    /// assert_eq!(plan.sheet()?, "WAVES 2\nA 0 2\nB 1 3\nTOTAL 4 4\n");
+    /// # Ok(())
+    /// # }
+    /// ```
+    ///
+    /// # Errors
+    ///
+    /// The first refusal that is due, with the row that was refused as its [`place`](Refused::place). The rows before it
+    /// then make no plan here; [`Lent::read_list`] leaves theirs.
+    pub fn read_list(list: impl AsRef<[u8]>) -> Result<Plan, Refused> {
+        let (plan, _) = Plan::made(|plan, answers| plan.read_list(list.as_ref(), answers))?;
         Ok(plan)
     }
 
-    /// The plan of a journal, and how many bytes of it were left over.
-    pub fn replay(journal: &[u8]) -> Result<(Plan, usize), Refused> {
-        let mut plan = Plan::memory_for(MAX_BANKS);
-        let number = plan.lent().replay(journal);
-        answer_at(number, plan.result[0])?;
-        let left = usize::from(plan.result[1]);
-        Ok((plan, left))
+    /// The plan that a call makes from a text, and the call's second result.
+    pub(crate) fn made(
+        call: impl FnOnce(&mut Lent, &mut Answers) -> u16,
+    ) -> Result<(Plan, usize), Refused> {
+        let mut plan = Plan::memory_for(MOST_BANKS);
+        let mut answers = OwnedAnswers::of(MOST_BANKS);
+        let number = call(&mut plan.lent(), &mut answers.lent());
+        let [place, second, _] = answers.result;
+        answer_at(number, place)?;
+        plan.give_back_memory();
+        Ok((plan, usize::from(second)))
     }
+}
 
-    /// A new journal of the plan.
-    pub fn start_journal(&mut self) -> Result<Vec<u8>, Refused> {
-        let mut journal = vec![0; JOURNAL_BYTES];
-        answer(self.lent().start_journal(&mut journal))?;
-        journal.truncate(usize::from(self.result[0]));
-        Ok(journal)
-    }
-
-    /// Adds the clash of a and b and records it at the journal's end.
-    pub fn add_recorded(
-        &mut self,
-        a: Bank,
-        b: Bank,
-        journal: &mut Vec<u8>,
-    ) -> Result<Edit, Refused> {
-        self.recorded(journal, |plan, bytes, length| {
-            plan.lent().add_recorded(a.0, b.0, bytes, length)
-        })
-    }
-
-    /// Strikes the clash of a and b and records it at the journal's end.
-    pub fn strike_recorded(
-        &mut self,
-        a: Bank,
-        b: Bank,
-        journal: &mut Vec<u8>,
-    ) -> Result<Edit, Refused> {
-        self.recorded(journal, |plan, bytes, length| {
-            plan.lent().strike_recorded(a.0, b.0, bytes, length)
-        })
-    }
-
-    /// A call that records an edit, with space for its field. The journal keeps its length if the
-    /// call is refused.
-    fn recorded(
-        &mut self,
-        journal: &mut Vec<u8>,
-        call: impl Fn(&mut Plan, &mut [u8], usize) -> u16,
-    ) -> Result<Edit, Refused> {
-        let length = journal.len();
-        journal.resize(length + ENTRY_BYTES, 0);
-        let number = call(self, journal, length);
-        let accepted = number == 0;
-        journal.truncate(if accepted {
-            usize::from(self.result[2])
-        } else {
-            length
-        });
-        answer(number)?;
-        Ok(self.edit())
-    }
-
+/// Changing a plan.
+impl Plan {
     /// Adds the clash of a and b.
+    ///
+    /// # Errors
+    ///
+    /// The first that is due of [`NoSuchBank`](Refusal::NoSuchBank), [`SameBank`](Refusal::SameBank),
+    /// [`ClashThere`](Refusal::ClashThere), [`RowFull`](Refusal::RowFull) and [`CapPassed`](Refusal::CapPassed).
     pub fn add(&mut self, a: Bank, b: Bank) -> Result<Edit, Refused> {
-        answer(self.lent().add(a.0, b.0))?;
-        Ok(self.edit())
+        self.edit(|plan, answers| plan.add(a.0, b.0, answers))
     }
 
-    /// Strikes the clash of a and b.
+    /// Strikes the clash of a and b. That can take a wave more, since it changes who comes first.
+    ///
+    /// # Errors
+    ///
+    /// The first that is due of [`NoSuchBank`](Refusal::NoSuchBank), [`SameBank`](Refusal::SameBank),
+    /// [`NoClash`](Refusal::NoClash) and [`CapPassed`](Refusal::CapPassed).
     pub fn strike(&mut self, a: Bank, b: Bank) -> Result<Edit, Refused> {
-        answer(self.lent().strike(a.0, b.0))?;
-        Ok(self.edit())
+        self.edit(|plan, answers| plan.strike(a.0, b.0, answers))
     }
 
-    /// Sets the cap: edits that would need more waves are refused from now on.
+    /// Sets the cap, from 1 to 24: an edit, add or strike, that would need more waves is refused from now on.
+    ///
+    /// ```
+    /// # fn main() -> Result<(), wave_plan::Refused> {
+    /// use wave_plan::{Bank, Plan, Refusal};
+    ///
+    /// let mut plan = Plan::read_list("N 3\n+ 0 1\n+ 1 2\n")?;
+    /// plan.set_cap(2)?;
+    /// let refused = plan.add(Bank(0), Bank(2)).unwrap_err();
+    /// assert_eq!(refused.refusal, Refusal::CapPassed);
+    /// # Ok(())
+    /// # }
+    /// ```
+    ///
+    /// # Errors
+    ///
+    /// [`CapOutOfSpan`](Refusal::CapOutOfSpan), and [`CapPassed`](Refusal::CapPassed) for one below the waves in use.
     pub fn set_cap(&mut self, cap: u16) -> Result<(), Refused> {
         answer(self.lent().set_cap(cap))
     }
 
+    /// Sets the rank of bank b, from 0 to 9,999, in a plan without clashes. Of two banks with as many clashes the one of
+    /// the smaller rank comes first.
+    ///
+    /// ```
+    /// # fn main() -> Result<(), wave_plan::Refused> {
+    /// use wave_plan::{Bank, Plan};
+    ///
+    /// let mut plan = Plan::open(2)?;
+    /// plan.set_rank(Bank(0), 10)?;
+    /// plan.add(Bank(0), Bank(1))?;
+    /// assert_eq!(plan.sheet()?, "WAVES 2\nA 1\nB 0\nTOTAL 2 1\n");
+    /// # Ok(())
+    /// # }
+    /// ```
+    ///
+    /// # Errors
+    ///
+    /// As for a K row, [`LateRank`](Refusal::LateRank) where there are clashes, then
+    /// [`NoSuchBank`](Refusal::NoSuchBank); and [`NoPlan`](Refusal::NoPlan) for a rank above 9,999, with which the memory
+    /// would hold no plan.
+    pub fn set_rank(&mut self, b: Bank, rank: u16) -> Result<(), Refused> {
+        if self.clashes() > 0 {
+            return Err(Refusal::LateRank.into());
+        }
+        let cell = self.ranks.get_mut(usize::from(b.0));
+        let cell = cell.ok_or(Refusal::NoSuchBank)?;
+        if rank > MOST_RANK {
+            return Err(Refusal::NoPlan.into());
+        }
+        *cell = rank;
+        Ok(())
+    }
+
+    /// A call that changes the plan, and how far it reached.
+    pub(crate) fn edit(
+        &mut self,
+        call: impl FnOnce(&mut Lent, &mut Answers) -> u16,
+    ) -> Result<Edit, Refused> {
+        let mut answers = OwnedAnswers::of(self.banks());
+        answer(call(&mut self.lent(), &mut answers.lent()))?;
+        Ok(answers.edit())
+    }
+}
+
+/// Asking about a plan.
+impl Plan {
     /// How many banks the plan has.
     pub fn banks(&self) -> u16 {
         self.tally[0]
@@ -188,130 +179,85 @@ impl Plan {
         self.tally[2]
     }
 
-    /// The cap.
+    /// The cap: the most waves that an edit may lead to.
     pub fn cap(&self) -> u16 {
         self.tally[3]
     }
 
+    /// The waves by bank number.
+    pub fn waves(&self) -> Vec<Wave> {
+        self.waves.iter().copied().map(Wave).collect()
+    }
+
+    /// The ranks by bank number.
+    pub fn ranks(&self) -> &[u16] {
+        &self.ranks
+    }
+
+    /// The banks that clash with bank b, ascending; none if there is no such bank. That is [`clashes_of`](Plan::clashes_of)
+    /// without its questions, the test of all cells included.
+    pub fn neighbours_of(&self, b: Bank) -> Vec<Bank> {
+        let at = usize::from(b.0);
+        match self.degrees.get(at) {
+            Some(&degree) => banks(&self.neighbours[ROW_CELLS * at..][..usize::from(degree)]),
+            None => Vec::new(),
+        }
+    }
+
     /// The wave of bank b.
-    pub fn wave_of(&mut self, b: Bank) -> Result<Wave, Refused> {
-        answer(self.lent().wave_of(b.0))?;
-        Ok(Wave(self.result[0]))
+    ///
+    /// # Errors
+    ///
+    /// [`NoSuchBank`](Refusal::NoSuchBank).
+    pub fn wave_of(&self, b: Bank) -> Result<Wave, Refused> {
+        let [wave] = self.ask(|plan, result| plan.wave_of(b.0, result))?;
+        Ok(Wave(wave))
     }
 
     /// The banks that clash with bank b, ascending.
-    pub fn clashes_of(&mut self, b: Bank) -> Result<Vec<Bank>, Refused> {
-        answer(self.lent().clashes_of(b.0))?;
-        let [start, length, _] = self.result.map(usize::from);
+    ///
+    /// # Errors
+    ///
+    /// [`NoSuchBank`](Refusal::NoSuchBank).
+    pub fn clashes_of(&self, b: Bank) -> Result<Vec<Bank>, Refused> {
+        let row = self.ask(|plan, result| plan.clashes_of(b.0, result))?;
+        let [start, length] = row.map(usize::from);
         Ok(banks(&self.neighbours[start..start + length]))
     }
 
-    /// How many waves the plan has at most, from its degrees alone.
-    pub fn wave_bound(&mut self) -> Result<u16, Refused> {
-        answer(self.lent().wave_bound())?;
-        Ok(self.result[0])
+    /// How many waves the plan has at most, from its numbers of clashes alone (Welsh and Powell).
+    ///
+    /// # Errors
+    ///
+    /// None is due.
+    pub fn wave_bound(&self) -> Result<u16, Refused> {
+        let [bound] = self.ask(Read::wave_bound)?;
+        Ok(bound)
     }
 
-    /// The wave of bank b in a plan of at most 16 banks, read straight off the rule.
-    pub fn wave_by_rule(&mut self, b: Bank) -> Result<Wave, Refused> {
-        answer(self.lent().wave_by_rule(b.0))?;
-        Ok(Wave(self.result[0]))
+    /// The wave of bank b in a plan of at most 16 banks, read straight off the rule and not from the kept waves.
+    ///
+    /// # Errors
+    ///
+    /// [`ManyBanksByRule`](Refusal::ManyBanksByRule), then [`NoSuchBank`](Refusal::NoSuchBank).
+    pub fn wave_by_rule(&self, b: Bank) -> Result<Wave, Refused> {
+        let [wave] = self.ask(|plan, result| plan.wave_by_rule(b.0, result))?;
+        Ok(Wave(wave))
     }
 
-    /// The day as so many couriers, from 1 to 64, serve it.
-    pub fn crew_steps(&mut self, couriers: u16) -> Result<Day, Refused> {
-        let mut steps = vec![0; usize::from(self.tally[0])];
-        answer(self.lent().crew_steps(&mut steps, couriers))?;
-        let total = self.result[0];
-        Ok(Day { steps, total })
+    /// A call that reads the plan, and its results.
+    pub(crate) fn ask<'a, const N: usize>(
+        &'a self,
+        call: impl FnOnce(Read<'a>, &mut [u16]) -> u16,
+    ) -> Result<[u16; N], Refused> {
+        let mut result = [0; N];
+        answer(call(self.read(), &mut result))?;
+        Ok(result)
     }
+}
 
-    /// The least crew, from 1 to 64, that ends within so many steps.
-    pub fn least_crew(&mut self, limit: u16) -> Result<u16, Refused> {
-        answer(self.lent().least_crew(limit))?;
-        Ok(self.result[0])
-    }
-
-    /// The ranks by bank number, as the K rows of its list or the K fields of its journal set them.
-    pub fn ranks(&self) -> &[u16] {
-        &self.ranks[..usize::from(self.tally[0])]
-    }
-
-    /// Sets the rank of bank b, in a plan without clashes. Refused as a K row is: 18 where there are clashes, 4 where there is no such
-    /// bank; 3 for a rank above 9,999, with which the memory would hold no plan.
-    pub fn set_rank(&mut self, b: Bank, rank: u16) -> Result<(), Refused> {
-        let refusal = if self.clashes() > 0 {
-            Refusal::LateRank
-        } else if b.0 >= self.banks() {
-            Refusal::NoSuchBank
-        } else if rank > MAX_RANK {
-            Refusal::NoPlan
-        } else {
-            self.ranks[usize::from(b.0)] = rank;
-            return Ok(());
-        };
-        answer(refusal.number())
-    }
-
-    /// The kept waves by bank number. Only the library's calls wrote them.
-    pub fn waves(&self) -> Vec<Wave> {
-        let n = usize::from(self.banks());
-        self.waves[..n].iter().copied().map(Wave).collect()
-    }
-
-    /// The banks that clash with bank b, ascending; none if there is no such bank. `clashes_of` without its questions: only the
-    /// library's calls wrote the rows.
-    pub fn neighbours_of(&self, b: Bank) -> Vec<Bank> {
-        let at = usize::from(b.0);
-        if b.0 >= self.banks() {
-            return Vec::new();
-        }
-        let degree = usize::from(self.degrees[at]);
-        banks(&self.neighbours[ROW_CELLS * at..ROW_CELLS * at + degree])
-    }
-
-    /// The sheet.
-    pub fn sheet(&mut self) -> Result<String, Refused> {
-        let mut out = vec![0; SHEET_BYTES];
-        answer(self.lent().write_sheet(&mut out))?;
-        out.truncate(usize::from(self.result[0]));
-        Ok(String::from_utf8(out).expect("a sheet is ASCII"))
-    }
-
-    /// The gate poster.
-    pub fn poster(&mut self) -> Result<String, Refused> {
-        let mut out = vec![0; POSTER_BYTES];
-        answer(self.lent().write_poster(&mut out))?;
-        out.truncate(usize::from(self.result[0]));
-        Ok(String::from_utf8(out).expect("a poster is ASCII"))
-    }
-
-    /// Keeps the plan and its cap under a name, in the place of what was kept there before.
-    pub fn keep(&mut self, shelf: &mut Shelf, name: Name) -> Result<(), Refused> {
-        answer(self.lent().keep(&mut shelf.cells, name.bytes()))
-    }
-
-    /// Comes back to the plan and the cap kept under a name. The answer is the banks whose wave differs,
-    /// ascending.
-    pub fn come_back(&mut self, shelf: &Shelf, name: Name) -> Result<Vec<Bank>, Refused> {
-        answer(self.lent().come_back(&shelf.cells, name.bytes()))?;
-        let moved = usize::from(self.result[0]);
-        Ok(banks(&self.moved[..moved]))
-    }
-
-    /// Checks a sheet from anybody: some waves of this plan's banks, no more than the plan's, that keep clashing
-    /// banks apart.
-    pub fn check_sheet(&mut self, sheet: &[u8]) -> Result<(), WrongSheet> {
-        let number = self.lent().check_sheet(sheet);
-        let [line, first, second] = self.result;
-        match number {
-            26 => Err(WrongSheet::NoSheet { line }),
-            27 if first == second => Err(WrongSheet::ManyWaves),
-            27 => Err(WrongSheet::Clash(Bank(first), Bank(second))),
-            _ => answer(number).map_err(WrongSheet::Refused),
-        }
-    }
-
+/// Its memory: the cells of its banks and no others.
+impl Plan {
     /// Memory for a plan of n banks, all cells 0.
     fn memory_for(n: u16) -> Plan {
         let n = usize::from(n);
@@ -319,39 +265,57 @@ impl Plan {
             neighbours: vec![0; ROW_CELLS * n],
             degrees: vec![0; n],
             waves: vec![0; n],
-            counts: vec![0; 24 * n],
+            counts: vec![0; COUNT_CELLS * n],
             ranks: vec![0; n],
-            trail: vec![0; n],
-            moved: vec![0; n],
-            tally: [0; 4],
-            result: [0; 3],
+            tally: [0; TALLY_CELLS],
         }
     }
 
-    fn lent(&mut self) -> Lent<'_> {
+    /// Gives back the memory beyond that of the plan's banks.
+    fn give_back_memory(&mut self) {
+        let n = usize::from(self.banks());
+        let cut = |cells: &mut Vec<u16>, length| {
+            cells.truncate(length);
+            cells.shrink_to_fit();
+        };
+        cut(&mut self.neighbours, ROW_CELLS * n);
+        cut(&mut self.degrees, n);
+        cut(&mut self.waves, n);
+        cut(&mut self.counts, COUNT_CELLS * n);
+        cut(&mut self.ranks, n);
+    }
+
+    pub(crate) fn read(&self) -> Read<'_> {
+        Read {
+            neighbours: &self.neighbours,
+            degrees: &self.degrees,
+            waves: &self.waves,
+            counts: &self.counts,
+            ranks: &self.ranks,
+            tally: &self.tally,
+        }
+    }
+
+    pub(crate) fn lent(&mut self) -> Lent<'_> {
         Lent {
             neighbours: &mut self.neighbours,
             degrees: &mut self.degrees,
             waves: &mut self.waves,
             counts: &mut self.counts,
             ranks: &mut self.ranks,
-            trail: &mut self.trail,
-            moved: &mut self.moved,
             tally: &mut self.tally,
-            result: &mut self.result,
-        }
-    }
-
-    /// What the last accepted edit left in trail and moved.
-    fn edit(&self) -> Edit {
-        let [moved, trail, _] = self.result.map(usize::from);
-        Edit {
-            trail: banks(&self.trail[..trail]),
-            moved: banks(&self.moved[..moved]),
         }
     }
 }
 
-fn banks(cells: &[u16]) -> Vec<Bank> {
-    cells.iter().copied().map(Bank).collect()
+/// The tally alone: a plan has up to 51,200 cells.
+impl fmt::Debug for Plan {
+    fn fmt(&self, f: &mut fmt::Formatter<'_>) -> fmt::Result {
+        f.debug_struct("Plan")
+            .field("banks", &self.banks())
+            .field("clashes", &self.clashes())
+            .field("waves", &self.wave_count())
+            .field("cap", &self.cap())
+            .finish_non_exhaustive()
+    }
 }

@@ -1,4 +1,4 @@
-//! The refusals of the library's calls: the first question that is answered no.
+//! The refusals of the library's calls, each by the question that is answered no.
 
 use std::error::Error;
 use std::fmt;
@@ -6,8 +6,21 @@ use std::fmt;
 /// Declares the refusals in the order of their numbers, each with its question and what to do.
 macro_rules! refusals {
     ($($name:ident = $number:literal: $question:literal, $advice:literal;)*) => {
-        /// The question that a refused call answers no, by its number in `include/wave_plan.h`.
-        #[derive(Clone, Copy, Debug, PartialEq, Eq, Hash)]
+        /// Why a call was refused: the first of its questions that is answered no.
+        ///
+        /// The names, the numbers and the questions are those of `include/wave_plan.h`, which also has the questions
+        /// of each call in their order.
+        ///
+        /// ```
+        /// use wave_plan::Refusal;
+        ///
+        /// let refusal = Refusal::of(6).unwrap();
+        /// assert_eq!(refusal, Refusal::ClashThere);
+        /// assert_eq!(refusal.number(), 6);
+        /// assert_eq!(refusal.question(), "Are the two banks free of a clash so far?");
+        /// assert_eq!(refusal.advice(), "nothing, they clash already");
+        /// ```
+        #[derive(Clone, Copy, Debug, PartialEq, Eq, PartialOrd, Ord, Hash)]
         #[repr(u16)]
         pub enum Refusal {
             $(
@@ -27,7 +40,7 @@ macro_rules! refusals {
                 }
             }
 
-            /// What a caller does about it.
+            /// What to do about it, as words that follow "to do:".
             pub fn advice(self) -> &'static str {
                 match self {
                     $(Refusal::$name => $advice,)*
@@ -38,33 +51,56 @@ macro_rules! refusals {
 }
 
 refusals! {
-    TooManyBanks = 1: "Is the bank count at most 1,024?", "split the depot";
-    ShortSlice = 2: "Is the memory lent to the call long enough?", "lend more";
+    TooManyBanks = 1: "Is the bank count at most 1,024?",
+        "split the depot";
+    ShortSlice = 2: "Is the memory lent to the call long enough?",
+        "lend more; open a shelf for as many banks as the plan has";
     NoPlan = 3: "Does the memory hold a plan, and each used place of the shelf one of as many banks?",
         "open a plan, or read the list again; open the shelf";
-    NoSuchBank = 4: "Is each named bank below the bank count?", "correct the bank, or open a plan of more banks";
-    SameBank = 5: "Are the two banks different?", "name two different banks";
-    ClashThere = 6: "Are the two banks free of a clash so far?", "nothing: they clash already";
-    NoClash = 7: "Do the two banks clash?", "nothing, or look for the edit that should have added the clash";
-    RowFull = 8: "Have both banks fewer than 23 clashes?", "strike another clash of that bank first";
-    LongList = 9: "Has the list, or the journal, at most 60,000 bytes?", "split it";
-    NoFirstRow = 10: "Is the first row, or the second after V 2, an N row?", "write it: N and the number of banks";
-    UnreadableRow = 11: "Does the row read?", "correct it: one space between parts, at most four digits";
-    ShortOutput = 12: "Is the output at least as long as the text?", "lend more";
-    NoFirstField = 13: "Is the journal's first field whole, and its length within the slice?", "start a new journal";
-    WrongField = 14: "Are the field's tag and length right, and a rank at most 9,999?", "cut the journal before that field";
-    NoSpace = 15: "Is there space for what is to be written, and in 60,000 bytes?", "start a new journal";
-    UnknownName = 16: "Is the name MORNING, NOON or CLOSE?", "use one of these names";
-    NothingKept = 17: "Is a plan kept under that name?", "keep a plan under it first";
-    LateRank = 18: "Do the ranks come before the first edit?", "set the ranks before the first clash is added";
-    CapOutOfSpan = 19: "Is the cap from 1 to 24?", "set another";
-    CapPassed = 20: "Is the cap not below the waves in use, or those that the edit would need?",
+    NoSuchBank = 4: "Is each named bank below the bank count?",
+        "correct the bank, or open a plan of more banks";
+    SameBank = 5: "Are the two banks different?",
+        "name two different banks";
+    ClashThere = 6: "Are the two banks free of a clash so far?",
+        "nothing, they clash already";
+    NoClash = 7: "Do the two banks clash?",
+        "nothing, or look for the edit that should have added the clash";
+    RowFull = 8: "Have both banks fewer than 23 clashes?",
+        "strike another clash first, no bank can have more";
+    LongList = 9: "Has the list, or the journal, at most 60,000 bytes?",
+        "split it";
+    NoFirstRow = 10: "Is row 1, or row 2 after V 2, an N row of the stated form?",
+        "write it; a first row that starts with V is V 2 and nothing more";
+    UnreadableRow = 11: "Is the row one of the four forms?",
+        "correct it: one space between parts, at most four digits";
+    ShortOutput = 12: "Is the output at least as long as the sheet or the poster?",
+        "lend more";
+    NoFirstField = 13: "Is the journal within the slice, and its first field whole and of the stated form?",
+        "start a new journal";
+    WrongField = 14: "Are the field's tag and length right, and a rank at most 9,999?",
+        "cut the journal before that field";
+    NoSpace = 15: "Is there space in the slice, and in 60,000 bytes, for what is to be written?",
+        "lend more; a journal that is full ends there";
+    UnknownName = 16: "Is the name MORNING, NOON or CLOSE?",
+        "use one of the three";
+    NothingKept = 17: "Is a plan kept under the name?",
+        "keep a plan under it first";
+    LateRank = 18: "Does the rank come before the first edit?",
+        "move the K rows up to the N row; cut a journal before that field";
+    CapOutOfSpan = 19: "Is the cap from 1 to 24?",
+        "set another";
+    CapPassed = 20: "Is the cap not below the waves in use, and not below those that the edit would need?",
         "raise the cap, or strike or add another clash first";
-    WrongNumber = 21: "Is the entry's number one above the last?", "cut the journal before that field";
-    ManyBanksByRule = 22: "Is the bank count at most 16, to read a wave straight off the rule?", "ask for the kept wave";
-    DRetired = 23: "Is the row of a V 2 list no D row?", "write a - row for each clash that goes";
-    CrewSpan = 24: "Are the couriers from 1 to 64, or the steps at most 1,024?", "give another number";
-    NoCrew = 25: "Does some crew of 1 to 64 couriers end within so many steps?", "allow more steps";
+    WrongNumber = 21: "Is the entry's number one above the last, the first being 1?",
+        "cut the journal before that field";
+    ManyBanksByRule = 22: "Is the bank count at most 16, where a wave is read straight off the rule?",
+        "ask for the kept wave, or look the bank up on the sheet";
+    DRetired = 23: "Is the row of a list that starts with V 2 no D row?",
+        "write a - row for each clash that goes";
+    CrewSpan = 24: "Are the couriers from 1 to 64, and the steps they may take at most 1,024?",
+        "give another number";
+    NoCrew = 25: "Does some crew of 1 to 64 couriers end within so many steps?",
+        "allow more steps";
     NoSheet = 26: "Is it a sheet with each of the plan's banks once, no empty wave and the plan's foot?",
         "look at the line that is named";
     SheetClash = 27: "Are clashing banks in different waves, and the waves no more than the plan's?",
@@ -77,16 +113,31 @@ impl Refusal {
         self as u16
     }
 
-    /// The refusal of a number.
+    /// The refusal of a number, if there is one.
     pub fn of(number: u16) -> Option<Refusal> {
         Refusal::ALL.iter().copied().find(|r| r.number() == number)
     }
 }
 
-/// A refused call: the refusal, and the row of a list or the field of a journal that got it (else 0).
-#[derive(Clone, Copy, Debug, PartialEq, Eq)]
+/// A refused call. Nothing was changed by it.
+///
+/// ```
+/// use wave_plan::{Plan, Refusal};
+///
+/// let refused = Plan::read_list("N 4\n+ 0 1\n+ 0 4\n").unwrap_err();
+/// assert_eq!(refused.refusal, Refusal::NoSuchBank);
+/// assert_eq!(refused.place, 3);
+/// assert_eq!(
+///     refused.to_string(),
+///     "refused 4 at 3: Is each named bank below the bank count? No. \
+///      To do: correct the bank, or open a plan of more banks"
+/// );
+/// ```
+#[derive(Clone, Copy, Debug, PartialEq, Eq, Hash)]
 pub struct Refused {
+    /// The question that was answered no.
     pub refusal: Refusal,
+    /// The row of a list or the field of a journal that was refused, counted from 1; 0 where there is none.
     pub place: u16,
 }
 
@@ -97,18 +148,21 @@ impl Refused {
     }
 }
 
+/// A refusal that has no place.
+impl From<Refusal> for Refused {
+    fn from(refusal: Refusal) -> Refused {
+        Refused { refusal, place: 0 }
+    }
+}
+
 impl fmt::Display for Refused {
     fn fmt(&self, f: &mut fmt::Formatter<'_>) -> fmt::Result {
         write!(f, "refused {}", self.number())?;
         if self.place > 0 {
             write!(f, " at {}", self.place)?;
         }
-        write!(
-            f,
-            ": {} No: {}",
-            self.refusal.question(),
-            self.refusal.advice()
-        )
+        let (question, advice) = (self.refusal.question(), self.refusal.advice());
+        write!(f, ": {question} No. To do: {advice}")
     }
 }
 

@@ -8,7 +8,7 @@ use crate::{quick, rounds};
 use independent::graph::Graph;
 use independent::random::Random;
 use independent::ranks::drawn_ranks;
-use wave_plan::{Bank, Plan};
+use wave_plan::{Bank, Plan, Refusal};
 
 /// The call for each bank, on library and model, and for one that is not there: the kept wave, or 4.
 fn kept_waves(random: &mut Random, graph: &Graph) {
@@ -99,5 +99,5 @@ fn waves_of_an_owned_plan() {
         }
     }
     let refused = plan.wave_by_rule(Bank(16)).expect_err("no such bank");
-    assert_eq!(refused.number, 4);
+    assert_eq!(refused.refusal, Refusal::NoSuchBank);
 }

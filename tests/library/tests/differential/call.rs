@@ -8,8 +8,8 @@ use independent::random::Random;
 use independent::reach::Edit;
 use independent::refusals::ACCEPTED;
 use independent::shelf;
-use wave_plan::open_shelf;
 use std::fmt;
+use wave_plan::lent::open_shelf;
 
 /// A call with its arguments; a sheet's and a poster's is the length of its output, and a journal is the
 /// slice that is lent, which may be longer than the journal. Crew steps has the cells that are lent for the
@@ -197,31 +197,36 @@ impl Call {
 
     /// Makes the call on the library.
     pub fn on_library(&self, slices: &mut Slices, output: &mut [u8], steps: &mut [u16]) -> u16 {
-        let (mut lent, shelf) = slices.lent();
+        let (mut plan, mut answers, shelf) = slices.lent();
+        let answers = &mut answers;
         match self {
-            Call::Open(n) => lent.open(*n),
-            Call::Add(a, b) => lent.add(*a, *b),
-            Call::Strike(a, b) => lent.strike(*a, *b),
-            Call::SetCap(cap) => lent.set_cap(*cap),
-            Call::WaveOf(b) => lent.wave_of(*b),
-            Call::ClashesOf(b) => lent.clashes_of(*b),
-            Call::WaveBound => lent.wave_bound(),
-            Call::WaveByRule(b) => lent.wave_by_rule(*b),
-            Call::CrewSteps(couriers, _) => lent.crew_steps(steps, *couriers),
-            Call::LeastCrew(limit) => lent.least_crew(*limit),
-            Call::ReadList(list) => lent.read_list(list),
-            Call::WriteSheet(_) => lent.write_sheet(output),
-            Call::WritePoster(_) => lent.write_poster(output),
-            Call::StartJournal(_) => lent.start_journal(output),
+            Call::Open(n) => plan.open(*n),
+            Call::Add(a, b) => plan.add(*a, *b, answers),
+            Call::Strike(a, b) => plan.strike(*a, *b, answers),
+            Call::SetCap(cap) => plan.set_cap(*cap),
+            Call::WaveOf(b) => plan.read().wave_of(*b, answers.result),
+            Call::ClashesOf(b) => plan.read().clashes_of(*b, answers.result),
+            Call::WaveBound => plan.read().wave_bound(answers.result),
+            Call::WaveByRule(b) => plan.read().wave_by_rule(*b, answers.result),
+            Call::CrewSteps(couriers, _) => {
+                plan.read().crew_steps(*couriers, steps, answers.result)
+            }
+            Call::LeastCrew(limit) => plan.read().least_crew(*limit, answers.result),
+            Call::ReadList(list) => plan.read_list(list, answers),
+            Call::WriteSheet(_) => plan.read().write_sheet(output, answers.result),
+            Call::WritePoster(_) => plan.read().write_poster(output, answers.result),
+            Call::StartJournal(_) => plan.read().start_journal(output, answers.result),
             Call::Record(entry, _, length) => match entry.edit {
-                Edit::Add => lent.add_recorded(entry.a, entry.b, output, *length),
-                Edit::Strike => lent.strike_recorded(entry.a, entry.b, output, *length),
+                Edit::Add => plan.add_recorded(entry.a, entry.b, output, *length, answers),
+                Edit::Strike => plan.strike_recorded(entry.a, entry.b, output, *length, answers),
             },
-            Call::Replay(journal) => lent.replay(journal),
+            Call::Replay(journal) => plan.replay(journal, answers),
             Call::OpenShelf(n) => open_shelf(shelf, *n),
-            Call::Keep(name) => lent.keep(shelf, padded(name).content()),
-            Call::ComeBack(name) => lent.come_back(shelf, padded(name).content()),
-            Call::CheckSheet(sheet) => lent.check_sheet(ended(sheet).content()),
+            Call::Keep(name) => plan.read().keep(shelf, padded(name).content()),
+            Call::ComeBack(name) => plan.come_back(shelf, padded(name).content(), answers),
+            Call::CheckSheet(sheet) => plan
+                .read()
+                .check_sheet(ended(sheet).content(), answers.result),
         }
     }
 }

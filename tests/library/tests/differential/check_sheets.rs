@@ -10,8 +10,8 @@ use independent::lists;
 use independent::random::Random;
 use independent::sheet::sheet_text;
 use independent::sheets::{any_waves, fewest_waves, one_byte_off, other_waves, wrong_sheets};
-use wave_plan::{Bank, Plan, WrongSheet};
 use std::collections::BTreeMap;
+use wave_plan::{Bank, Plan, WrongSheet};
 
 /// The call on library and model with the sheet of these waves.
 fn check(pair: &mut Pair, waves: &[Wave], graph: &Graph) -> Answer {

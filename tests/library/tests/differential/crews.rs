@@ -8,7 +8,7 @@ use crate::{quick, rounds};
 use independent::crew::served_day;
 use independent::graph::Graph;
 use independent::random::Random;
-use wave_plan::{Bank, Plan};
+use wave_plan::{Bank, Plan, Refusal, Refused};
 
 /// Cells for the steps of n banks, with some more, all of one content.
 fn cells(random: &mut Random, n: usize) -> Vec<u16> {
@@ -163,8 +163,10 @@ fn a_day_of_an_owned_plan() {
     assert_eq!(day.total, 5);
     assert_eq!(plan.least_crew(5), Ok(2));
     assert_eq!(plan.least_crew(4), Ok(4));
-    let number = |refused: Result<u16, _>| refused.map_err(|r: wave_plan::Refused| r.number);
-    assert_eq!(number(plan.least_crew(2)), Err(25));
-    assert_eq!(number(plan.least_crew(1025)), Err(24));
-    assert_eq!(plan.crew_steps(65).expect_err("out of span").number, 24);
+    let refusal = |refused: Refused| refused.refusal;
+    assert_eq!(plan.least_crew(2).map_err(refusal), Err(Refusal::NoCrew));
+    let out_of_span = Err(Refusal::CrewSpan);
+    assert_eq!(plan.least_crew(1025).map_err(refusal), out_of_span);
+    let day = plan.crew_steps(65).map(|day| day.total);
+    assert_eq!(day.map_err(refusal), out_of_span);
 }

@@ -1,7 +1,7 @@
 //! Slices between guard cells, so that a write outside the lent part shows.
 
 use independent::memory::Memory;
-use wave_plan::Lent;
+use wave_plan::lent::{Answers, Lent};
 
 /// The guard cells on each side.
 const GUARDS: usize = 32;
@@ -73,20 +73,22 @@ impl Slices {
         }
     }
 
-    /// The slices of a plan, and the shelf.
-    pub fn lent(&mut self) -> (Lent<'_>, &mut [u16]) {
-        let lent = Lent {
+    /// The slices of a plan, those for what a call answers, and the shelf.
+    pub fn lent(&mut self) -> (Lent<'_>, Answers<'_>, &mut [u16]) {
+        let plan = Lent {
             neighbours: self.neighbours.lend(),
             degrees: self.degrees.lend(),
             waves: self.waves.lend(),
             counts: self.counts.lend(),
             ranks: self.ranks.lend(),
+            tally: self.tally.lend(),
+        };
+        let answers = Answers {
             trail: self.trail.lend(),
             moved: self.moved.lend(),
-            tally: self.tally.lend(),
             result: self.result.lend(),
         };
-        (lent, self.shelf.lend())
+        (plan, answers, self.shelf.lend())
     }
 
     /// Each slice with its name.

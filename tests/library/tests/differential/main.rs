@@ -18,6 +18,7 @@
 //! - `short`: tally, result and ranks slices that are too short.
 //! - `marked`: the paper's marked examples, ranks, caps, a journal and a shelf, through the wrapper that
 //!   owns its memory.
+//! - `owned`: random runs through it.
 //!
 //! With WAVE_PLAN_QUICK set, each test makes fewer calls, for a run under a memory checker.
 
@@ -35,6 +36,7 @@ mod journals;
 mod kept;
 mod lists;
 mod marked;
+mod owned;
 mod pair;
 mod plans;
 mod posters;
