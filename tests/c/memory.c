@@ -191,13 +191,14 @@ static void of_strike(void) {
     LEAVES(7, wave_plan_memory_strike(&m, 0, 1));
     GIVES(0, wave_plan_memory_set_cap(&m, 2));
     LEAVES(20, wave_plan_memory_strike(&m, 2, 5));
-    GIVES(0, wave_plan_memory_set_cap(&m, 3));
+    GIVES(0, wave_plan_memory_set_cap(&m, 4));
     WRONG_MEMORY(wave_plan_memory_strike(&m, 2, 5));
     GIVES(0, wave_plan_memory_strike(&m, 2, 5)); /* M9 */
     static const uint16_t trail[] = {0, 2, 3, 4, 5}, moved[] = {0, 2, 3, 4}, waves[] = {0, 0, 1, 2, 1, 1};
     EDITED(trail, moved);
     ARE(m.waves, waves);
     IS(m.tally[WAVES], 3);
+    IS(m.tally[CAP], 4);
     LEAVES(7, wave_plan_memory_strike(&m, 2, 5));
     EDITED(trail, moved);
     wave_plan_memory_free(&m);
@@ -276,8 +277,11 @@ static void of_wave_by_rule(void) {
     WRONG_MEMORY(wave_plan_memory_wave_by_rule(&m, 1, &wave));
     IS(wave, 0);
     wave_plan_memory_free(&m);
-    m = plan_of("N 17", 17);
-    LEAVES(22, wave_plan_memory_wave_by_rule(&m, 0, &wave));
+    m = plan_of("N 17\n+ 0 1", 17);
+    LEAVES(22, wave_plan_memory_wave_by_rule(&m, 1, &wave));
+    IS(wave, 0);
+    LEAVES(0, wave_plan_memory_wave_of(&m, 1, &wave));
+    IS(wave, 1);
     wave_plan_memory_free(&m);
 }
 
@@ -479,10 +483,12 @@ static void of_strike_recorded(void) {
     GIVES(0, wave_plan_memory_start_journal(&m, bytes, MORE, &length));
     LEAVES(7, wave_plan_memory_strike_recorded(&m, 0, 2, bytes, MORE, &length));
     IS(length, ALL);
-    GIVES(0, wave_plan_memory_strike_recorded(&m, 3, 0, bytes, MORE, &length));
-    static const uint16_t all[] = {1, 2, 0, 3};
-    EDITED(all, all);
-    recorded(bytes, length, WAVE_PLAN_STRIKE_TAG, 3, 0);
+    GIVES(0, wave_plan_memory_strike_recorded(&m, 1, 0, bytes, MORE, &length)); /* two banks turn over, and none moves */
+    static const uint16_t trail[] = {2, 3, 0, 1};
+    IS(m.trail_count, 4);
+    IS(m.moved_count, 0);
+    ARE(m.trail, trail);
+    recorded(bytes, length, WAVE_PLAN_STRIKE_TAG, 1, 0);
     wave_plan_memory_free(&m);
 }
 
@@ -558,6 +564,9 @@ static void of_shelf_open(void) {
     GIVES(0, wave_plan_shelf_new(&s, FOUR));
     GIVES(1, wave_plan_shelf_open(&s, WAVE_PLAN_MOST_BANKS + 1));
     GIVES(2, wave_plan_shelf_open(&s, FOUR + 1));
+    s.cell_count--;
+    GIVES(2, wave_plan_shelf_open(&s, FOUR));
+    s.cell_count++;
     GIVES(0, wave_plan_memory_keep(&m, &s, WAVE_PLAN_CLOSE));
     GIVES(0, wave_plan_memory_come_back(&m, &s, WAVE_PLAN_CLOSE));
     GIVES(0, wave_plan_shelf_open(&s, FOUR));
@@ -571,7 +580,7 @@ static void of_keep(void) {
     wave_plan_shelf s;
     GIVES(0, wave_plan_shelf_new(&s, FOUR));
     LEAVES(16, wave_plan_memory_keep(&m, &s, "NOON"));
-    LEAVES(16, wave_plan_memory_keep(&m, &s, ""));
+    LEAVES(16, wave_plan_memory_keep(&m, &s, WAVE_PLAN_NOON " "));
     WRONG_MEMORY(wave_plan_memory_keep(&m, &s, WAVE_PLAN_NOON));
     s.cell_count--;
     LEAVES(2, wave_plan_memory_keep(&m, &s, WAVE_PLAN_NOON));
@@ -602,6 +611,7 @@ static void of_come_back(void) {
     GIVES(0, wave_plan_memory_add(&m, 0, 2)); /* waves 0 2 1 2 */
     IS(m.trail_count, 4);
     LEAVES(16, wave_plan_memory_come_back(&m, &s, "noon    "));
+    LEAVES(16, wave_plan_memory_come_back(&m, &s, WAVE_PLAN_NOON " "));
     LEAVES(17, wave_plan_memory_come_back(&m, &s, WAVE_PLAN_CLOSE));
     WRONG_MEMORY(wave_plan_memory_come_back(&m, &s, WAVE_PLAN_NOON));
     s.cell_count--;
