@@ -1,12 +1,12 @@
 /* Calls every function of wave_plan.h, with input that is accepted and with input that is refused, and holds what it answers and leaves to
  * what it should be. Each slice is a piece of memory of its own and has the cells that are asked for and no more. */
-#include <stdio.h>
 #include <stdlib.h>
 #include <string.h>
 
+#include "answers.h"
 #include "wave_plan.h"
 
-enum { ROW = WAVE_PLAN_ROW_CELLS, COUNT = WAVE_PLAN_COUNT_CELLS, TALLY = WAVE_PLAN_TALLY_CELLS, CAP = 3, NUMBERS = 28 };
+enum { ROW = WAVE_PLAN_ROW_CELLS, COUNT = WAVE_PLAN_COUNT_CELLS, TALLY = WAVE_PLAN_TALLY_CELLS, CAP = 3 };
 
 /* A plan's slices: a caller may lend them shorter than they are, by the numbers of cells. */
 typedef struct {
@@ -19,25 +19,6 @@ typedef struct {
 #define LISTS(p) SLICE(p, trail), SLICE(p, moved)
 #define TALLY_OF(p) SLICE(p, tally)
 #define RESULT_OF(p) SLICE(p, result)
-
-static int answers;           /* how many answers of this call were right */
-static int given[NUMBERS];    /* how often each number was given */
-
-static void right(int line, long got, long wanted) {
-    if (got != wanted) {
-        printf("tests/c/every_call.c:%d: %ld, and it should be %ld\n", line, got, wanted);
-        exit(1);
-    }
-    answers++;
-}
-#define IS(got, wanted) right(__LINE__, (long)(got), (long)(wanted))
-
-/* The number that a call gives. */
-static void number(int line, uint16_t got, uint16_t wanted) {
-    right(line, got, wanted);
-    given[wanted]++;
-}
-#define GIVES(wanted, call) number(__LINE__, call, wanted)
 
 static uint16_t *cells(size_t count) {
     uint16_t *slice = malloc(count ? count * sizeof *slice : 1);
@@ -1123,35 +1104,27 @@ static void of_check_sheet(void) {
 }
 
 int main(void) {
-    static const struct {
-        const char *name;
-        void (*test)(void);
-    } calls[] = {{"wave_plan_open", of_open},
-                 {"wave_plan_add", of_add},
-                 {"wave_plan_strike", of_strike},
-                 {"wave_plan_set_cap", of_set_cap},
-                 {"wave_plan_wave_of", of_wave_of},
-                 {"wave_plan_clashes_of", of_clashes_of},
-                 {"wave_plan_wave_bound", of_wave_bound},
-                 {"wave_plan_wave_by_rule", of_wave_by_rule},
-                 {"wave_plan_crew_steps", of_crew_steps},
-                 {"wave_plan_least_crew", of_least_crew},
-                 {"wave_plan_read_list", of_read_list},
-                 {"wave_plan_write_sheet", of_write_sheet},
-                 {"wave_plan_write_poster", of_write_poster},
-                 {"wave_plan_start_journal", of_start_journal},
-                 {"wave_plan_add_recorded", of_add_recorded},
-                 {"wave_plan_strike_recorded", of_strike_recorded},
-                 {"wave_plan_replay", of_replay},
-                 {"wave_plan_open_shelf", of_open_shelf},
-                 {"wave_plan_keep", of_keep},
-                 {"wave_plan_come_back", of_come_back},
-                 {"wave_plan_check_sheet", of_check_sheet}};
-    for (size_t i = 0; i < sizeof calls / sizeof *calls; i++) {
-        answers = 0;
-        calls[i].test();
-        printf("%s: %d answers are right\n", calls[i].name, answers);
-    }
-    for (int i = 0; i < NUMBERS; i++) IS(given[i] > 0, 1); /* each number was given */
+    static const Test tests[] = {{"wave_plan_open", of_open},
+                                 {"wave_plan_add", of_add},
+                                 {"wave_plan_strike", of_strike},
+                                 {"wave_plan_set_cap", of_set_cap},
+                                 {"wave_plan_wave_of", of_wave_of},
+                                 {"wave_plan_clashes_of", of_clashes_of},
+                                 {"wave_plan_wave_bound", of_wave_bound},
+                                 {"wave_plan_wave_by_rule", of_wave_by_rule},
+                                 {"wave_plan_crew_steps", of_crew_steps},
+                                 {"wave_plan_least_crew", of_least_crew},
+                                 {"wave_plan_read_list", of_read_list},
+                                 {"wave_plan_write_sheet", of_write_sheet},
+                                 {"wave_plan_write_poster", of_write_poster},
+                                 {"wave_plan_start_journal", of_start_journal},
+                                 {"wave_plan_add_recorded", of_add_recorded},
+                                 {"wave_plan_strike_recorded", of_strike_recorded},
+                                 {"wave_plan_replay", of_replay},
+                                 {"wave_plan_open_shelf", of_open_shelf},
+                                 {"wave_plan_keep", of_keep},
+                                 {"wave_plan_come_back", of_come_back},
+                                 {"wave_plan_check_sheet", of_check_sheet}};
+    RUN(tests);
     return 0;
 }
