@@ -5,11 +5,11 @@ comes first, equal ones by rank and then by number, and each gets the lowest wav
 are worked out by the library; this package decides nothing about waves.
 """
 
+from .explanation import Choice, Explanation, Explanations, Kind, LaterThan, Named, Order, Place, Reason, Turned
 from .numbers import Bank, Wave, letter
 from .plan import Day, Edit, Plan, Recorded, Replayed
 from .refusal import Refusal, Refused, WrongSheet
 from .shelf import Name, Shelf
-from .why import Choice, Explanation, Explanations, Kind, LaterThan, Named, Order, Place, Reason, Turned
 
 __all__ = [
     "Bank",

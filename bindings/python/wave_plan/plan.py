@@ -7,9 +7,10 @@ from types import ModuleType
 from typing import Any, Dict, Hashable, Iterator, List, NamedTuple, Optional, Tuple, Union, overload
 
 from ._library import Cells, Slice, bytes_of, call, cells, copied, in_a_cell, space
+from .explanation import Explanation, Explanations, Kind
 from .numbers import Bank, Wave
 from .refusal import Refusal, Refused, refuse
-from .why import Explanation, Explanations, Kind, LastEdit, explain
+from .why import LastEdit, explain
 
 MOST_BANKS = 1024
 MOST_RANK = 9999

@@ -12,112 +12,13 @@ hold for a bank:
 from __future__ import annotations
 
 from dataclasses import dataclass
-from enum import Enum
-from typing import TYPE_CHECKING, FrozenSet, Iterator, List, Optional, Tuple
+from typing import TYPE_CHECKING, FrozenSet, Iterator, List, Tuple
 
-from .numbers import Bank, Wave, letter
+from .explanation import Choice, Explanation, Kind, LaterThan, Named, Order, Place, Reason, Turned
+from .numbers import Bank, Wave
 
 if TYPE_CHECKING:
     from .plan import Plan
-
-
-class Kind(Enum):
-    """The two kinds of edit, by the sign of their rows in a list."""
-
-    ADDING = "+"
-    STRIKING = "-"
-
-
-@dataclass(frozen=True)
-class Place:
-    """What decides the place of a bank in the rule order."""
-
-    clashes: int
-    rank: int
-    bank: Bank
-
-    def key(self) -> Tuple[int, int, Bank]:
-        """Smaller for an earlier bank: more clashes, or as many and a smaller rank, or both equal and a smaller number."""
-        return -self.clashes, self.rank, self.bank
-
-
-@dataclass(frozen=True)
-class Order:
-    """The order of a bank towards another one, before or after the edit."""
-
-    own: Place
-    other: Place
-
-    def is_earlier(self) -> bool:
-        """Whether the bank is earlier than the other one."""
-        return self.own.key() < self.other.key()
-
-
-@dataclass(frozen=True)
-class Reason:
-    """A condition on the trail that holds for a bank: one of Named, Turned and LaterThan."""
-
-
-@dataclass(frozen=True)
-class Named(Reason):
-    """(i) The row names it."""
-
-
-@dataclass(frozen=True)
-class Turned(Reason):
-    """(ii) It clashes with a named bank, and its order towards it turned over."""
-
-    before: Order
-    now: Order
-
-
-@dataclass(frozen=True)
-class LaterThan(Reason):
-    """(iii) It is later than a clashing bank whose wave changed."""
-
-    bank: Bank
-    before: Wave
-    now: Wave
-
-
-@dataclass(frozen=True)
-class Choice:
-    """A bank's wave, and for each lower one the earliest of the earlier clashing banks that hold it."""
-
-    wave: Wave
-    held: Tuple[Tuple[Wave, Bank], ...]
-
-
-@dataclass(frozen=True)
-class Explanation:
-    """What an edit did to a bank, and why. Its text is str(explanation).
-
-    kind, banks: the row of the edit.
-    taken_up: whether the bank is on the trail.
-    reasons: the conditions on the trail that hold for it, in their order; the last one with each bank for which it does, in
-        the new order. None for a bank off the trail.
-    kept: its order, after the edit, towards the named banks that it clashes with and towards which it did not turn over.
-    now: its wave after the edit.
-    before: its wave before the edit, if it moved.
-    """
-
-    bank: Bank
-    kind: Kind
-    banks: Tuple[Bank, Bank]
-    taken_up: bool
-    reasons: Tuple[Reason, ...]
-    kept: Tuple[Order, ...]
-    now: Choice
-    before: Optional[Choice]
-
-
-class Explanations(Tuple[Explanation, ...]):
-    """The explanations for every bank that moved, in the new order. Their text, one below the other, is their str."""
-
-    __slots__ = ()
-
-    def __str__(self) -> str:
-        return "\n".join(map(str, self)) if self else "no bank moved"
 
 
 @dataclass(frozen=True)
