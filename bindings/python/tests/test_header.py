@@ -1,4 +1,4 @@
-"""The table of calls, the limits and the refusals against include/wave_plan.h, and the refusals' texts against bindings/rust."""
+"""The calls, the limits and the refusals against include/wave_plan.h, and the refusals' texts against bindings/rust."""
 
 import ctypes
 import re

@@ -31,7 +31,8 @@ class FindTest(unittest.TestCase):
     def package_in(self, *parts):
         """A copy of the package, without the library, in a folder below."""
         folder = self.folder.joinpath(*parts)
-        shutil.copytree(PACKAGE_FOLDER / "wave_plan", folder / "wave_plan", ignore=shutil.ignore_patterns("__pycache__", "*.so"))
+        left_out = shutil.ignore_patterns("__pycache__", "*.so")
+        shutil.copytree(PACKAGE_FOLDER / "wave_plan", folder / "wave_plan", ignore=left_out)
         return folder
 
     def put_library(self, *parts):
@@ -42,7 +43,8 @@ class FindTest(unittest.TestCase):
 
     def run_in(self, package, **environment):
         """What the program prints with the package, without the folders and variables of these tests."""
-        kept = {name: value for name, value in os.environ.items() if name not in ("WAVE_PLAN_LIBRARY", "LD_LIBRARY_PATH")}
+        left_out = ("WAVE_PLAN_LIBRARY", "LD_LIBRARY_PATH")
+        kept = {name: value for name, value in os.environ.items() if name not in left_out}
         kept.update(PYTHONPATH=str(package), **environment)
         command = [sys.executable, "-B", "-c", PROGRAM]
         return subprocess.run(command, cwd=self.folder, env=kept, capture_output=True, text=True)
@@ -70,7 +72,7 @@ class FindTest(unittest.TestCase):
             run = self.run_in(package, **environment)
             self.assertEqual((run.returncode, run.stdout), (1, ""))
             last = run.stderr.splitlines()[-1]
-            self.assertRegex(last, "^ImportError: the wave plan library cannot be loaded: .*make shared.*WAVE_PLAN_LIBRARY=")
+            self.assertRegex(last, "^ImportError: the wave plan library cannot be loaded: .*make shared.*WAVE_PLAN_LIB")
             self.assertIn(named, last)
 
     def test_the_wheel_is_the_package(self):

@@ -1,4 +1,4 @@
-"""The calls on a plan: the marked examples, what each method answers and how it is refused, and plans against the model."""
+"""The calls on a plan: the marked examples, what each method answers and how it is refused, and the model."""
 
 import copy
 import random
@@ -147,7 +147,8 @@ class RefusalsTest(RefusalCase):
             str(refused),
             "refused 11 at 2: Does the row read? No: correct it: one space between parts, at most four digits",
         )
-        self.assertEqual(str(Refused(Refusal.SAME_BANK)), "refused 5: Are the two banks different? No: name two different banks")
+        plain = "refused 5: Are the two banks different? No: name two different banks"
+        self.assertEqual(str(Refused(Refusal.SAME_BANK)), plain)
 
     def test_there_are_27(self):
         self.assertEqual(list(map(int, Refusal)), list(range(1, 28)))
@@ -213,7 +214,7 @@ class ModelTest(unittest.TestCase):
         reach = Reach(model, new, a, b)
         edit = plan.strike(a, b) if model.clash(a, b) else plan.add(a, b)
         self.assertEqual(edit, Edit(tuple(reach.trail), tuple(reach.moved)))
-        self.assertEqual(plan.waves, tuple(new.waves()))
+        self.assertEqual(plan.waves, tuple(new.waves))
         self.assertEqual(set(map(frozenset, plan.clash_pairs())), new.pairs)
 
 

@@ -12,7 +12,10 @@ LENGTHS = {
     **{name: N for name in "degrees waves ranks trail moved steps".split()},
     **{"neighbours": 23 * N, "counts": 24 * N, "tally": 4, "shelf": 3 * (50 * N + 5)},
 }
-RESULTS = {"add_recorded": 3, "strike_recorded": 3, "check_sheet": 3, "add": 2, "strike": 2, "clashes_of": 2, "replay": 2}
+RESULTS = {
+    **{name: 3 for name in ("add_recorded", "strike_recorded", "check_sheet")},
+    **{name: 2 for name in ("add", "strike", "clashes_of", "replay")},
+}
 NUMBERS = {"a": 0, "b": 1, "banks": N, "cap": 3, "couriers": 2, "limit": 3, "length": 5 + 11}
 
 

@@ -1,4 +1,4 @@
-"""Explanations of edits: every reason against the model's own (i), (ii) and (iii), the waves that are named, and the texts."""
+"""Explanations of edits: all reasons against the model's own (i), (ii) and (iii), who holds the waves, the texts."""
 
 import random
 import unittest
@@ -6,11 +6,11 @@ import unittest
 from common import SIX_BANKS, RefusalCase
 from model import Model, Reach, random_pairs
 
-from wave_plan import Kind, LaterThan, Named, Place, Plan, Turned
+from wave_plan import Kind, LaterThan, Named, Order, Place, Plan, Turned
 
 
 def place(model, b):
-    return Place(model.degree(b), model.ranks[b], b)
+    return Place(model.degrees[b], model.ranks[b], b)
 
 
 class RandomEditsTest(unittest.TestCase):
@@ -38,17 +38,16 @@ class RandomEditsTest(unittest.TestCase):
         reach = Reach(old, new, *banks)
         adding = new.clash(*banks)
         edit = plan.add(*banks) if adding else plan.strike(*banks)
-        states = (old, old.order(), old.waves()), (new, new.order(), new.waves())
-        for b in new.banks():
+        for b in new.banks:
             why = plan.why(b)
             self.assertEqual((why.bank, why.banks), (b, tuple(banks)))
             self.assertEqual(why.kind, Kind.ADDING if adding else Kind.STRIKING)
             self.assertEqual(why.taken_up, b in edit.trail)
             self.true_reasons(why, reach, old, new)
-            self.lowest_free(why.now, b, *states[1])
+            self.lowest_free(why.now, b, new)
             self.assertEqual(why.before is not None, b in edit.moved)
             if why.before is not None:
-                self.lowest_free(why.before, b, *states[0])
+                self.lowest_free(why.before, b, old)
             for kind in {type(reason) for reason in why.reasons} or {None}:
                 seen[kind] += 1
         self.assertEqual(plan.why(), tuple(plan.why(b) for b in edit.moved))
@@ -56,25 +55,26 @@ class RandomEditsTest(unittest.TestCase):
 
     def true_reasons(self, why, reach, old, new):
         """The reasons are exactly those that hold, and a bank has none exactly if it was not taken up."""
-        b, old_waves, new_waves = why.bank, old.waves(), new.waves()
+        b = why.bank
         named = [Named()] if b in why.banks else []
         turned = [c for c in why.banks if (b, c) in reach.turned]
-        later = [LaterThan(m, old_waves[m], new_waves[m]) for m in reach.moved if (b, m) in reach.later]
+        later = [LaterThan(m, old.waves[m], new.waves[m]) for m in reach.moved if (b, m) in reach.later]
         orders = [reason for reason in why.reasons if isinstance(reason, Turned)]
         self.assertEqual(list(why.reasons), [*named, *orders, *later])
         self.assertEqual([order.now.other.bank for order in orders], turned)
         for reason, c in zip(orders, turned):
-            self.assertEqual((reason.before.own, reason.before.other), (place(old, b), place(old, c)))
-            self.assertEqual((reason.now.own, reason.now.other), (place(new, b), place(new, c)))
+            self.assertEqual(reason.before, Order(place(old, b), place(old, c)))
+            self.assertEqual(reason.now, Order(place(new, b), place(new, c)))
         self.assertEqual(bool(why.reasons), why.taken_up)
-        kept = [c for c in why.banks if new.clash(b, c) and c not in turned]
-        self.assertEqual([(order.own, order.other) for order in why.kept], [(place(new, b), place(new, c)) for c in kept])
+        kept = [Order(place(new, b), place(new, c)) for c in why.banks if new.clash(b, c) and c not in turned]
+        self.assertEqual(list(why.kept), kept)
 
-    def lowest_free(self, choice, b, model, order, waves):
+    def lowest_free(self, choice, b, model):
         """The wave is b's, and each lower one is held by the earliest bank that clashes with b and is earlier."""
-        earlier = [q for q in order[: order.index(b)] if model.clash(q, b)]
-        held = [(wave, next(q for q in earlier if waves[q] == wave)) for wave in range(waves[b])]
-        self.assertEqual((choice.wave, list(choice.held)), (waves[b], held))
+        wave = model.waves[b]
+        earlier = [q for q in model.order[: model.order.index(b)] if model.clash(q, b)]
+        held = [(lower, next(q for q in earlier if model.waves[q] == lower)) for lower in range(wave)]
+        self.assertEqual((choice.wave, list(choice.held)), (wave, held))
 
 
 class TextsTest(RefusalCase):

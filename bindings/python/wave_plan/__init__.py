@@ -1,8 +1,8 @@
 """Wave plans of a locker depot, over the proved library libwave_plan.
 
-A plan has banks, some of which clash. Its waves are those of degree-ordered greedy colouring: the bank with the most clashes
-comes first, equal ones by rank and then by number, and each gets the lowest wave that no earlier clashing bank holds. They
-are worked out by the library; this package decides nothing about waves.
+A plan has banks, some of which clash. Its waves are those of degree-ordered greedy colouring: the bank with the most
+clashes comes first, equal ones by rank and then by number, and each gets the lowest wave that no earlier clashing bank
+holds. They are worked out by the library; this package decides nothing about waves.
 """
 
 from .explanation import Choice, Explanation, Explanations, Kind, LaterThan, Named, Order, Place, Reason, Turned

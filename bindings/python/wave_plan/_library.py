@@ -8,14 +8,14 @@ from __future__ import annotations
 import ctypes
 import os
 from pathlib import Path
-from typing import Any, Dict, FrozenSet, Iterator, List, Mapping, Tuple, Type, Union
+from typing import Any, Callable, Dict, FrozenSet, Iterator, List, Mapping, Tuple, Type, Union
 
 Cells = ctypes.Array[ctypes.c_uint16]
 Bytes = ctypes.Array[ctypes.c_uint8]
 Slice = Union[Cells, Bytes]
 
-# The slices of 16-bit cells and those of bytes, by their names in the header, and the number that is a size. Every other
-# parameter is a 16-bit number.
+# The slices of 16-bit cells and those of bytes, by their names in the header, and the number that is a size. Every
+# other parameter is a 16-bit number.
 CELLS: FrozenSet[str] = frozenset("neighbours degrees waves counts ranks trail moved tally result steps shelf".split())
 BYTES: FrozenSet[str] = frozenset("list out journal name sheet".split())
 SIZES: FrozenSet[str] = frozenset(["length"])
@@ -24,7 +24,7 @@ _READ = "neighbours degrees waves counts ranks tally"
 _MADE = "neighbours* degrees* waves* counts* ranks*"
 _EDITED = "neighbours* degrees* waves* counts* ranks trail* moved* tally*"
 
-# The parameters of each function, in the header's order and without the prefix wave_plan_. A slice stands for its pointer
+# The parameters of each function, in the header's order, by its name without wave_plan_. A slice stands for its pointer
 # and its length; * marks one that the call writes.
 CALLS: Mapping[str, str] = {
     "open": f"{_MADE} tally* banks",
@@ -72,22 +72,21 @@ def bytes_of(data: bytes) -> Bytes:
 
 
 def in_a_cell(number: int) -> int:
-    """The number as a cell holds it. One above 65,535 becomes 65,535, which no call takes either: it is no bank, no rank,
-    no cap, no crew and no limit, so that it gets the refusal that is due."""
+    """The number as a cell holds it. One above 65,535 becomes 65,535, which no call takes either: it is no bank, rank,
+    cap, crew or limit, so that it gets the refusal that is due."""
     if number < 0:
         raise ValueError(f"{number} is negative")
     return min(number, 65535)
 
 
 def call(function: str, lent: Mapping[str, Slice], *numbers: int) -> int:
-    """Calls a function: the slices of its names out of those lent, then the numbers in the header's order. The answer is 0
-    or the number of a refusal."""
+    """Calls a function: the slices of its names out of those lent, then the numbers in the header's order. The answer
+    is 0 or the number of a refusal."""
     arguments: List[object] = []
     for name in _SLICES[function]:
         arguments += [lent[name], len(lent[name])]
     arguments += map(in_a_cell, numbers)
-    answer: int = _FUNCTIONS[function](*arguments)
-    return answer
+    return _FUNCTIONS[function](*arguments)
 
 
 def _slices(parameters: str) -> Tuple[str, ...]:
@@ -126,7 +125,7 @@ def _places() -> Iterator[str]:
 
 
 def _load() -> ctypes.PyDLL:
-    """The library. PyDLL keeps the interpreter's lock during a call, so that no two threads are in one plan's memory."""
+    """The library. PyDLL keeps the interpreter's lock during a call: no two threads are in one plan's memory."""
     place = next(_places())
     try:
         return ctypes.PyDLL(place)
@@ -135,8 +134,9 @@ def _load() -> ctypes.PyDLL:
         raise ImportError(f"the wave plan library cannot be loaded: {error} ({advice})") from error
 
 
-def _declare(library: ctypes.PyDLL) -> Dict[str, ctypes._NamedFuncPointer]:
-    functions = {}
+def _declare(library: ctypes.PyDLL) -> Dict[str, Callable[..., int]]:
+    """The functions of the table, declared with their types."""
+    functions: Dict[str, Callable[..., int]] = {}
     for name, parameters in CALLS.items():
         function = library[f"wave_plan_{name}"]
         function.argtypes = argument_types(parameters)

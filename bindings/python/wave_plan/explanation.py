@@ -28,7 +28,7 @@ class Place:
     bank: Bank
 
     def key(self) -> Tuple[int, int, Bank]:
-        """Smaller for an earlier bank: more clashes, or as many and a smaller rank, or both equal and a smaller number."""
+        """Smaller for an earlier bank: more clashes, or as many and a smaller rank, or else a smaller number."""
         return -self.clashes, self.rank, self.bank
 
 
@@ -89,9 +89,10 @@ class Explanation:
 
     kind, banks: the row of the edit.
     taken_up: whether the bank is on the trail.
-    reasons: the conditions on the trail that hold for it, in their order; the last one with each bank for which it does, in
-        the new order. None for a bank off the trail.
-    kept: its order, after the edit, towards the named banks that it clashes with and towards which it did not turn over.
+    reasons: the conditions on the trail that hold for it, in their order; the last one with each bank for which it
+        does, in the new order. None for a bank off the trail.
+    kept: its order, after the edit, towards the named banks that it clashes with and towards which it did not turn
+        over.
     now: its wave after the edit.
     before: its wave before the edit, if it moved.
     """

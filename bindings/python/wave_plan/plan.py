@@ -63,7 +63,7 @@ class Day(NamedTuple):
 class Plan:
     """A plan of wave numbers, which are the rule's after every call. For one thread at a time.
 
-    A refused call raises Refused and changes nothing. Plan(n) has n banks without a clash, all of rank 0, and the cap 24.
+    A refused call raises Refused and changes nothing. Plan(n) has n banks without a clash, all of rank 0, and cap 24.
     """
 
     __slots__ = ("_memory", "_last")
@@ -112,8 +112,6 @@ class Plan:
         if not isinstance(other, Plan):
             return NotImplemented
         return self._held() == other._held()
-
-    __hash__ = None  # type: ignore[assignment]
 
     def __repr__(self) -> str:
         return f"<Plan of {self.banks} banks, {self.clashes} clashes, {self.wave_count} waves, cap {self.cap}>"
@@ -185,7 +183,7 @@ class Plan:
     @property
     def waves(self) -> Tuple[Wave, ...]:
         """The kept waves by bank number."""
-        return tuple(self._memory["waves"][: self.banks])
+        return tuple(map(Wave, self._memory["waves"][: self.banks]))
 
     @property
     def ranks(self) -> Tuple[int, ...]:
@@ -193,11 +191,14 @@ class Plan:
         return tuple(self._memory["ranks"][: self.banks])
 
     def neighbours_of(self, b: Bank) -> Tuple[Bank, ...]:
-        """The banks that clash with bank b, ascending; none if there is no such bank. clashes_of without its questions."""
+        """The banks that clash with bank b, ascending; none if there is no such bank.
+
+        It is clashes_of without its questions: only the library's calls wrote the rows.
+        """
         if in_a_cell(b) >= self.banks:
             return ()
         start = _WIDTHS["neighbours"] * b
-        return tuple(self._memory["neighbours"][start : start + self._memory["degrees"][b]])
+        return tuple(map(Bank, self._memory["neighbours"][start : start + self._memory["degrees"][b]]))
 
     def clash_pairs(self) -> Iterator[Tuple[Bank, Bank]]:
         """The clashes, smaller bank first, lowest pair first."""
@@ -213,7 +214,7 @@ class Plan:
     def clashes_of(self, b: Bank) -> Tuple[Bank, ...]:
         """The banks that clash with bank b, ascending."""
         start, length, _ = self._ask("clashes_of", b)
-        return tuple(self._memory["neighbours"][start : start + length])
+        return tuple(map(Bank, self._memory["neighbours"][start : start + length]))
 
     def wave_bound(self) -> int:
         """How many waves the plan has at most, from its degrees alone."""
@@ -257,8 +258,8 @@ class Plan:
     def why(self, b: Optional[Bank] = None) -> Union[Explanation, Explanations]:
         """Explains the last edit for bank b; without a bank, for every bank that moved, in the new order.
 
-        The last edit is that of add, strike, add_recorded or strike_recorded. A list, a replay, a graph, a return to a kept
-        plan and set_rank leave none; then LookupError is raised. 4 where there is no such bank.
+        The last edit is that of add, strike, add_recorded or strike_recorded. A list, a replay, a graph, a return to a
+        kept plan and set_rank leave none; then LookupError is raised. 4 where there is no such bank.
         """
         last = self._last
         if last is None:
@@ -275,8 +276,8 @@ class Plan:
     def from_networkx(graph: Any, rank: Optional[str] = None) -> Tuple[Plan, List[Hashable]]:
         """The plan of a graph, and its nodes by bank number, which is their order in the graph.
 
-        rank: the node attribute that has the rank; a node without it has rank 0. Every edge is added as a clash, so that a
-        loop is refused by 5, a parallel edge by 6 and a 24th edge of a node by 8.
+        rank: the node attribute that has the rank; a node without it has rank 0. Every edge is added as a clash, so
+        that a loop is refused by 5, a parallel edge by 6 and a 24th edge of a node by 8.
         """
         if not isinstance(graph, _networkx().Graph):
             raise TypeError(f"{type(graph).__name__} is no graph of networkx")
@@ -292,7 +293,7 @@ class Plan:
         return plan, nodes
 
     def to_networkx(self) -> Any:
-        """The plan as a networkx.Graph: its banks are the nodes, with the attributes wave and rank, its clashes the edges."""
+        """The plan as a networkx.Graph: the banks as nodes, with the attributes wave and rank, the clashes as edges."""
         graph = _networkx().Graph()
         for bank, (wave, rank) in enumerate(zip(self.waves, self.ranks)):
             graph.add_node(bank, wave=wave, rank=rank)
@@ -333,7 +334,7 @@ class Plan:
         return edit
 
     def _front(self, name: str, length: int) -> Tuple[Bank, ...]:
-        return tuple(self._memory[name][:length])
+        return tuple(map(Bank, self._memory[name][:length]))
 
     def _tally(self, cell: int) -> int:
         number: int = self._memory["tally"][cell]

@@ -135,7 +135,7 @@ def refuse(number: int, results: Sequence[int]) -> None:
     """Raises the refusal that a call answered by its number and its results, if the number is one."""
     if not number:
         return
-    refusal = Refusal(number)
+    refusal = next(refusal for refusal in Refusal if refusal == number)
     if refusal is Refusal.NO_SHEET:
         raise WrongSheet(refusal, results[0], None)
     if refusal is Refusal.SHEET_CLASH:

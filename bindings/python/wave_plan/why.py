@@ -1,11 +1,11 @@
 """Why an edit took a bank up or left it alone, and which banks hold the waves below its own.
 
-Waves, trail and moved list are what the library's calls answered. Said here is which of the three conditions on the trail
-hold for a bank:
+Waves, trail and moved list are what the library's calls answered. Said here is which of the three conditions on the
+trail hold for a bank:
 
 (i) the row of the edit names it;
-(ii) it clashes, after the edit, with one of the two named banks, and its order towards that bank turned over: it was earlier
-    and is now later (add), or was later and is now earlier (strike);
+(ii) it clashes, after the edit, with one of the two named banks, and its order towards that bank turned over: it was
+    earlier and is now later (add), or was later and is now earlier (strike);
 (iii) it is later, in the new order, than a clashing bank whose wave changed.
 """
 
