@@ -1,5 +1,7 @@
 """What the tests share: the package's folder on the path, the repository, and refusals that are expected."""
 
+import importlib.util
+import os
 import sys
 import unittest
 from pathlib import Path
@@ -12,6 +14,15 @@ from wave_plan import Plan, Refused  # noqa: E402
 
 # M8: six banks, two waves.
 SIX_BANKS = "N 6\n+ 0 4\n+ 0 2\n+ 2 3\n+ 1 3\n+ 1 5\n+ 2 5"
+
+
+def missing(module):
+    """Whether a module that some tests need is not there. An error if WAVE_PLAN_TEST_.. says that it must be."""
+    missing = importlib.util.find_spec(module) is None
+    variable = f"WAVE_PLAN_TEST_{module.upper()}"
+    if missing and os.environ.get(variable) == "1":
+        raise ImportError(f"{variable}=1 asks for {module}, which is not there")
+    return missing
 
 
 def example(name):

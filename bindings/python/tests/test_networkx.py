@@ -3,20 +3,14 @@
 Where networkx is missing these tests are skipped, or fail if WAVE_PLAN_TEST_NETWORKX=1 is set.
 """
 
-import importlib.util
-import os
 import random
 import unittest
 from unittest import mock
 
-from common import SIX_BANKS, RefusalCase
+from common import SIX_BANKS, RefusalCase, missing
 from model import random_pairs
 
 from wave_plan import Plan
-
-MISSING = importlib.util.find_spec("networkx") is None
-if MISSING and os.environ.get("WAVE_PLAN_TEST_NETWORKX") == "1":
-    raise ImportError("WAVE_PLAN_TEST_NETWORKX=1 asks for networkx, which is not there")
 
 
 def coloured(graph):
@@ -26,7 +20,7 @@ def coloured(graph):
     return networkx.greedy_color(graph, strategy="largest_first")
 
 
-@unittest.skipIf(MISSING, "networkx is not there")
+@unittest.skipIf(missing("networkx"), "networkx is not there")
 class NetworkxTest(RefusalCase):
     def random_graphs(self):
         import networkx

@@ -16,7 +16,8 @@ class Refusal(IntEnum):
     advice: str
     """What a caller does about it."""
 
-    def __new__(cls, number: int, question: str, advice: str) -> Refusal:
+    def __new__(cls, number: int, question: str = "", advice: str = "") -> Refusal:
+        """The texts have defaults for type checkers alone, which take the lookup Refusal(number) for this call."""
         refusal = int.__new__(cls, number)
         refusal._value_ = number
         refusal.question = question
@@ -135,7 +136,7 @@ def refuse(number: int, results: Sequence[int]) -> None:
     """Raises the refusal that a call answered by its number and its results, if the number is one."""
     if not number:
         return
-    refusal = next(refusal for refusal in Refusal if refusal == number)
+    refusal = Refusal(number)
     if refusal is Refusal.NO_SHEET:
         raise WrongSheet(refusal, results[0], None)
     if refusal is Refusal.SHEET_CLASH:
