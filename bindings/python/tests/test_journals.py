@@ -93,7 +93,8 @@ class JournalTest(RefusalCase):
             self.refused(number, function, journal, a, b)
         self.refused(14, plan.add_recorded, journal[:-1], 0, 1)
         self.refused(13, plan.add_recorded, b"", 0, 1)
-        self.refused(9, plan.add_recorded, bytes(60001), 0, 1)
+        for length in (60001, 65536 + len(journal)):
+            self.refused(9, plan.add_recorded, journal.ljust(length), 0, 1)
         self.refused(21, plan.add_recorded, FIRST + field(b"+", 7, 0, 1), 0, 1)
         self.refused(18, plan.add_recorded, journal + field(b"K", 7, 0, 1), 0, 1)
         plan.cap = 2

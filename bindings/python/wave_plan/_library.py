@@ -8,7 +8,7 @@ from __future__ import annotations
 import ctypes
 import os
 from pathlib import Path
-from typing import Any, Callable, Dict, FrozenSet, Iterator, List, Mapping, Tuple, Type, Union
+from typing import Any, Callable, Dict, FrozenSet, List, Mapping, Tuple, Type, Union
 
 Cells = ctypes.Array[ctypes.c_uint16]
 Bytes = ctypes.Array[ctypes.c_uint8]
@@ -73,7 +73,7 @@ def bytes_of(data: bytes) -> Bytes:
 
 def in_a_cell(number: int) -> int:
     """The number as a cell holds it. One above 65,535 becomes 65,535, which no call takes either: it is no bank, rank,
-    cap, crew or limit, so that it gets the refusal that is due."""
+    cap, crew, limit or length of a journal, so that it gets the refusal that is due."""
     if number < 0:
         raise ValueError(f"{number} is negative")
     return min(number, 65535)
@@ -108,27 +108,22 @@ def argument_types(parameters: str) -> List[Type[Any]]:
     return types
 
 
-def _places() -> Iterator[str]:
-    """Where the library may be, the first that is there being taken."""
+def _place() -> str:
+    """Where the library is: as the environment says, beside the package, in its repository, or as the system finds it."""
     given = os.environ.get("WAVE_PLAN_LIBRARY")
     if given:
-        yield given
-        return
-    here = Path(__file__).resolve()
-    folders = [here.parent]
-    if len(here.parents) > 3:
-        folders.append(here.parents[3] / "target" / "staticlib")
-    for folder in folders:
+        return given
+    here = Path(__file__).resolve().parent
+    for folder in (here, (here / "../../../target/staticlib").resolve()):
         if (folder / "libwave_plan.so").exists():
-            yield str(folder / "libwave_plan.so")
-    yield "libwave_plan.so.0"
+            return str(folder / "libwave_plan.so")
+    return "libwave_plan.so.0"
 
 
 def _load() -> ctypes.PyDLL:
     """The library. PyDLL keeps the interpreter's lock during a call: no two threads are in one plan's memory."""
-    place = next(_places())
     try:
-        return ctypes.PyDLL(place)
+        return ctypes.PyDLL(_place())
     except OSError as error:
         advice = "make shared builds it; WAVE_PLAN_LIBRARY=.. says where it is"
         raise ImportError(f"the wave plan library cannot be loaded: {error} ({advice})") from error
