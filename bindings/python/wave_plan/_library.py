@@ -109,7 +109,7 @@ def argument_types(parameters: str) -> List[Type[Any]]:
 
 
 def _place() -> str:
-    """Where the library is: as the environment says, beside the package, in its repository, or as the system finds it."""
+    """Where the library is: named by the environment, beside the package, in its repository, or the system's."""
     given = os.environ.get("WAVE_PLAN_LIBRARY")
     if given:
         return given
