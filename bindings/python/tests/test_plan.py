@@ -145,9 +145,9 @@ class RefusalsTest(RefusalCase):
         self.assertIs(refused.refusal, Refusal.UNREADABLE_ROW)
         self.assertEqual(
             str(refused),
-            "refused 11 at 2: Does the row read? No: correct it: one space between parts, at most four digits",
+            "refused 11 at 2: Is the row one of the four forms? No. To do: correct it: one space between parts, at most four digits",
         )
-        plain = "refused 5: Are the two banks different? No: name two different banks"
+        plain = "refused 5: Are the two banks different? No. To do: name two different banks"
         self.assertEqual(str(Refused(Refusal.SAME_BANK)), plain)
 
     def test_there_are_27(self):

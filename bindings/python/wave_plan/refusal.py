@@ -25,7 +25,11 @@ class Refusal(IntEnum):
         return refusal
 
     TOO_MANY_BANKS = 1, "Is the bank count at most 1,024?", "split the depot"
-    SHORT_SLICE = 2, "Is the memory lent to the call long enough?", "lend more"
+    SHORT_SLICE = (
+        2,
+        "Is the memory lent to the call long enough?",
+        "lend more; open a shelf for as many banks as the plan has",
+    )
     NO_PLAN = (
         3,
         "Does the memory hold a plan, and each used place of the shelf one of as many banks?",
@@ -37,24 +41,32 @@ class Refusal(IntEnum):
         "correct the bank, or open a plan of more banks",
     )
     SAME_BANK = 5, "Are the two banks different?", "name two different banks"
-    CLASH_THERE = 6, "Are the two banks free of a clash so far?", "nothing: they clash already"
+    CLASH_THERE = 6, "Are the two banks free of a clash so far?", "nothing, they clash already"
     NO_CLASH = (
         7,
         "Do the two banks clash?",
         "nothing, or look for the edit that should have added the clash",
     )
-    ROW_FULL = 8, "Have both banks fewer than 23 clashes?", "strike another clash of that bank first"
+    ROW_FULL = (
+        8,
+        "Have both banks fewer than 23 clashes?",
+        "strike another clash first, no bank can have more",
+    )
     LONG_LIST = 9, "Has the list, or the journal, at most 60,000 bytes?", "split it"
     NO_FIRST_ROW = (
         10,
-        "Is the first row, or the second after V 2, an N row?",
-        "write it: N and the number of banks",
+        "Is row 1, or row 2 after V 2, an N row of the stated form?",
+        "write it; a first row that starts with V is V 2 and nothing more",
     )
-    UNREADABLE_ROW = 11, "Does the row read?", "correct it: one space between parts, at most four digits"
-    SHORT_OUTPUT = 12, "Is the output at least as long as the text?", "lend more"
+    UNREADABLE_ROW = (
+        11,
+        "Is the row one of the four forms?",
+        "correct it: one space between parts, at most four digits",
+    )
+    SHORT_OUTPUT = 12, "Is the output at least as long as the sheet or the poster?", "lend more"
     NO_FIRST_FIELD = (
         13,
-        "Is the journal's first field whole, and its length within the slice?",
+        "Is the journal within the slice, and its first field whole and of the stated form?",
         "start a new journal",
     )
     WRONG_FIELD = (
@@ -64,32 +76,40 @@ class Refusal(IntEnum):
     )
     NO_SPACE = (
         15,
-        "Is there space for what is to be written, and in 60,000 bytes?",
-        "start a new journal",
+        "Is there space in the slice, and in 60,000 bytes, for what is to be written?",
+        "lend more; a journal that is full ends there",
     )
-    UNKNOWN_NAME = 16, "Is the name MORNING, NOON or CLOSE?", "use one of these names"
-    NOTHING_KEPT = 17, "Is a plan kept under that name?", "keep a plan under it first"
+    UNKNOWN_NAME = 16, "Is the name MORNING, NOON or CLOSE?", "use one of the three"
+    NOTHING_KEPT = 17, "Is a plan kept under the name?", "keep a plan under it first"
     LATE_RANK = (
         18,
-        "Do the ranks come before the first edit?",
-        "set the ranks before the first clash is added",
+        "Does the rank come before the first edit?",
+        "move the K rows up to the N row; cut a journal before that field",
     )
     CAP_OUT_OF_SPAN = 19, "Is the cap from 1 to 24?", "set another"
     CAP_PASSED = (
         20,
-        "Is the cap not below the waves in use, or those that the edit would need?",
+        "Is the cap not below the waves in use, and not below those that the edit would need?",
         "raise the cap, or strike or add another clash first",
     )
-    WRONG_NUMBER = 21, "Is the entry's number one above the last?", "cut the journal before that field"
+    WRONG_NUMBER = (
+        21,
+        "Is the entry's number one above the last, the first being 1?",
+        "cut the journal before that field",
+    )
     MANY_BANKS_BY_RULE = (
         22,
-        "Is the bank count at most 16, to read a wave straight off the rule?",
-        "ask for the kept wave",
+        "Is the bank count at most 16, where a wave is read straight off the rule?",
+        "ask for the kept wave, or look the bank up on the sheet",
     )
-    D_RETIRED = 23, "Is the row of a V 2 list no D row?", "write a - row for each clash that goes"
+    D_RETIRED = (
+        23,
+        "Is the row of a list that starts with V 2 no D row?",
+        "write a - row for each clash that goes",
+    )
     CREW_SPAN = (
         24,
-        "Are the couriers from 1 to 64, or the steps at most 1,024?",
+        "Are the couriers from 1 to 64, and the steps they may take at most 1,024?",
         "give another number",
     )
     NO_CREW = 25, "Does some crew of 1 to 64 couriers end within so many steps?", "allow more steps"
@@ -115,7 +135,7 @@ class Refused(Exception):
 
     def __str__(self) -> str:
         at = f" at {self.place}" if self.place else ""
-        return f"refused {self.refusal.value}{at}: {self.refusal.question} No: {self.refusal.advice}"
+        return f"refused {self.refusal.value}{at}: {self.refusal.question} No. To do: {self.refusal.advice}"
 
 
 class WrongSheet(Refused):
