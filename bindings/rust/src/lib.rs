@@ -6,6 +6,7 @@
 //! - `plan`: a plan that owns its memory, for programs.
 //! - `refusal`: the refusals, by name and number.
 //! - `shelf`: a shelf that owns its memory, and the names of kept plans.
+//! - `why`: the explanation of an edit.
 //!
 //! A bank number where a wave number belongs does not compile, nor the other way round:
 //!
@@ -23,8 +24,10 @@ mod plan;
 mod raw;
 mod refusal;
 mod shelf;
+mod why;
 
 pub use lent::{open_shelf, Lent};
 pub use plan::{Bank, Day, Edit, Plan, Wave, WrongSheet};
 pub use refusal::{Refusal, Refused};
 pub use shelf::{Name, Shelf};
+pub use why::{Choice, Explanation, Kind, LastEdit, Order, Place, Reason};
