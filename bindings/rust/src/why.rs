@@ -7,16 +7,6 @@
 //! 2. it clashes, after the edit, with one of the two named banks, and its order towards that bank
 //!    turned over: it was earlier and is now later (add), or was later and is now earlier (strike);
 //! 3. it is later, in the new order, than a clashing bank whose wave changed.
-//!
-//! ```
-//! use wave_plan::{Bank, Kind, LastEdit, Plan};
-//! let before = Plan::read_list(b"N 6\n+ 0 4\n+ 0 2\n+ 2 3\n+ 1 3\n+ 1 5\n+ 2 5").unwrap();
-//! let mut after = before.clone();
-//! let edit = after.strike(Bank(2), Bank(5)).unwrap();
-//! let last = LastEdit::new(Kind::Striking, Bank(2), Bank(5), &before, &after, edit);
-//! assert_eq!(last.moved_lines()[0], "0: B to A");
-//! println!("{}", last.why(Bank(0)).unwrap());
-//! ```
 
 mod text;
 
@@ -121,6 +111,19 @@ pub struct Explanation {
 }
 
 /// An accepted edit, with copies of what its explanation needs of the plans before and after it.
+///
+/// ```
+/// use wave_plan::{Bank, Kind, LastEdit, Plan};
+/// let before = Plan::read_list(b"N 6\n+ 0 4\n+ 0 2\n+ 2 3\n+ 1 3\n+ 1 5\n+ 2 5").unwrap();
+/// let mut after = before.clone();
+/// let edit = after.strike(Bank(2), Bank(5)).unwrap();
+/// let last = LastEdit::new(Kind::Striking, Bank(2), Bank(5), &before, &after, edit);
+/// assert_eq!(last.moved_lines(), ["0: B to A", "2: A to B", "3: B to C", "4: A to B"]);
+/// let why = "bank 4 was taken up: it is later than a clashing bank that moved: 0 from B to A
+///   wave before: A, the lowest free: no earlier clashing bank held it
+///   wave now: B, the lowest free: A is held by bank 0";
+/// assert_eq!(last.why(Bank(4)).unwrap(), why);
+/// ```
 #[derive(Clone, Debug)]
 pub struct LastEdit {
     kind: Kind,
@@ -208,7 +211,7 @@ impl LastEdit {
     /// The conditions on the trail that hold for b, with its orders that turned over.
     fn reasons(&self, b: Bank, turned: Vec<(Order, Order)>) -> Vec<Reason> {
         let named = b == self.banks.0 || b == self.banks.1;
-        let named = named.then(|| Reason::Named);
+        let named = named.then_some(Reason::Named);
         let turned = turned
             .into_iter()
             .map(|(before, now)| Reason::Turned { before, now });
