@@ -19,7 +19,7 @@ const SMALL_PLAN: u16 = 64;
 /// by no more than so many.
 const BEND: (f64, f64, f64) = (16.0, 6.0, 50.0);
 
-/// Blue and vermilion: the colour-blind tell them apart, and in print they are of different grey.
+// Blue and vermilion: the colour-blind tell them apart, and in print they are of different grey.
 const COLUMN: &str = r##"fill="#F1F1F1""##;
 const PLAIN: &str = r##"fill="#FFFFFF" stroke="#555555" stroke-width="1""##;
 const TAKEN_UP: &str = r##"fill="#FFFFFF" stroke="#D55E00" stroke-width="3""##;
@@ -28,6 +28,7 @@ const NAMED: &str = r##"fill="none" stroke="#000000" stroke-width="1.5""##;
 const ADDED: &str = r##"fill="none" stroke="#000000" stroke-width="2""##;
 const STRUCK: &str = r##"fill="none" stroke="#000000" stroke-width="2" stroke-dasharray="5 4""##;
 
+/// Letters have a white edge, so that lines behind them do not touch them.
 const SET_OFF: &str = r##"stroke="#FFFFFF" stroke-width="4" paint-order="stroke""##;
 
 /// How the last edit left a bank.
@@ -38,16 +39,16 @@ enum Mark {
     Moved,
 }
 
-/// The SVG of a plan, with the edit that led to it, if there is one. Numbers are drawn in small plans,
+/// The SVG of a plan. The last edit is shown if it led to this plan. Numbers are drawn in small plans,
 /// and in others if they are asked for.
 pub fn svg(plan: &Plan, last: Option<&LastEdit>, numbers: bool) -> String {
+    let last = last.filter(|last| last.led_to(plan));
     Picture::new(plan, last, numbers).drawn()
 }
 
 struct Picture<'a> {
     plan: &'a Plan,
     last: Option<&'a LastEdit>,
-    waves: Vec<Wave>,
     marks: Vec<Mark>,
     layout: Layout,
     numbers: bool,
@@ -56,6 +57,7 @@ struct Picture<'a> {
 impl Picture<'_> {
     fn new<'a>(plan: &'a Plan, last: Option<&'a LastEdit>, numbers: bool) -> Picture<'a> {
         let waves = plan.waves();
+        let small = plan.banks() <= SMALL_PLAN;
         let mut marks = vec![Mark::Plain; waves.len()];
         if let Some(last) = last {
             let edit = last.edit();
@@ -68,10 +70,9 @@ impl Picture<'_> {
         Picture {
             plan,
             last,
-            layout: Layout::new(&waves, plan.wave_count().into(), plan.banks() <= SMALL_PLAN),
-            waves,
+            layout: Layout::new(&waves, plan.wave_count().into(), small),
             marks,
-            numbers: numbers || plan.banks() <= SMALL_PLAN,
+            numbers: numbers || small,
         }
     }
 
@@ -183,12 +184,12 @@ impl Picture<'_> {
         let (dx, dy) = (to_x - x, to_y - y);
         let length = f64::from(dx * dx + dy * dy).sqrt();
         let (part, more, most) = BEND;
-        let bend = 2.0 * (length / part + more).min(most) / length;
-        let bend = if y + to_y < self.layout.bottom {
-            bend
+        let down = if y + to_y < self.layout.bottom {
+            1.0
         } else {
-            -bend
+            -1.0
         };
+        let bend = down * 2.0 * (length / part + more).min(most) / length;
         let by = |across: i32| (bend * f64::from(across)).round() as i32;
         let (bent_x, bent_y) = (dx / 2 - by(dy), dy / 2 + by(dx));
         format!("<path id=\"{id}\" d=\"M{x} {y}q{bent_x} {bent_y} {dx} {dy}\"/>\n")
@@ -210,7 +211,9 @@ impl Picture<'_> {
 
     /// The banks, each in the group of its mark, and squares around those that the row names.
     fn banks(&self) -> String {
-        let circles = |mark| self.marked(mark).map(|b| self.circle(b));
+        let titles = self.titles();
+        let circle = |b: Bank| self.circle(b, &titles[usize::from(b.0)]);
+        let circles = |mark| self.marked(mark).map(circle);
         let named = self.last.map(|last| [last.banks().0, last.banks().1]);
         let squares = named.into_iter().flatten().map(|b| {
             let (x, y) = self.layout.centre(b);
@@ -222,14 +225,24 @@ impl Picture<'_> {
             + &group("named", NAMED, squares)
     }
 
-    /// A bank. Its title is shown where a pointer rests on it.
-    fn circle(&self, b: Bank) -> String {
+    /// What is shown where a pointer rests on a bank: its letter, or both if it moved.
+    fn titles(&self) -> Vec<String> {
+        let waves = (0..).zip(self.plan.waves());
+        let mut titles: Vec<String> = waves
+            .map(|(number, wave): (u16, Wave)| format!("bank {number}: {}", wave.letter()))
+            .collect();
+        if let Some(last) = self.last {
+            for (b, line) in last.edit().moved.iter().zip(last.moved_lines()) {
+                titles[usize::from(b.0)] = format!("bank {line}");
+            }
+        }
+        titles
+    }
+
+    fn circle(&self, b: Bank, title: &str) -> String {
         let ((x, y), r) = (self.layout.centre(b), self.radius());
         let id = b.0;
-        let wave = self.waves[usize::from(id)].letter();
-        format!(
-            "<circle id=\"bank-{id}\" cx=\"{x}\" cy=\"{y}\" r=\"{r}\"><title>bank {id}: {wave}</title></circle>\n"
-        )
+        format!("<circle id=\"bank-{id}\" cx=\"{x}\" cy=\"{y}\" r=\"{r}\"><title>{title}</title></circle>\n")
     }
 
     /// Banks without numbers are smaller, so that more of the lines is seen.

@@ -294,6 +294,9 @@ fn m9() {
         "clash struck",
     ];
     assert_eq!(words, wanted);
+    let titles = in_groups(&all, &["banks", "taken-up", "moved"], "title");
+    let titles: BTreeSet<&str> = titles.iter().map(|e| e.text.as_str()).collect();
+    assert!(titles.contains("bank 0: B to A") && titles.contains("bank 5: B"));
 }
 
 #[test]
@@ -303,6 +306,18 @@ fn plans_without_an_edit() {
         check(&Plan::open(n).expect("a plan"), None, false);
     }
     check(&plan_of(&mut random, 300, 900, 299), None, true);
+}
+
+/// An edit that led to another plan is not shown.
+#[test]
+fn another_edit() {
+    let mut random = Random::new(6);
+    let plan = plan_of(&mut random, 20, 40, 19);
+    let (after, last) = edited(&mut random, &plan);
+    assert_ne!(svg(&after, Some(&last), false), svg(&after, None, false));
+    assert_eq!(svg(&plan, Some(&last), false), svg(&plan, None, false));
+    let small = Plan::open(1).expect("a plan");
+    assert_eq!(svg(&small, Some(&last), false), svg(&small, None, false));
 }
 
 /// Small plans are as wide as a phone, so that their numbers are 10 pixels high there.

@@ -160,6 +160,11 @@ impl LastEdit {
         &self.edit
     }
 
+    /// Whether the plan has the banks, ranks and clashes that the edit led to.
+    pub fn led_to(&self, plan: &Plan) -> bool {
+        self.after == Snapshot::of(plan)
+    }
+
     /// A line for each bank that moved, in the new order: `0: B to A`.
     pub fn moved_lines(&self) -> Vec<String> {
         let line = |&b: &Bank| {
@@ -242,7 +247,7 @@ impl LastEdit {
 }
 
 /// What is kept of a plan: by bank number its wave, its rank and the banks that clash with it.
-#[derive(Clone, Debug)]
+#[derive(Clone, Debug, PartialEq, Eq)]
 struct Snapshot {
     waves: Vec<Wave>,
     ranks: Vec<u16>,
