@@ -95,6 +95,11 @@
 //! # }
 //! ```
 //!
+//! # Why a bank moved
+//!
+//! One edit can move banks that it does not name. [`LastEdit`] says of each bank why the edit took it up or left it alone, and
+//! which banks hold the waves below its own.
+//!
 //! # Banks and waves
 //!
 //! A bank number where a wave number belongs does not compile, nor the other way round:
@@ -125,6 +130,7 @@ mod raw;
 mod refusal;
 mod sheet;
 mod shelf;
+mod why;
 
 pub use crew::Day;
 pub use edit::Edit;
@@ -133,3 +139,4 @@ pub use plan::Plan;
 pub use refusal::{Refusal, Refused};
 pub use sheet::WrongSheet;
 pub use shelf::{Name, Shelf};
+pub use why::{Choice, Explanation, Kind, LastEdit, Order, Place, Reason};

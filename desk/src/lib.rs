@@ -1,0 +1,3 @@
+//! The dispatcher's desk.
+
+pub mod picture;
