@@ -23,8 +23,10 @@ mod plan;
 mod raw;
 mod refusal;
 mod shelf;
+mod why;
 
 pub use lent::{open_shelf, Lent};
 pub use plan::{Bank, Day, Edit, Plan, Wave, WrongSheet};
 pub use refusal::{Refusal, Refused};
 pub use shelf::{Name, Shelf};
+pub use why::{Kind, LastEdit};
