@@ -6,6 +6,7 @@ mod journals;
 mod kills;
 mod random;
 mod support;
+mod synced;
 mod terminal;
 mod transcripts;
 mod verdicts;

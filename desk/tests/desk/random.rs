@@ -112,7 +112,7 @@ impl Pair {
 
 #[test]
 fn sessions() {
-    for seed in 0..40 {
+    for seed in 0..200 {
         let mut random = Random::new(seed);
         let n = random.between(2, 30);
         let mut pair = Pair {

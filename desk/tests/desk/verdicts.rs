@@ -12,7 +12,7 @@ use independent::{check_sheet, doubt, poster, sheet};
 use wave_plan::{Refusal, Refused};
 
 /// Accepted lists are drawn until there are so many.
-const LISTS: usize = 60;
+const LISTS: usize = 30;
 
 /// What a program prints, and after a refusal the question that was answered no.
 fn with_question(output: Vec<u8>) -> String {
@@ -75,7 +75,7 @@ fn programs_lines() {
             desk.says("poster"),
             with_question(poster::program_output(&list))
         );
-        for _ in 0..4 {
+        for _ in 0..2 {
             let (couriers, limit) = (
                 random.below(67) as u16,
                 random.below(graph.banks() + 3) as u16,
@@ -88,12 +88,12 @@ fn programs_lines() {
             let line = doubt::program_output(&list, &[bank]);
             assert_eq!(desk.says(&format!("doubt {bank}")), with_question(line));
         }
-        agreeing(&folder, &mut random, &mut desk, &list, &graph);
+        agreeing(&folder, &mut random, &mut desk, &graph);
     }
 }
 
 /// Sheets of all kinds: the planner's, others that keep clashing banks apart, any waves, and damaged ones.
-fn agreeing(folder: &Folder, random: &mut Random, desk: &mut Desk, list: &[u8], graph: &Graph) {
+fn agreeing(folder: &Folder, random: &mut Random, desk: &mut Desk, graph: &Graph) {
     let clashes = graph.clashes();
     let text = |waves: &[usize]| sheet::sheet_text(waves, clashes).into_bytes();
     let mut sheets = vec![text(&graph.waves()), text(&other_waves(random, graph))];
@@ -103,10 +103,11 @@ fn agreeing(folder: &Folder, random: &mut Random, desk: &mut Desk, list: &[u8], 
     for _ in 0..4 {
         sheets.push(text(&any_waves(random, graph.banks(), 24)));
     }
-    sheets.extend(wrong_sheets(random, &graph.waves(), clashes));
+    let wrong = wrong_sheets(random, &graph.waves(), clashes);
+    sheets.extend((0..6).map(|_| random.pick(&wrong).clone()));
     for drawn in sheets {
         let file = folder.file("drawn.sheet", &drawn);
-        let verdict = check_sheet::program_output(list, &drawn);
+        let verdict = check_sheet::verdict(graph, &drawn).into_bytes();
         assert_eq!(desk.says(&format!("agree {file}")), with_question(verdict));
     }
 }
