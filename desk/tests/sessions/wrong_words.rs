@@ -1,8 +1,6 @@
 //! Lines that are no commands, commands with wrong words, and commands where nothing is open.
 
-use crate::support::{run, says, Desk};
-use std::io::Write;
-use std::process::Stdio;
+use crate::desk_here::{says, Desk};
 
 /// Each command with too few, too many or wrong words. A row of a list gets 11; each other line is told how to write it.
 #[test]
@@ -130,36 +128,4 @@ fn nothing_open() {
         let none = "no plan is open; open N, load LIST, replay FILE or journal FILE opens one";
         assert_eq!(says(line), format!("{line}: {none}\n"));
     }
-}
-
-/// Wrong arguments print one line on standard error, which says how to call it, and nothing else.
-#[test]
-fn arguments() {
-    for arguments in [&["a", "b"][..], &["--help"], &["-"]] {
-        let output = run(arguments, "open 1\n");
-        assert_eq!(output.status.code(), Some(2));
-        assert_eq!(output.stdout, b"");
-        let usage = "usage: desk [JOURNAL], then a command in each line of standard input; help lists them\n";
-        assert_eq!(String::from_utf8_lossy(&output.stderr), usage);
-    }
-}
-
-/// Where answers cannot be written the program ends, and says so.
-#[test]
-fn full_output() {
-    let full = std::fs::OpenOptions::new().write(true).open("/dev/full");
-    let mut child = std::process::Command::new(crate::support::DESK)
-        .stdin(Stdio::piped())
-        .stdout(full.expect("the device opens"))
-        .stderr(Stdio::piped())
-        .spawn()
-        .expect("the program starts");
-    let mut pipe = child.stdin.take().expect("a pipe");
-    pipe.write_all(b"open 1\n").expect("it is read");
-    let output = child.wait_with_output().expect("it ends");
-    assert_eq!(output.status.code(), Some(1));
-    assert_eq!(
-        String::from_utf8_lossy(&output.stderr),
-        "desk: No space left on device (os error 28)\n"
-    );
 }

@@ -1,7 +1,7 @@
 //! A desk that is killed at random moments. The plan afterwards is that of the edits which it answered, or of those and the one in flight.
 
-use crate::random::{after, row, strikes, undoing, Made};
-use crate::support::{ask_all, clash_lines, list, printed, run, sheet, start, Folder};
+use crate::process::{printed, run, start};
+use crate::support::{after, clash_lines, row, sheet, strikes, undoing, Folder, Made};
 use independent::graph::Graph;
 use independent::journal::started;
 use independent::random::Random;
@@ -96,6 +96,12 @@ fn killed(random: &mut Random, file: &str, run: &Run) -> String {
     text
 }
 
+/// The lines that ask for the sheet and for the clashes of each of n banks.
+fn ask_all(n: usize) -> String {
+    let clashes: String = (0..n).map(|b| format!("clashes {b}\n")).collect();
+    format!("sheet\n{clashes}")
+}
+
 /// What a new desk on the file says of the plan.
 fn found(file: &str) -> String {
     let said = printed(&run(&[file], &ask_all(BANKS)));
@@ -142,8 +148,9 @@ fn killed_in_a_run_of_edits() {
 fn killed_while_it_starts_a_journal() {
     let folder = Folder::new();
     let pairs = (0..60).flat_map(|a| (1..6).map(move |d| (a, (a + d) % 60)));
+    let rows: String = pairs.clone().map(|(a, b)| format!("+ {a} {b}\n")).collect();
     let graph = Graph::of(60, pairs);
-    let list = folder.file("day.list", list(&graph).as_bytes());
+    let list = folder.file("day.list", format!("N 60\n{rows}").as_bytes());
     let file = folder.path("day.journal");
     let mut random = Random::new(40);
     for _ in 0..STARTS {

@@ -1,6 +1,7 @@
 //! A journal cut at each byte, as by a crash while it was written, and gone on with.
 
-use crate::support::{sheet, Desk, Folder};
+use crate::desk_here::Desk;
+use crate::support::{sheet, Folder};
 use independent::graph::Graph;
 use independent::journal::{field_bytes, journal_of, Entry, Field, Form, FIRST_BYTES, FORMS};
 use independent::memory::Memory;

@@ -1,13 +1,13 @@
 //! Prompt and colour are for a terminal alone: standard input and output must both be one.
 
-use crate::support::DESK;
+use crate::process::{feed, spawn, DESK};
 use std::process::Command;
 
 /// What a desk prints for some lines where its input, its output or both are terminals.
 fn on_terminal(which: &str) -> String {
-    let script = concat!(env!("CARGO_MANIFEST_DIR"), "/tests/desk/terminal.py");
-    let output = Command::new("python3").args([script, which, DESK]).output();
-    let output = output.expect("python3 starts");
+    let script = concat!(env!("CARGO_MANIFEST_DIR"), "/tests/program/terminal.py");
+    let child = spawn(Command::new("python3").args([script, which, DESK]));
+    let output = feed(child, "");
     let error = String::from_utf8_lossy(&output.stderr);
     assert!(output.status.success(), "{error}");
     String::from_utf8(output.stdout).expect("a text")

@@ -1,6 +1,7 @@
 //! What each command answers. The expected lines are written by hand from the papers.
 
-use crate::support::{printed, run, says, Desk, Folder, M8};
+use crate::desk_here::{says, Desk, M8};
+use crate::support::Folder;
 use std::fs;
 use wave_plan::{Bank, Kind, LastEdit, Plan};
 
@@ -321,9 +322,10 @@ fn lines() {
 /// Lines after `quit` are not read.
 #[test]
 fn quit() {
-    let output = run(&[], "open 1\nquit\nsheet\n");
-    assert!(output.status.success());
-    assert_eq!(printed(&output), "banks 1, clashes 0, waves 1, cap 24\n");
+    assert_eq!(
+        says("open 1\nquit\nsheet\n"),
+        "banks 1, clashes 0, waves 1, cap 24\n"
+    );
 }
 
 /// `help` has a line for each command, with its form in front.

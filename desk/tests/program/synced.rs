@@ -1,21 +1,19 @@
 //! What a desk asks of the system, in turn: an edit is written and synced before it is answered. A kill alone would not show it, since the
 //! system keeps what a killed program has written.
 
-use crate::support::{Folder, DESK};
+use crate::process::{feed, spawn, DESK};
+use crate::support::Folder;
 use std::fs;
-use std::process::{Command, Stdio};
+use std::process::Command;
 
 /// The calls to the system that write, sync or rename, by name, as valgrind notes them; `answer` for a write to standard output.
 fn system_calls(folder: &Folder, input: &str) -> Vec<String> {
-    let lines = folder.file("lines", input.as_bytes());
     let log = folder.path("log");
     let log_file = format!("--log-file={log}");
     let mut command = Command::new("valgrind");
     command.args(["-q", "--trace-syscalls=yes", &log_file, DESK]);
-    let lines = fs::File::open(lines).expect("it is there");
-    command.stdin(lines).stdout(Stdio::null());
-    let status = command.status().expect("valgrind starts");
-    assert!(status.success(), "{status}");
+    let output = feed(spawn(&mut command), input);
+    assert!(output.status.success(), "{}", output.status);
     let log = fs::read_to_string(&log).expect("it is there");
     log.lines().filter_map(system_call).collect()
 }

@@ -1,11 +1,11 @@
 //! Journals on disk: started, gone on with, ended, started anew, and refused.
 
-use crate::support::{printed, run, start, Desk, Folder, M8};
+use crate::desk_here::{Desk, M8};
+use crate::support::Folder;
 use independent::graph::Graph;
 use independent::journal::{field_bytes, journal_of, started, Entry, Field, Form};
 use independent::reach::Edit;
 use std::fs;
-use std::io::{BufRead, BufReader, Write};
 
 /// The field of an edit.
 fn edit(edit: Edit, a: u16, b: u16) -> Field {
@@ -35,13 +35,13 @@ fn recorded() {
         format!("journal {file}: it is on already\n")
     );
     drop(desk);
-    let output = run(&[&file], "sheet\n+ 0 1\n");
+    let said = Desk::default().says(&format!("journal {file}\nsheet\n+ 0 1"));
     let replayed = format!(
         "{file}: fields 1 to 4 replayed, bytes left over: 0; each edit is recorded from here on\n"
     );
     let sheet = "banks 3, clashes 1, waves 2, cap 24\nWAVES 2\nA 0 1\nB 2\nTOTAL 3 1\n";
     let edited = "+ 0 1: 2 taken up, 1 moved\n0: A to B\n";
-    assert_eq!(printed(&output), format!("{replayed}{sheet}{edited}"));
+    assert_eq!(said, format!("{replayed}{sheet}{edited}"));
     bytes.extend([0x2B, 8, 0, 4, 0, 0, 0, 0, 0, 1, 0]);
     assert_eq!(fs::read(&file).expect("it is there"), bytes);
     assert_eq!(folder.names(), ["day.journal"]);
@@ -226,34 +226,6 @@ fn not_started() {
     assert_eq!(folder.names(), ["empty.journal", "with.list"]);
     let on = desk.says(&format!("open 1\njournal {empty}"));
     assert!(on.contains("fields 1 to 1 written"), "{on}");
-}
-
-/// A second desk does not get the file, neither before nor after it was started anew, until the first has ended.
-#[test]
-fn locked() {
-    let folder = Folder::new();
-    let file = folder.path("day.journal");
-    let mut first = start(&[]);
-    let mut lines = first.stdin.take().expect("a pipe");
-    let mut answers = BufReader::new(first.stdout.take().expect("a pipe")).lines();
-    let mut answered = |line: &str, count: usize| {
-        writeln!(lines, "{line}").expect("it is read");
-        for _ in 0..count {
-            answers.next().expect("an answer").expect("a text");
-        }
-    };
-    let busy = format!("journal {file}: the file could not be opened: another desk has it open\n");
-    answered("open 3", 1);
-    answered(&format!("journal {file}"), 1);
-    assert_eq!(printed(&run(&[&file], "")), busy);
-    answered("K 1 2", 1);
-    assert_eq!(printed(&run(&[&file], "")), busy);
-    answered("+ 0 1", 2);
-    drop(answers);
-    drop(lines);
-    assert!(first.wait().expect("it ends").success());
-    let said = printed(&run(&[&file], "clashes 0\n"));
-    assert!(said.ends_with("\n1\n"), "{said}");
 }
 
 /// A text does not go over the journal that is on, and a journal that was moved away is not written to.

@@ -1,6 +1,7 @@
 //! Lists, sheets, posters, crews, doubt and agree, held against the model's programs on random lists.
 
-use crate::support::{Desk, Folder};
+use crate::desk_here::Desk;
+use crate::support::Folder;
 use independent::crew::{self, Asked};
 use independent::graph::Graph;
 use independent::lists::random_list;

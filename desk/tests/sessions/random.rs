@@ -1,48 +1,11 @@
 //! Random sessions held against the model: the answer to each edit and the waves after it, `D`, ranks and undoing.
 
-use crate::support::{clash_lines, sheet, Desk};
+use crate::desk_here::Desk;
+use crate::support::{after, clash_lines, row, sheet, strikes, undoing, Made};
 use independent::graph::{Bank, Graph};
 use independent::random::Random;
 use independent::reach::{reach, Edit};
 use independent::sheet::LETTERS;
-
-/// An edit as a line says it.
-pub type Made = (Edit, Bank, Bank);
-
-/// The graph after an edit, if no refusal is due; there is no cap.
-pub fn after(graph: &Graph, (edit, a, b): Made) -> Option<Graph> {
-    let named = a < graph.banks() && b < graph.banks() && a != b;
-    match edit {
-        Edit::Add if named && !graph.clash(a, b) && graph.degree(a).max(graph.degree(b)) < 23 => {
-            Some(graph.with(a, b))
-        }
-        Edit::Strike if named && graph.clash(a, b) => Some(graph.without(a, b)),
-        _ => None,
-    }
-}
-
-/// An edit as the row of a list.
-pub fn row((edit, a, b): Made) -> String {
-    let sign = match edit {
-        Edit::Add => '+',
-        Edit::Strike => '-',
-    };
-    format!("{sign} {a} {b}")
-}
-
-/// The edit that undoes one.
-pub fn undoing((edit, a, b): Made) -> Made {
-    match edit {
-        Edit::Add => (Edit::Strike, a, b),
-        Edit::Strike => (Edit::Add, a, b),
-    }
-}
-
-/// The strikes of `D b`.
-pub fn strikes(graph: &Graph, b: Bank) -> Vec<Made> {
-    let ascending = graph.neighbours(b);
-    ascending.map(|q| (Edit::Strike, b, q)).collect()
-}
 
 /// The lines of an accepted edit.
 fn edit_lines(made: Made, old: &Graph, new: &Graph) -> String {
