@@ -14,7 +14,7 @@ pub trait Disk {
     /// Writes bytes behind the first `length` ones and syncs them.
     fn append(&mut self, length: u64, bytes: &[u8]) -> io::Result<()>;
 
-    /// Cuts the file to so many bytes and syncs it.
+    /// Cuts the file to so many bytes, if it has more, and syncs it.
     fn cut(&mut self, length: u64) -> io::Result<()>;
 
     /// Makes these bytes the whole of the file and syncs it. Where that fails the file has what it had.
@@ -24,7 +24,8 @@ pub trait Disk {
     fn is_at(&self, path: &Path) -> bool;
 }
 
-/// A file, open and locked against a second desk. One that was made for it goes again if nothing was ever put into it.
+/// A file, open and locked against a second desk. One that was made for it goes again if nothing was ever put into
+/// it; without the lock it is not this desk's to remove.
 pub struct LockedFile {
     file: File,
     path: PathBuf,
@@ -45,14 +46,14 @@ impl LockedFile {
         if !file.metadata()?.is_file() {
             return Err(io::Error::other("not a regular file"));
         }
-        let path = fs::canonicalize(path)?;
-        let locked = LockedFile {
+        let mut opened = LockedFile {
             file,
-            path,
-            made_empty,
+            path: fs::canonicalize(path)?,
+            made_empty: false,
         };
-        locked.lock()?;
-        Ok(locked)
+        opened.lock()?;
+        opened.made_empty = made_empty;
+        Ok(opened)
     }
 
     /// Locks the file. One that was replaced since it was opened is another desk's.
@@ -72,7 +73,8 @@ impl LockedFile {
 }
 
 impl Disk for LockedFile {
-    /// A file that was moved away, or cut by another program, is not written to: what is written there would not be found again.
+    /// A file that was moved away, or cut by another program, is not written to: what is written there would not be
+    /// found again.
     fn append(&mut self, length: u64, bytes: &[u8]) -> io::Result<()> {
         if !is_same(&self.file, &self.path) || self.file.metadata()?.len() < length {
             return Err(io::Error::other("it was moved, removed or cut meanwhile"));
@@ -82,7 +84,9 @@ impl Disk for LockedFile {
     }
 
     fn cut(&mut self, length: u64) -> io::Result<()> {
-        self.file.set_len(length)?;
+        if self.file.metadata()?.len() > length {
+            self.file.set_len(length)?;
+        }
         self.file.sync_all()
     }
 
@@ -125,8 +129,8 @@ fn read_from(file: &File) -> io::Result<Vec<u8>> {
     Ok(bytes)
 }
 
-/// Makes a text the whole of the file at a path, or writes it to what is there, if that is no regular file. Where it fails a file has what
-/// it had.
+/// Makes a text the whole of the file at a path, or writes it to what is there, if that is no regular file. Where it
+/// fails a file has what it had.
 pub fn write_text(path: &Path, text: &str) -> io::Result<()> {
     match OpenOptions::new().write(true).open(path) {
         Err(error) if error.kind() == io::ErrorKind::NotFound => {

@@ -1,4 +1,5 @@
-//! Edits, ranks and undoing. An edit is made on a copy of the plan, and the copy becomes the plan once the edit is on the disk.
+//! Edits, ranks and undoing. An edit is made on a copy of the plan, and the copy becomes the plan once the edit is on
+//! the disk.
 
 use crate::journal::Journal;
 use crate::screen::Screen;
@@ -15,38 +16,29 @@ impl Session {
         b: Bank,
         screen: &mut Screen<'_>,
     ) -> Result<(), Trouble> {
-        self.change(kind, a, b)?;
+        let (line, moved) = self.change(kind, a, b)?;
         self.present()?.made.push((kind, a, b));
-        self.show(screen)
+        Ok(screen.edited(&line, &moved)?)
     }
 
-    /// Makes an edit and records it in the journal, if one is on.
-    fn change(&mut self, kind: Kind, a: Bank, b: Bank) -> Result<(), Trouble> {
+    /// Makes an edit and records it in the journal, if one is on. The answer is what to show of it: how many banks
+    /// were taken up, and those that moved.
+    fn change(&mut self, kind: Kind, a: Bank, b: Bank) -> Result<(String, Vec<String>), Trouble> {
         let present = self.present.as_mut().ok_or_else(Trouble::no_plan)?;
         let mut plan = present.plan.clone();
         let edit = make(&mut plan, self.journal.as_mut(), kind, a, b)?;
-        present.last = Some(LastEdit::new(kind, a, b, &present.plan, &plan, edit));
+        let (taken_up, moved) = (edit.trail.len(), edit.moved.len());
+        let line = format!("{}: {taken_up} taken up, {moved} moved", row(kind, a, b));
+        let last = LastEdit::new(kind, a, b, &present.plan, &plan, edit);
+        let lines = last.moved_lines();
+        present.last = Some(last);
         present.plan = plan;
         present.begun = true;
-        Ok(())
+        Ok((line, lines))
     }
 
-    /// Shows the last edit: how many banks were taken up, and those that moved.
-    fn show(&mut self, screen: &mut Screen<'_>) -> Result<(), Trouble> {
-        let last = self
-            .present()?
-            .last
-            .as_ref()
-            .ok_or_else(|| Trouble::no_edit("show"))?;
-        let (a, b) = last.banks();
-        let Edit { trail, moved } = last.edit();
-        let (taken_up, moved) = (trail.len(), moved.len());
-        let row = row(last.kind(), a, b);
-        let line = format!("{row}: {taken_up} taken up, {moved} moved");
-        Ok(screen.edited(&line, &last.moved_lines())?)
-    }
-
-    /// Strikes all clashes of bank b, lowest neighbour first, each as an edit of its own. The first that is not made ends it.
+    /// Strikes all clashes of bank b, lowest neighbour first, each as an edit of its own. The first that is not made
+    /// ends it.
     pub(crate) fn strike_all(&mut self, b: Bank, screen: &mut Screen<'_>) -> Result<(), Trouble> {
         let neighbours = self.present()?.plan.clashes_of(b)?;
         if neighbours.is_empty() {
@@ -69,12 +61,13 @@ impl Session {
             Kind::Striking => Kind::Adding,
         };
         let changed = self.change(back, a, b);
-        changed.map_err(|trouble| trouble.of(&row(back, a, b)))?;
+        let (line, moved) = changed.map_err(|trouble| trouble.of(&row(back, a, b)))?;
         self.present()?.made.pop();
-        self.show(screen)
+        Ok(screen.edited(&line, &moved)?)
     }
 
-    /// Sets the rank of bank b, before the first edit. A journal that is on is started anew: ranks stand before its edits.
+    /// Sets the rank of bank b, before the first edit. A journal that is on is started anew: ranks stand before its
+    /// edits.
     pub(crate) fn rank(
         &mut self,
         b: Bank,

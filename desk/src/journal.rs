@@ -30,8 +30,8 @@ impl Journal {
         self.disk.is_at(path)
     }
 
-    /// Makes an edit by a call that records it at the end of the bytes, and brings the new bytes to the disk. Where that fails, bytes and
-    /// file are as before, and the edit must not count.
+    /// Makes an edit by a call that records it at the end of the bytes, and brings the new bytes to the disk. Where
+    /// that fails, bytes and file are as before, and the edit must not count.
     pub fn record(
         &mut self,
         call: impl FnOnce(&mut Vec<u8>) -> Result<Edit, Refused>,

@@ -2,7 +2,8 @@
 //!
 //! - `help`: the commands, how each is written and what it does.
 //! - `parse`: a line into a command.
-//! - `session`: what is open, and what a command answers. `plans`: where plans come from and go to. `edits`: edits, ranks and undoing.
+//! - `session`: what is open, and what a command answers. `plans`: where plans come from and go to. `edits`: edits,
+//!   ranks and undoing.
 //! - `journal`, `disk`: a journal on disk; files.
 //! - `text`, `picture`: the lines and the picture of a plan.
 //! - `screen`: where answers go. `trouble`: why a command was not done.

@@ -127,7 +127,8 @@ fn question(words: &[&str]) -> Option<Question> {
     })
 }
 
-/// What is wrong with a line of this first word that has the form of no command. The rows of a list have a number for it.
+/// What is wrong with a line of this first word that has the form of no command. The rows of a list have a number for
+/// it.
 fn misread(first: &str) -> Misread {
     match (first, help::entry(first)) {
         ("+" | "-" | "D" | "K", _) => Misread::Refused(Refusal::UnreadableRow),

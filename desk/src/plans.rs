@@ -49,8 +49,8 @@ impl Session {
         }
     }
 
-    /// Records each edit in a file from here on: in a new journal of the present plan, or in the journal that the file has, which is
-    /// replayed first.
+    /// Records each edit in a file from here on: in a new journal of the present plan, or in the journal that the
+    /// file has, which is replayed first.
     pub(crate) fn record_in(
         &mut self,
         file: &Path,

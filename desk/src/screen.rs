@@ -1,4 +1,5 @@
-//! Where answers go. Each is written whole and flushed, so that a reader at the other end has it before the next line is read.
+//! Where answers go. Each is written whole and flushed, so that a reader at the other end has it before the next line
+//! is read.
 
 use std::io::{self, Write};
 

@@ -1,5 +1,5 @@
-//! The lines of answers: those that the programs crew, agree and doubt print, and those about a plan. A refusal is the program's own line,
-//! then the question that was answered no and what to do.
+//! The lines of answers: those that the programs crew, agree and doubt print, and those about a plan. A refusal is
+//! the program's own line, then the question that was answered no and what to do.
 
 use crate::trouble::Trouble;
 use std::cmp::Reverse;

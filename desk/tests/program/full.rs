@@ -11,8 +11,8 @@ use std::os::unix::process::CommandExt;
 use std::path::Path;
 use std::process::{Child, Command, Output};
 
-/// A desk whose files may have 512 bytes: a write beyond is cut there and then fails, as on a full disk. The shell ignores the signal that
-/// comes with it, and so do the programs that it starts.
+/// A desk whose files may have 512 bytes: a write beyond is cut there and then fails, as on a full disk. The shell
+/// ignores the signal that comes with it, and so do the programs that it starts.
 fn limited(journal: &str) -> Child {
     let script = "trap '' XFSZ; ulimit -S -f 1; exec \"$0\" \"$1\"";
     spawn(Command::new("sh").args(["-c", script, DESK, journal]))
@@ -25,8 +25,8 @@ fn unlimited(id: u32) {
     assert!(feed(child, "").status.success());
 }
 
-/// The journal has space for 46 edits. The next is not made, nor a rank or another journal's start; what was acknowledged stays, and when
-/// there is space again edits go on.
+/// The journal has space for 46 edits. The next is not made, nor a rank or another journal's start; what was
+/// acknowledged stays, and when there is space again edits go on.
 #[test]
 fn full_disk() {
     let folder = Folder::new();
@@ -98,7 +98,8 @@ fn full_disk_at_the_start() {
 /// Runs a copy of the desk as a user whom permissions bind, where the tests run as one whom they do not.
 fn run_bound(folder: &Folder, input: &str) -> Output {
     let copy = folder.path("desk");
-    // By a process of its own: a file that this one has open for writing might still be so in a process that is being started.
+    // By a process of its own: a file that this one has open for writing might still be so in a process that is being
+    // started.
     let copied = feed(spawn(Command::new("cp").args([DESK, &copy])), "");
     assert!(copied.status.success());
     let mut command = Command::new(&copy);
@@ -109,7 +110,8 @@ fn run_bound(folder: &Folder, input: &str) -> Output {
     feed(spawn(&mut command), input)
 }
 
-/// A read-only file, a new file in a read-only folder and an empty one there: the plan stays, and edits go on without a journal.
+/// A read-only file, a new file in a read-only folder and an empty one there: the plan stays, and edits go on without
+/// a journal.
 #[test]
 fn read_only() {
     let folder = Folder::new();

@@ -1,4 +1,5 @@
-//! A desk that is killed at random moments. The plan afterwards is that of the edits which it answered, or of those and the one in flight.
+//! A desk that is killed at random moments. The plan afterwards is that of the edits which it answered, or of those
+//! and the one in flight.
 
 use crate::process::{printed, run, start};
 use crate::support::{after, clash_lines, row, sheet, strikes, undoing, Folder, Made};
@@ -79,7 +80,8 @@ fn read_answers(out: &mut BufReader<ChildStdout>, count: usize) -> String {
     text
 }
 
-/// Feeds a run to a desk on the file and kills it: at once or some time after so many answers. The answer is what it printed.
+/// Feeds a run to a desk on the file and kills it: at once or some time after so many answers. The answer is what it
+/// printed.
 fn killed(random: &mut Random, file: &str, run: &Run) -> String {
     let mut child = start(&[file]);
     let mut pipe = child.stdin.take().expect("a pipe");

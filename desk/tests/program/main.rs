@@ -1,4 +1,5 @@
-//! The program desk in processes of its own: killed, on full disks and read-only files, on a terminal, and what it asks of the system.
+//! The program desk in processes of its own: killed, on full disks and read-only files, on a terminal, and what it
+//! asks of the system.
 
 mod ends;
 mod full;

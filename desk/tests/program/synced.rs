@@ -1,12 +1,13 @@
-//! What a desk asks of the system, in turn: an edit is written and synced before it is answered. A kill alone would not show it, since the
-//! system keeps what a killed program has written.
+//! What a desk asks of the system, in turn: an edit is written and synced before it is answered. A kill alone would
+//! not show it, since the system keeps what a killed program has written.
 
 use crate::process::{feed, spawn, DESK};
 use crate::support::Folder;
 use std::fs;
 use std::process::Command;
 
-/// The calls to the system that write, sync or rename, by name, as valgrind notes them; `answer` for a write to standard output.
+/// The calls to the system that write, sync or rename, by name, as valgrind notes them; `answer` for a write to
+/// standard output.
 fn system_calls(folder: &Folder, input: &str) -> Vec<String> {
     let log = folder.path("log");
     let log_file = format!("--log-file={log}");

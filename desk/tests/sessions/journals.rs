@@ -63,7 +63,8 @@ fn started_and_old() {
     let said = desk.says(&format!("journal {old_file}"));
     let expected = format!(
         "journal {file} ends here\nthe plan that was open gives way\n\
-        {old_file}: fields 1 to 3 replayed, bytes left over: 0; each edit is recorded from here on\nbanks 3, clashes 2, waves 2, cap 24\n"
+        {old_file}: fields 1 to 3 replayed, bytes left over: 0; each edit is recorded from here on\n\
+        banks 3, clashes 2, waves 2, cap 24\n"
     );
     assert_eq!(said, expected);
     desk.says("- 0 1");
@@ -74,7 +75,8 @@ fn started_and_old() {
     );
 }
 
-/// A rank before the first edit starts the journal anew; after one it is refused, also where no clash is left, and in a journal gone on with.
+/// A rank before the first edit starts the journal anew; after one it is refused, also where no clash is left, and in
+/// a journal gone on with.
 #[test]
 fn ranks() {
     let folder = Folder::new();
@@ -167,7 +169,8 @@ fn refused() {
     let fields = [edit(Edit::Add, 0, 1), edit(Edit::Add, 1, 0)];
     let twice = journal_of(Form::Numbered, 3, &fields);
     let clash = "field 3: refused 6: Are the two banks free of a clash so far? No: nothing: they clash already";
-    let first = "field 1: refused 13: Is the journal's first field whole, and its length within the slice? No: start a new journal";
+    let first = "field 1: refused 13: Is the journal's first field whole, and its length within the slice? \
+        No: start a new journal";
     let mut misnumbered = journal_of(Form::Numbered, 3, &fields);
     misnumbered[19] = 7;
     let number = "field 3: refused 21: Is the entry's number one above the last? No: cut the journal before that field";
@@ -228,7 +231,7 @@ fn not_started() {
     assert!(on.contains("fields 1 to 1 written"), "{on}");
 }
 
-/// A text does not go over the journal that is on, and a journal that was moved away is not written to.
+/// A text does not go over the journal that is on, and a journal that was moved away or cut is not written to.
 #[test]
 fn journal_kept_safe() {
     let folder = Folder::new();
@@ -249,7 +252,11 @@ fn journal_kept_safe() {
     assert_eq!(desk.says("clashes 2"), "none\n");
     let away = folder.path("away.journal");
     assert_eq!(fs::read(&away).expect("it is there"), journal);
+    fs::write(&away, &journal[..7]).expect("it is cut");
     fs::rename(&away, &file).expect("it is moved back");
+    assert_eq!(desk.says("+ 1 2"), lost);
+    assert_eq!(fs::read(&file).expect("it is there"), &journal[..7]);
+    fs::write(&file, &journal).expect("it is as it was");
     let made = "+ 1 2: 3 taken up, 3 moved\n1: B to A\n0: A to B\n2: A to B\n";
     assert_eq!(desk.says("+ 1 2"), made);
     assert_eq!(

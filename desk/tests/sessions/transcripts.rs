@@ -135,7 +135,8 @@ fn strike_all() {
     assert_eq!(desk.says("D 2"), struck);
     assert_eq!(desk.says("D 2"), "D 2: no clashes\n");
     assert_eq!(desk.says("undo"), "+ 2 1: 2 taken up, 1 moved\n2: A to B\n");
-    let far = "D 3: refused 4: Is each named bank below the bank count? No: correct the bank, or open a plan of more banks\n";
+    let far = "D 3: refused 4: Is each named bank below the bank count? \
+        No: correct the bank, or open a plan of more banks\n";
     assert_eq!(desk.says("D 3"), far);
 }
 
@@ -163,7 +164,8 @@ fn ranks() {
     );
     desk.says("K 3 20\nK 1 30\nK 2 9999\nK 2 40\n+ 0 3\n+ 3 1\n+ 1 2");
     assert_eq!(desk.says("sheet"), "WAVES 2\nA 2 3\nB 0 1\nTOTAL 4 3\n");
-    let late = "K 0 1: refused 18: Do the ranks come before the first edit? No: set the ranks before the first clash is added\n";
+    let late = "K 0 1: refused 18: Do the ranks come before the first edit? \
+        No: set the ranks before the first clash is added\n";
     assert_eq!(desk.says("K 0 1"), late);
     desk.says("D 3\nD 1");
     assert_eq!(
@@ -171,7 +173,8 @@ fn ranks() {
         late,
         "edits were made, though no clash is left"
     );
-    let far = "K 4 1: refused 4: Is each named bank below the bank count? No: correct the bank, or open a plan of more banks\n";
+    let far = "K 4 1: refused 4: Is each named bank below the bank count? \
+        No: correct the bank, or open a plan of more banks\n";
     assert!(desk.says("open 4\nK 4 1").ends_with(far));
 }
 
@@ -303,8 +306,8 @@ fn refused_lists() {
     assert_eq!(desk.says("sheet"), sheet);
 }
 
-/// The last row of a list counts with or without a line feed, and so does the last line of the input. Blanks, empty lines and comments do
-/// nothing.
+/// The last row of a list counts with or without a line feed, and so does the last line of the input. Blanks, empty
+/// lines and comments do nothing.
 #[test]
 fn lines() {
     let folder = Folder::new();
@@ -332,7 +335,9 @@ fn quit() {
 #[test]
 fn help() {
     let said = says("help\n");
-    let commands = "open load + - D K wave clashes sheet poster keep back cap crew within agree doubt journal replay picture why undo help quit";
+    let commands =
+        "open load + - D K wave clashes sheet poster keep back cap crew within agree doubt \
+        journal replay picture why undo help quit";
     let first: Vec<&str> = said
         .lines()
         .filter_map(|line| line.split(' ').next())

@@ -2,7 +2,8 @@
 
 use crate::desk_here::{says, Desk};
 
-/// Each command with too few, too many or wrong words. A row of a list gets 11; each other line is told how to write it.
+/// Each command with too few, too many or wrong words. A row of a list gets 11; each other line is told how to write
+/// it.
 #[test]
 fn every_command() {
     let rows = [
