@@ -5,11 +5,11 @@ use crate::support::{sheet, Folder};
 use independent::graph::Graph;
 use independent::journal::started;
 use std::fs::{self, Permissions};
-use std::io::{BufRead, BufReader, Write};
+use std::io::{BufRead, BufReader, Lines, Write};
 use std::os::unix::fs::{MetadataExt, PermissionsExt};
 use std::os::unix::process::CommandExt;
 use std::path::Path;
-use std::process::{Child, Command, Output};
+use std::process::{Child, ChildStdin, ChildStdout, Command, Output};
 
 /// A desk whose files may have 512 bytes: a write beyond is cut there and then fails, as on a full disk. The shell
 /// ignores the signal that comes with it, and so do the programs that it starts.
@@ -25,56 +25,62 @@ fn unlimited(id: u32) {
     assert!(feed(child, "").status.success());
 }
 
-/// The journal has space for 46 edits. The next is not made, nor a rank or another journal's start; what was
-/// acknowledged stays, and when there is space again edits go on.
+/// A desk that is spoken to line by line.
+struct Talk {
+    lines: ChildStdin,
+    answers: Lines<BufReader<ChildStdout>>,
+}
+
+impl Talk {
+    fn with(child: &mut Child) -> Talk {
+        let lines = child.stdin.take().expect("a pipe");
+        let out = child.stdout.take().expect("a pipe");
+        let answers = BufReader::new(out).lines();
+        Talk { lines, answers }
+    }
+
+    /// Says a line, and reads answers up to one that starts so.
+    fn say(&mut self, line: &str, wanted: &str) {
+        writeln!(self.lines, "{line}").expect("it is read");
+        loop {
+            let answer = self.answers.next().expect("an answer").expect("a text");
+            if answer.starts_with(wanted) {
+                return;
+            }
+            assert!(!answer.contains("not made"), "{line}: {answer}");
+        }
+    }
+}
+
+/// The journal has space for 46 edits. The next is not made, however often it is tried; what was acknowledged stays,
+/// and when there is space again edits go on.
 #[test]
 fn full_disk() {
     let folder = Folder::new();
     let file = folder.file("day.journal", &started(&Graph::empty(12)));
-    let pairs: Vec<(usize, usize)> = (0..12)
-        .flat_map(|a| (a + 1..12).map(move |b| (a, b)))
-        .collect();
-    let graph = Graph::of(12, pairs[..46].iter().copied());
-    let (a, b) = pairs[46];
+    let pairs = (0..12).flat_map(|a| (a + 1..12).map(move |b| (a, b)));
     let mut child = limited(&file);
-    let mut lines = child.stdin.take().expect("a pipe");
-    let mut answers = BufReader::new(child.stdout.take().expect("a pipe")).lines();
-    let mut until = |line: &str, wanted: &str| loop {
-        let answer = answers.next().expect("an answer").expect("a text");
-        assert!(
-            !answer.contains("not made") || wanted == answer,
-            "{line}: {answer}"
-        );
-        if answer.starts_with(wanted) {
-            break;
-        }
-    };
-    for (a, b) in &pairs[..46] {
-        writeln!(lines, "+ {a} {b}").expect("it is read");
-        until("an edit", &format!("+ {a} {b}: "));
+    let mut talk = Talk::with(&mut child);
+    for (a, b) in pairs.clone().take(46) {
+        talk.say(&format!("+ {a} {b}"), &format!("+ {a} {b}: "));
     }
-    let whole = fs::read(&file).expect("it is there");
-    assert_eq!(whole, started(&graph));
+    let whole = started(&Graph::of(12, pairs.clone().take(46)));
+    assert_eq!(fs::read(&file).expect("it is there"), whole);
+    let (a, b) = pairs.clone().nth(46).expect("there are 66");
     let full =
         format!("+ {a} {b}: not made, {file} could not be written: File too large (os error 27)");
     for _ in 0..2 {
-        writeln!(lines, "+ {a} {b}").expect("it is read");
-        until("a full disk", &full);
+        talk.say(&format!("+ {a} {b}"), &full);
         assert_eq!(fs::read(&file).expect("it is there"), whole);
     }
-    writeln!(lines, "sheet").expect("it is read");
-    sheet(&graph)
-        .lines()
-        .for_each(|line| until("the sheet", line));
+    talk.say("sheet", "TOTAL 12 46");
     unlimited(child.id());
-    writeln!(lines, "+ {a} {b}").expect("it is read");
-    until("space again", &format!("+ {a} {b}: "));
-    drop(lines);
+    talk.say(&format!("+ {a} {b}"), &format!("+ {a} {b}: "));
+    talk.say("sheet", "TOTAL 12 47");
+    drop(talk);
     assert!(child.wait().expect("it ends").success());
-    assert_eq!(
-        fs::read(&file).expect("it is there"),
-        started(&graph.with(a, b))
-    );
+    let all = started(&Graph::of(12, pairs.take(47)));
+    assert_eq!(fs::read(&file).expect("it is there"), all);
 }
 
 /// A journal that does not fit is not started: the one that is on stays on, and no file is left behind.
