@@ -47,12 +47,14 @@ impl LastEdit {
     }
 
     pub fn why(&self, b: Bank) -> Option<String> {
-        (usize::from(b.0) < self.after.len()).then(|| format!("{}\n", self.line(b)))
+        (usize::from(b.0) < self.after.len()).then(|| self.line(b))
     }
 
     pub fn why_moved(&self) -> String {
-        let lines = self.edit.moved.iter().map(|&b| self.line(b) + "\n");
-        lines.collect()
+        if self.edit.moved.is_empty() {
+            return "no bank moved".to_string();
+        }
+        self.moved_lines().join("\n")
     }
 
     fn line(&self, b: Bank) -> String {
