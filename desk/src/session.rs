@@ -112,10 +112,11 @@ impl Session {
                     .last
                     .as_ref()
                     .ok_or_else(|| Trouble::no_edit("explain"))?;
-                match b {
-                    Some(b) => last.why(b).ok_or(Refusal::NoSuchBank.into()),
-                    None => Ok(last.why_moved()),
-                }
+                let why = match b {
+                    Some(b) => last.why(b).ok_or(Refusal::NoSuchBank)?,
+                    None => last.why_moved(),
+                };
+                Ok(format!("{why}\n"))
             }
         }
     }

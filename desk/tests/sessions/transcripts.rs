@@ -76,9 +76,10 @@ fn why() {
     let mut after = before.clone();
     let edit = after.strike(Bank(2), Bank(5)).expect("they clash");
     let last = LastEdit::new(Kind::Striking, Bank(2), Bank(5), &before, &after, edit);
-    assert_eq!(desk.says("why"), last.why_moved());
+    assert_eq!(desk.says("why"), last.why_moved() + "\n");
     for b in 0..6 {
-        assert_eq!(Some(desk.says(&format!("why {b}"))), last.why(Bank(b)));
+        let why = last.why(Bank(b)).expect("there is such a bank");
+        assert_eq!(desk.says(&format!("why {b}")), why + "\n");
     }
     assert!(desk
         .says("why 6")
@@ -87,7 +88,7 @@ fn why() {
     let (mut undone, before) = (after.clone(), after);
     let edit = undone.add(Bank(2), Bank(5)).expect("they do not clash");
     let last = LastEdit::new(Kind::Adding, Bank(2), Bank(5), &before, &undone, edit);
-    assert_eq!(desk.says("why"), last.why_moved());
+    assert_eq!(desk.says("why"), last.why_moved() + "\n");
     desk.says("open 6");
     assert_eq!(desk.says("why 0"), format!("why 0: {none}"));
 }
