@@ -84,7 +84,7 @@ class Refusal(IntEnum):
     LATE_RANK = (
         18,
         "Does the rank come before the first edit?",
-        "move the K rows up to the N row; cut a journal before that field",
+        "set ranks before the first edit: K rows right after the N row, K fields before the edits",
     )
     CAP_OUT_OF_SPAN = 19, "Is the cap from 1 to 24?", "set another"
     CAP_PASSED = (

@@ -86,7 +86,7 @@ refusals! {
     NothingKept = 17: "Is a plan kept under the name?",
         "keep a plan under it first";
     LateRank = 18: "Does the rank come before the first edit?",
-        "move the K rows up to the N row; cut a journal before that field";
+        "set ranks before the first edit: K rows right after the N row, K fields before the edits";
     CapOutOfSpan = 19: "Is the cap from 1 to 24?",
         "set another";
     CapPassed = 20: "Is the cap not below the waves in use, and not below those that the edit would need?",

@@ -196,7 +196,8 @@ fn full_journal() {
     };
     let mut desk = Desk::default();
     desk.says(&format!("journal {file}"));
-    let full = "refused 15: Is there space for what is to be written, and in 60,000 bytes? No: start a new journal\n";
+    let full = "refused 15: Is there space in the slice, and in 60,000 bytes, for what is to be written? No. To \
+        do: lend more; a journal that is full ends there\n";
     assert_eq!(desk.says(line), format!("{line}: {full}"));
     assert_eq!(fs::read(&file).expect("it is there"), bytes);
     let next = folder.path("next.journal");

@@ -168,13 +168,15 @@ fn refused() {
     let folder = Folder::new();
     let fields = [edit(Edit::Add, 0, 1), edit(Edit::Add, 1, 0)];
     let twice = journal_of(Form::Numbered, 3, &fields);
-    let clash = "field 3: refused 6: Are the two banks free of a clash so far? No: nothing: they clash already";
-    let first = "field 1: refused 13: Is the journal's first field whole, and its length within the slice? \
-        No: start a new journal";
+    let clash = "field 3: refused 6: Are the two banks free of a clash so far? No. To do: nothing, they clash already";
+    let first = "field 1: refused 13: Is the journal within the slice, and its first field whole and of the \
+        stated form? \
+        No. To do: start a new journal";
     let mut misnumbered = journal_of(Form::Numbered, 3, &fields);
     misnumbered[19] = 7;
-    let number = "field 3: refused 21: Is the entry's number one above the last? No: cut the journal before that field";
-    let long = "refused 9: Has the list, or the journal, at most 60,000 bytes? No: split it";
+    let number = "field 3: refused 21: Is the entry's number one above the last, the first being 1? No. To do: \
+        cut the journal before that field";
+    let long = "refused 9: Has the list, or the journal, at most 60,000 bytes? No. To do: split it";
     let cases = [
         (twice, clash),
         (b"N 3\n+ 0 1\n".to_vec(), first),

@@ -117,8 +117,9 @@ fn undo_under_a_cap() {
     let folder = Folder::new();
     let mut desk = Desk::with(&folder, M8);
     desk.says("- 2 5\n+ 2 5\ncap 2");
-    let refused = "undo: - 2 5: refused 20: Is the cap not below the waves in use, or those that the edit would need? \
-        No: raise the cap, or strike or add another clash first\n";
+    let refused = "undo: - 2 5: refused 20: Is the cap not below the waves in use, and not below those that the \
+        edit would need? \
+        No. To do: raise the cap, or strike or add another clash first\n";
     assert_eq!(desk.says("undo"), refused);
     assert_eq!(desk.says("sheet"), "WAVES 2\nA 1 2 4\nB 0 3 5\nTOTAL 6 6\n");
     assert!(desk
@@ -137,7 +138,7 @@ fn strike_all() {
     assert_eq!(desk.says("D 2"), "D 2: no clashes\n");
     assert_eq!(desk.says("undo"), "+ 2 1: 2 taken up, 1 moved\n2: A to B\n");
     let far = "D 3: refused 4: Is each named bank below the bank count? \
-        No: correct the bank, or open a plan of more banks\n";
+        No. To do: correct the bank, or open a plan of more banks\n";
     assert_eq!(desk.says("D 3"), far);
 }
 
@@ -149,8 +150,9 @@ fn strike_all_under_a_cap() {
     let mut desk = Desk::with(&folder, list);
     desk.says("cap 2");
     let first = "- 1 0: 6 taken up, 6 moved\n3: B to A\n1: A to B\n2: A to B\n4: B to A\n5: A to B\n0: B to A\n";
-    let second = "D 1: - 1 3: refused 20: Is the cap not below the waves in use, or those that the edit would need? \
-        No: raise the cap, or strike or add another clash first\n";
+    let second = "D 1: - 1 3: refused 20: Is the cap not below the waves in use, and not below those that the \
+        edit would need? \
+        No. To do: raise the cap, or strike or add another clash first\n";
     assert_eq!(desk.says("D 1"), format!("{first}{second}"));
     assert_eq!(desk.says("sheet"), "WAVES 2\nA 0 3 4\nB 1 2 5\nTOTAL 6 6\n");
 }
@@ -165,8 +167,8 @@ fn ranks() {
     );
     desk.says("K 3 20\nK 1 30\nK 2 9999\nK 2 40\n+ 0 3\n+ 3 1\n+ 1 2");
     assert_eq!(desk.says("sheet"), "WAVES 2\nA 2 3\nB 0 1\nTOTAL 4 3\n");
-    let late = "K 0 1: refused 18: Do the ranks come before the first edit? \
-        No: set the ranks before the first clash is added\n";
+    let late = "K 0 1: refused 18: Does the rank come before the first edit? \
+        No. To do: set ranks before the first edit: K rows right after the N row, K fields before the edits\n";
     assert_eq!(desk.says("K 0 1"), late);
     desk.says("D 3\nD 1");
     assert_eq!(
@@ -175,7 +177,7 @@ fn ranks() {
         "edits were made, though no clash is left"
     );
     let far = "K 4 1: refused 4: Is each named bank below the bank count? \
-        No: correct the bank, or open a plan of more banks\n";
+        No. To do: correct the bank, or open a plan of more banks\n";
     assert!(desk.says("open 4\nK 4 1").ends_with(far));
 }
 
@@ -190,7 +192,7 @@ fn kept_plans() {
     let back = "banks 3, clashes 1, waves 2, cap 2\nback MORNING: 2 moved\n1: B to A\n2: C to B\n";
     assert_eq!(desk.says("back MORNING"), back);
     assert!(desk.says("undo").starts_with("undo: there is no edit"));
-    let none = "refused 17: Is a plan kept under that name? No: keep a plan under it first\n";
+    let none = "refused 17: Is a plan kept under the name? No. To do: keep a plan under it first\n";
     assert_eq!(desk.says("back CLOSE"), format!("back CLOSE: {none}"));
     assert!(
         desk.says("open 4\nback NOON").ends_with(none),
@@ -199,7 +201,7 @@ fn kept_plans() {
     let back = "banks 3, clashes 3, waves 3, cap 24\nback NOON: 2 moved\n1: A to B\n2: A to C\n";
     assert!(desk.says("open 3\nback noon").ends_with(back));
     let name =
-        "back DUSK: refused 16: Is the name MORNING, NOON or CLOSE? No: use one of these names\n";
+        "back DUSK: refused 16: Is the name MORNING, NOON or CLOSE? No. To do: use one of the three\n";
     assert_eq!(desk.says("back DUSK"), name);
 }
 
@@ -211,13 +213,13 @@ fn caps() {
     assert_eq!(desk.says("cap"), "cap 24\n");
     assert_eq!(desk.says("cap 2"), "cap 2\n");
     let refused =
-        "refused 20: Is the cap not below the waves in use, or those that the edit would need? \
-        No: raise the cap, or strike or add another clash first\n";
+        "refused 20: Is the cap not below the waves in use, and not below those that the edit would need? \
+        No. To do: raise the cap, or strike or add another clash first\n";
     assert_eq!(desk.says("- 2 5"), format!("- 2 5: {refused}"));
     assert_eq!(desk.says("cap 1"), format!("cap 1: {refused}"));
     assert_eq!(
         desk.says("cap 0"),
-        "cap 0: refused 19: Is the cap from 1 to 24? No: set another\n"
+        "cap 0: refused 19: Is the cap from 1 to 24? No. To do: set another\n"
     );
     assert_eq!(desk.says("cap"), "cap 2\n");
     assert!(desk
@@ -291,11 +293,11 @@ fn refused_lists() {
     let sheet = desk.says("sheet");
     let late = folder.file("late.list", b"N 3\n+ 0 1\n+ 1 0\n");
     let said = desk.says(&format!("load {late}"));
-    let why = "row 3: refused 6: Are the two banks free of a clash so far? No: nothing: they clash already";
+    let why = "row 3: refused 6: Are the two banks free of a clash so far? No. To do: nothing, they clash already";
     assert_eq!(said, format!("load {late}: {why}\n"));
     let long = folder.file("long.list", &b"N 3\n".repeat(15_001));
     let said = desk.says(&format!("load {long}"));
-    let why = "refused 9: Has the list, or the journal, at most 60,000 bytes? No: split it";
+    let why = "refused 9: Has the list, or the journal, at most 60,000 bytes? No. To do: split it";
     assert_eq!(said, format!("load {long}: {why}\n"));
     let missing = folder.path("missing.list");
     let said = desk.says(&format!("load {missing}"));
@@ -316,7 +318,7 @@ fn lines() {
     let input = format!("\n   \n# a comment\n  load   {list} \r\n\t#\n+ 0001\t0");
     let said = says(&input);
     let why =
-        "refused 6: Are the two banks free of a clash so far? No: nothing: they clash already";
+        "refused 6: Are the two banks free of a clash so far? No. To do: nothing, they clash already";
     assert_eq!(
         said,
         format!("banks 2, clashes 1, waves 2, cap 24\n+ 0001 0: {why}\n")

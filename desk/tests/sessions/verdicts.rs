@@ -126,7 +126,7 @@ fn readme_examples() {
     let folder = Folder::new();
     let clash = folder.file("clash.sheet", b"WAVES 2\nA 0 3\nB 1 2 4 5\nTOTAL 6 5\n");
     let question = "refused 27: Are clashing banks in different waves, and the waves no more than the plan's? \
-        No: move one of the two banks that are named, or use the planner's sheet\n";
+        No. To do: move one of the two banks that are named, or use the planner's sheet\n";
     let line = "REFUSED 27 banks 1 and 5 clash in wave B\n";
     assert_eq!(
         desk.says(&format!("agree {clash}")),

@@ -21,7 +21,8 @@ fn every_command() {
     let mut desk = Desk::default();
     desk.says("open 3");
     for row in ROWS.split(", ") {
-        let why = "refused 11: Does the row read? No: correct it: one space between parts, at most four digits";
+        let why = "refused 11: Is the row one of the four forms? No. To do: correct it: one space between \
+            parts, at most four digits";
         assert_eq!(desk.says(row), format!("{row}: {why}\n"));
     }
     for line in OTHERS.split(", ") {
