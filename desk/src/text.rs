@@ -99,7 +99,7 @@ fn letter_on(sheet: &[u8], bank: u16) -> String {
     let bank = bank.to_string();
     let waves = sheet.lines().skip(1);
     let mut lines = waves.map(|line| line.split(' ').collect::<Vec<_>>());
-    let line = lines.find(|words| words[1..].contains(&bank.as_str()));
+    let line = lines.find(|words| words.contains(&bank.as_str()));
     line.map_or(String::new(), |words| words[0].to_string())
 }
 

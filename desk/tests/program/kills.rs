@@ -87,6 +87,8 @@ fn killed(random: &mut Random, file: &str, run: &Run) -> String {
     let mut pipe = child.stdin.take().expect("a pipe");
     pipe.write_all(run.lines.as_bytes())
         .expect("a pipe has space for it");
+    // So that a desk which answers no edit at all ends, and with it the reading below.
+    drop(pipe);
     let mut out = BufReader::new(child.stdout.take().expect("a pipe"));
     let awaited = random.below(run.edits.len().min(12));
     let mut text = read_answers(&mut out, awaited);

@@ -2,7 +2,8 @@
 
 use crate::desk_here::{says, Desk, M8};
 use crate::support::Folder;
-use std::fs;
+use std::fs::{self, Permissions};
+use std::os::unix::fs::PermissionsExt;
 use wave_plan::{Bank, Kind, LastEdit, Plan};
 
 /// M1.
@@ -265,6 +266,20 @@ fn texts_into_files() {
         format!("sheet {below}: the file could not be written: Not a directory (os error 20)\n")
     );
     assert_eq!(folder.names(), ["day.poster", "day.sheet", "with.list"]);
+}
+
+/// A file that is written again may be read and written by the same users as before.
+#[test]
+fn permissions_stay() {
+    let folder = Folder::new();
+    let mut desk = Desk::with(&folder, M8);
+    let sheet = folder.file("day.sheet", b"");
+    for mode in [0o600, 0o644] {
+        fs::set_permissions(&sheet, Permissions::from_mode(mode)).expect("it is set");
+        desk.says(&format!("sheet {sheet}"));
+        let found = fs::metadata(&sheet).expect("it is there").permissions();
+        assert_eq!(found.mode() & 0o777, mode);
+    }
 }
 
 /// A picture is written with and without numbers.
