@@ -28,7 +28,7 @@ impl Session {
         let mut plan = present.plan.clone();
         let edit = make(&mut plan, self.journal.as_mut(), kind, a, b)?;
         let (taken_up, moved) = (edit.trail.len(), edit.moved.len());
-        let line = format!("{}: {taken_up} taken up, {moved} moved", row(kind, a, b));
+        let line = format!("{}: {taken_up} taken up, {moved} moved", kind.row((a, b)));
         let last = LastEdit::new(kind, a, b, &present.plan, &plan, edit);
         let lines = last.moved_lines();
         present.last = Some(last);
@@ -46,7 +46,7 @@ impl Session {
         }
         for q in neighbours {
             let struck = self.edit(Kind::Striking, b, q, screen);
-            struck.map_err(|trouble| trouble.of(&row(Kind::Striking, b, q)))?;
+            struck.map_err(|trouble| trouble.of(&Kind::Striking.row((b, q))))?;
         }
         Ok(())
     }
@@ -61,7 +61,7 @@ impl Session {
             Kind::Striking => Kind::Adding,
         };
         let changed = self.change(back, a, b);
-        let (line, moved) = changed.map_err(|trouble| trouble.of(&row(back, a, b)))?;
+        let (line, moved) = changed.map_err(|trouble| trouble.of(&back.row((a, b))))?;
         self.present()?.made.pop();
         Ok(screen.edited(&line, &moved)?)
     }
@@ -86,15 +86,6 @@ impl Session {
         present.plan = plan;
         Ok(screen.say(&format!("bank {} has rank {rank}\n", b.0))?)
     }
-}
-
-/// An edit as the row of a list.
-fn row(kind: Kind, a: Bank, b: Bank) -> String {
-    let sign = match kind {
-        Kind::Adding => '+',
-        Kind::Striking => '-',
-    };
-    format!("{sign} {} {}", a.0, b.0)
 }
 
 /// Makes an edit by the calls, and records it in a journal, if there is one.

@@ -104,7 +104,9 @@ impl Picture<'_> {
     fn title(&self) -> String {
         let (banks, clashes) = (self.plan.banks(), self.plan.clashes());
         let waves = self.plan.wave_count();
-        let edit = self.last.map(|last| format!(", after {}", row(last)));
+        let edit = self
+            .last
+            .map(|last| format!(", after {}", last.kind().row(last.banks())));
         let edit = edit.unwrap_or_default();
         format!("{banks} banks, {clashes} clashes, {waves} waves{edit}")
     }
@@ -122,7 +124,10 @@ impl Picture<'_> {
         if let Some(last) = self.last {
             let edit = last.edit();
             let (trail, moved) = (edit.trail.len(), edit.moved.len());
-            line += &format!(" {}: {trail} taken up, {moved} moved.", row(last));
+            line += &format!(
+                " {}: {trail} taken up, {moved} moved.",
+                last.kind().row(last.banks())
+            );
         }
         line
     }
@@ -275,12 +280,6 @@ impl Picture<'_> {
                 self.marked(Mark::Moved).map(number),
             )
     }
-}
-
-/// The row of an edit as a list has it.
-fn row(last: &LastEdit) -> String {
-    let (a, b) = last.banks();
-    format!("{} {} {}", last.kind().sign(), a.0, b.0)
 }
 
 /// The lines of so many clashes.

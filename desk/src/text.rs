@@ -2,8 +2,7 @@
 //! the program's own line, then the question that was answered no and what to do.
 
 use crate::trouble::Trouble;
-use std::cmp::Reverse;
-use wave_plan::{Bank, Day, Plan, Refusal, Refused, Wave, WrongSheet};
+use wave_plan::{Bank, Day, Place, Plan, Refusal, Refused, Wave, WrongSheet};
 
 /// Lines, or the lines of a refusal.
 pub type Lines = Result<String, Trouble>;
@@ -115,18 +114,12 @@ fn doubt_line(plan: &mut Plan, b: Bank) -> Result<String, Refused> {
     let read = plan.wave_by_rule(b)?.letter();
     let kept = plan.wave_of(b)?.letter();
     let mut line = format!("BANK {} KEPT {kept} READ {read}", b.0);
-    let earlier = |q: &Bank| place_in_order(plan, *q) < place_in_order(plan, b);
+    let earlier = |q: &Bank| Place::of(plan, *q).is_earlier_than(Place::of(plan, b));
     let earlier: Vec<Bank> = plan.neighbours_of(b).into_iter().filter(earlier).collect();
     for q in earlier {
         line += &format!(" FROM {} {}", q.0, plan.wave_by_rule(q)?.letter());
     }
     Ok(line + "\n")
-}
-
-/// What the rule's order goes by: most clashes first, then the smaller rank, then the smaller number.
-fn place_in_order(plan: &Plan, b: Bank) -> (Reverse<usize>, u16, Bank) {
-    let degree = plan.neighbours_of(b).len();
-    (Reverse(degree), plan.ranks()[usize::from(b.0)], b)
 }
 
 /// The line of a program for a refused call, and the question.

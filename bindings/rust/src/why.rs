@@ -23,12 +23,13 @@ pub enum Kind {
 }
 
 impl Kind {
-    /// The sign of its row in a list.
-    pub fn sign(self) -> char {
-        match self {
+    /// The edit of two banks as the row of a list.
+    pub fn row(self, (a, b): (Bank, Bank)) -> String {
+        let sign = match self {
             Kind::Adding => '+',
             Kind::Striking => '-',
-        }
+        };
+        format!("{sign} {a} {b}")
     }
 }
 
@@ -44,6 +45,15 @@ pub struct Place {
 }
 
 impl Place {
+    /// The place of a bank of a plan.
+    pub fn of(plan: &Plan, b: Bank) -> Place {
+        Place {
+            clashes: plan.neighbours_of(b).len(),
+            rank: plan.ranks()[usize::from(b.0)],
+            bank: b,
+        }
+    }
+
     /// More clashes, or as many and a smaller rank, or both equal and a smaller number.
     pub fn is_earlier_than(self, other: Place) -> bool {
         self.key() < other.key()

@@ -1,6 +1,6 @@
 //! The legend below the columns: a sample of each mark and line that can stand in the picture.
 
-use super::{clash_style, group, row, square, taken_up_style, text, Picture};
+use super::{clash_style, group, square, taken_up_style, text, Picture};
 use super::{ADDED, MOVED, NAMED, PLAIN, STRUCK, TAKEN_UP};
 use wave_plan::Kind;
 
@@ -89,7 +89,11 @@ fn entries(picture: &Picture) -> Vec<Entry> {
         entry(Sample::Circle, PLAIN, "bank not taken up"),
         entry(Sample::Circle, TAKEN_UP, &format!("taken up ({trail})")),
         entry(Sample::Circle, MOVED, &format!("of these moved ({moved})")),
-        entry(Sample::Square, NAMED, &format!("named in {}", row(last))),
+        entry(
+            Sample::Square,
+            NAMED,
+            &format!("named in {}", last.kind().row(last.banks())),
+        ),
         clash,
         entry(Sample::Line, &taken_up_style(1), "clash of two taken up"),
         entry(Sample::Line, style, of_edit),

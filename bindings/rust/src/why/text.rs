@@ -20,12 +20,6 @@ impl fmt::Display for Explanation {
 }
 
 impl Explanation {
-    /// The row of the edit as a list has it.
-    fn row(&self) -> String {
-        let (a, b) = self.banks;
-        format!("{} {} {}", self.kind.sign(), a.0, b.0)
-    }
-
     /// Each condition on the trail that holds for the bank.
     fn taken_up_lines(&self) -> Vec<String> {
         let mut lines: Vec<String> = Vec::new();
@@ -36,7 +30,7 @@ impl Explanation {
         };
         for reason in &self.reasons {
             match reason {
-                Reason::Named => say(format!("the row {} names it", self.row())),
+                Reason::Named => say(format!("the row {} names it", self.kind.row(self.banks))),
                 Reason::Turned { before, now } => say(turned(*before, *now)),
                 Reason::LaterThan { .. } => {}
             }
@@ -70,7 +64,7 @@ impl Explanation {
                 "bank {} was not taken up, nothing of it changed",
                 self.bank.0
             ),
-            format!("the row {} does not name it", self.row()),
+            format!("the row {} does not name it", self.kind.row(self.banks)),
         ];
         if self.kept.is_empty() {
             lines.push("it clashes with neither of them".to_string());
