@@ -1,10 +1,11 @@
 //! How the program is called, and how it ends.
 
-use crate::process::{feed, run, spawn, start, DESK};
+use crate::process::{feed, printed, run, spawn, start, DESK};
 use crate::support::Folder;
 use independent::graph::Graph;
 use independent::journal::started;
 use std::fs;
+use std::path::Path;
 use std::process::Command;
 
 /// Wrong arguments print one line on standard error, which says how to call it, and nothing else.
@@ -17,6 +18,18 @@ fn arguments() {
         let usage = "usage: desk [JOURNAL], then a command in each line of standard input; help lists them\n";
         assert_eq!(String::from_utf8_lossy(&output.stderr), usage);
     }
+}
+
+/// The transcript in README.md.
+#[test]
+fn dispatcher_s_question() {
+    let repository = Path::new(env!("CARGO_MANIFEST_DIR")).join("..");
+    let example = |name: &str| {
+        fs::read_to_string(repository.join("examples").join(name)).expect("an example")
+    };
+    let child = spawn(Command::new(DESK).current_dir(&repository));
+    let output = feed(child, &example("why.desk"));
+    assert_eq!(printed(&output), example("why.answer"));
 }
 
 /// Where answers cannot be written the program ends, and says so.
