@@ -34,13 +34,14 @@ use Rattle.memory.specs.Memory.{Memory, memoryOf}
 use Rattle.edits.specs.Edits.{Editable, Outcome}
 use Rattle.queue.specs.Queue.{waits}
 use Rattle.neighbour_rows.specs.Rewritten.{Rewritten}
-use Rattle.steps.specs.inner.Work.{Edit, new, Working, Settled}
+use Rattle.steps.specs.inner.Tops.{Top}
+use Rattle.steps.specs.inner.Work.{Edit, new, begun, Working, Settled}
 use Rattle.edits.specs.inner.Recount.{withCounts}
 use Rattle.edits.specs.inner.Seeds.{Seedable, Seeded}
 use Rattle.edits.specs.inner.Change.{Origin, editAt, RowsChanged}
 use Rattle.queue.proofs.Queues.{empty-queue, no-one}
 use Rattle.steps.proofs.Notices.{memb-none}
-use Rattle.steps.proofs.Stepping.{progress}
+use Rattle.steps.proofs.Tops.{top-of}
 
 beyond-same : (k : ℕ) (xs was : List ℕ) → xs ≡ was → Beyond k xs was
 beyond-same k xs was e = rw e (beyond-refl k was)
@@ -116,6 +117,12 @@ module _ {e : Edit} {m : Memory} {before : Degrees} {t : Tally} (ch : RowsChange
       let k : x < e .old .banks = omega (arith, edit .sameBanks) in
       omega (arith, wave-small (e .old) x k (ch .held .rowed .small x k))
 
+  -- the highest wave by the tally
+  top-before : Top (new e .banks) (m .slices .waves) (begun (t .waves) .top)
+  top-before =
+      let was : mostOf (m .slices .waves) (e .old .banks) ≡ waveCount (e .old) = wave-count-is (e .old) (m .slices .waves) (λ x l. rw (ch .sameWaves) (ch .held .waves x l)) in
+      top-of (m .slices .waves) (omega (arith, ch .acceptable .bankA, edit .sameBanks)) (ch .waves ∙ sym was ∙ ap (mostOf (m .slices .waves)) (edit .sameBanks))
+
   -- before the seeds, with an empty queue
   pub seedable : Seedable e (m .slices) (replicate 390 0) n before
   seedable = record {
@@ -154,7 +161,7 @@ module _ {e : Edit} {m : Memory} {before : Degrees} {t : Tally} (ch : RowsChange
               ∙ standing-cong (wave (e .old)) (λ v. getD (m .slices .waves) v 0) c (earlierNeighbours G x) (λ v i. sym (stored v (earlierNeighbours-in G x v i .0)))
         ]
 
-    pub working : Working e (memoryOf (withCounts (m .slices) cs) (m .trail) (m .moved) (m .tally)) q (progress 0 0)
+    pub working : Working e (memoryOf (withCounts (m .slices) cs) (m .trail) (m .moved) (m .tally)) q (begun (t .waves))
     working = record {
       edit = edit;
       shown = shows;
@@ -176,6 +183,7 @@ module _ {e : Edit} {m : Memory} {before : Degrees} {t : Tally} (ch : RowsChange
       few = omega arith;
       moves = filter-none (changed (e .old) G);
       movedBeyond = beyond-same 0 (m .moved) (e .was .moved) (ch .sameMoved);
+      top = top-before;
     }
 
   -- nothing waits
@@ -192,6 +200,9 @@ module _ {e : Edit} {m : Memory} {before : Degrees} {t : Tally} (ch : RowsChange
     waves-small x h =
         let l : x < G .banks = omega (arith, banks) in
         omega (arith, st .stored x l, wave-small G x l (ch .rewritten .rowed .small x l))
+
+    pub top-after : Top n ws (p .top)
+    top-after = rw banks (st .top)
 
     pub few-taken : p .taken ≤ 1024
     few-taken = omega (arith, st .few, ch .rewritten .rowed .few)
@@ -275,6 +286,7 @@ pub changed-from : {k : Kind} {G : Graph} {m : Memory} {a b : ℕ} {ns ds : List
     → Editable k G m a b → Rewritten k G a b (m .slices .neighbours) (m .slices .degrees) ns ds before → clashes ≡ clashCount (edited k G a b)
     → RowsChanged (editAt (originOf k G m) a b) (memoryOf (slicesOf ns ds (m .slices .waves) (m .slices .counts) (m .slices .ranks)) (m .trail) (m .moved) (m .tally))
     before (withClashes (m .tally) clashes)
+unfolding tallyOf
 changed-from {G = G} {m = m} ed rewritten number =
     let held = held-of G (m .slices) (m .tally) (ed .ready .plan) in
     record {
@@ -289,5 +301,6 @@ changed-from {G = G} {m = m} ed rewritten number =
       wide-trail = omega (arith, held .banks, ed .ready .trailRoom);
       wide-moved = omega (arith, held .banks, ed .ready .movedRoom);
       number = number;
+      waves = ap (λ (u : Tally). u .waves) (ed .ready .plan .tally);
       cap = refl;
     }

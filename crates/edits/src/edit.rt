@@ -7,11 +7,15 @@ use neighbour_rows::change_clash;
 use queue::WORDS;
 use rule::Bank;
 use rule::Kind;
-use steps::Progress;
+use steps::Highest;
 use steps::settle;
-ghost use Rattle.rule.specs.Graph.{Graph};
 ghost use mathlib.Core.Path.{_≡_};
+ghost use Prim.Native.Nat.{ℕ, _<_, _≤_};
+ghost use lib.ListN.{length, getD};
+ghost use Rattle.rule.specs.Graph.{Graph};
 ghost use Rattle.memory.specs.Lent.{given, before, after};
+ghost use Rattle.memory.specs.inner.Counts.{mostOf};
+ghost use Rattle.steps.specs.inner.Tops.{Top};
 ghost use Rattle.edits.specs.Edits.{Editable, Result};
 ghost use Rattle.edits.specs.inner.Change.{Origin, editAt, RowsChanged, NumberFits, numberAfter};
 
@@ -20,6 +24,19 @@ pub struct Accepted {
     pub moved: u16,
     pub trail: u16,
     pub tally: Tally,
+}
+
+// The number of waves after all steps. The waves are counted only if a bank left the highest and none came there since.
+fn waves_after(waves: &[u16], banks: u16, top: Highest) -> u16
+    requires { ⌜ banks ≤ length (now waves) ⌝ }
+    requires { ⌜ ((x : ℕ) → x < banks → getD (now waves) x 0 < 24) ⌝ }
+    requires { ⌜ Top banks (now waves) top ⌝ }
+    ensures { λ r. ⌜ r ≡ mostOf (now (waves .entry)) banks ⌝ }
+{
+    if top.left {
+        return wave_count(waves, banks);
+    }
+    top.most
 }
 
 // Brings waves and Counts up to date, once rows and degrees are, and writes the trail and the moved list. The tally has the new number of clashes;
@@ -57,7 +74,6 @@ fn propagate(
         b,
         old,
     );
-    let start = Progress { taken: 0, moved: 0 };
     let done = settle(
         neighbours,
         degrees,
@@ -67,9 +83,10 @@ fn propagate(
         trail,
         moved,
         &mut queue,
-        start,
+        tally.waves,
     );
-    let most = wave_count(waves, banks);
+    let highest = done.top;
+    let most = waves_after(waves, banks, highest);
     let after = Tally {
         banks: banks,
         clashes: tally.clashes,

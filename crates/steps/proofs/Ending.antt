@@ -119,6 +119,7 @@ module _ {e : Edit} {m : Memory} {q : List ℕ} {p : Progress} (wk : Working e m
         wide-waves = wk .wide-waves;
         stored = stored;
         counted = counted;
+        top = wk .top;
       }
 
 pub settled : {e : Edit} {m : Memory} {q : List ℕ} {p : Progress} (wk : Working e m q p) {r : Bool} → Tells q r → not r ≡ false → Settled e m p

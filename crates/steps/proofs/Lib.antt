@@ -4,5 +4,6 @@ pub mod Counting
 pub mod Collecting
 pub mod Shows
 pub mod Notices
+pub mod Tops
 pub mod Stepping
 pub mod Ending

@@ -26,10 +26,12 @@ use Rattle.memory.specs.Plan.{slicesOf}
 use Rattle.memory.proofs.Fronts.{take-store, memb-snoc, beyond-set, beyond-next, beyond-refl}
 use Rattle.memory.proofs.Standing.{standing-cong, standing-le, pos-standing}
 use Rattle.steps.specs.declared.can_step.Progress.{Progress}
+use Rattle.steps.specs.declared.highest.Highest.{Highest}
 use Rattle.memory.specs.Memory.{Memory, memoryOf}
 use Rattle.queue.specs.Queue.{waits, Dequeued}
 use Rattle.steps.specs.CanSteps.{oneMoved, wavesIn, collected, Indexed, Collects, Assigns, laterNeighbour, Notified, waveDiffers, Treated}
 use Rattle.steps.specs.inner.Notices.{Notifiable}
+use Rattle.steps.specs.inner.Tops.{KeepsTop}
 use Rattle.steps.specs.inner.Work.{Edit, new, Working}
 use Rattle.steps.proofs.Counting.{standing-move, moved-here}
 use Rattle.steps.proofs.Collecting.{in-map}
@@ -41,8 +43,8 @@ pub changed-not : (old new : Graph) (x : ℕ) → wave old x ≡ wave new x → 
 unfolding changed
 changed-not old new x e c = T-not (eqb (wave old x) (wave new x)) c (eq→eqb (wave old x) (wave new x) e)
 
-abbrev pub progress : ℕ → ℕ → Progress
-progress taken moved = record { taken = taken; moved = moved }
+abbrev pub progress : ℕ → ℕ → Highest → Progress
+progress taken moved top = record { taken = taken; moved = moved; top = top }
 
 -- h is out of the queue
 module _ {e : Edit} {m : Memory} {q q₁ : List ℕ} {p : Progress} {h : ℕ} (wk : Working e m q p) (dq : Dequeued (new e) q q₁ h) where
@@ -198,12 +200,13 @@ module _ {e : Edit} {m : Memory} {q q₁ : List ℕ} {p : Progress} {h : ℕ} (w
       far x = changed (e .old) (new e) h && (new e .clash h x && earlier (new e) h x)
 
       -- they were notified, h listed, and the next bank sought
-      module _ {cs q′ tr mv : List ℕ} {moves : ℕ}
+      module _ {cs q′ tr mv : List ℕ} {moves : ℕ} {top : Highest}
           (ntf : Notified (new e) (m .slices .counts) cs q₁ q′ (getD (m .slices .waves) h 0) (getD ws h 0) (λ x. changes && laterNeighbour (new e) h x))
           (trailed : tr ≡ set (m .trail) (p .taken) h)
           (listed : mv ≡ cond changes (set (m .moved) (p .moved) h) (m .moved))
-          (count : moves ≡ cond changes (p .moved + 1) (p .moved)) where
-        pub treated : Treated (new e) m (memoryWith ws cs tr mv) q q′ h p (progress (p .taken + 1) moves)
+          (count : moves ≡ cond changes (p .moved + 1) (p .moved))
+          (keeps : KeepsTop (p .top) (getD (m .slices .waves) h 0) (getD ws h 0) top) where
+        pub treated : Treated (new e) m (memoryWith ws cs tr mv) q q′ h p (progress (p .taken + 1) moves top)
         treated = record {
           next = dq .next;
           own = at-h ∙ lowest-is;
@@ -313,7 +316,7 @@ module _ {e : Edit} {m : Memory} {q q₁ : List ℕ} {p : Progress} {h : ℕ} (w
               rw f refl,
             )
 
-        pub worked : Working e (memoryWith ws cs tr mv) q′ (progress (p .taken + 1) moves)
+        pub worked : Working e (memoryWith ws cs tr mv) q′ (progress (p .taken + 1) moves top)
         worked = record {
           edit = wk .edit;
           shown = wk .shown;
@@ -334,4 +337,5 @@ module _ {e : Edit} {m : Memory} {q q₁ : List ℕ} {p : Progress} {h : ℕ} (w
           few = moved-after .2;
           moves = moved-after .0;
           movedBeyond = moved-after .1;
+          top = rw (asg .stored ∙ ap (set (m .slices .waves) h) (sym at-h)) (keeps (new e .banks) h (m .slices .waves) (dq .next .bank) (wk .wide-waves) refl (wk .top));
         }

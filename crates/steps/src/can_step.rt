@@ -1,6 +1,8 @@
 // One bank taken up: a CAN step of 000 (definition 4.10; lines 16 to 18 of algorithm 2), which performs CC, AC and NC in that order.
 use crate::assign::assign_colour;
 use crate::collect::collect_colours;
+use crate::highest::Highest;
+use crate::highest::highest_after;
 use crate::notify::notify_colours;
 use queue::WORDS;
 use queue::dequeue;
@@ -13,10 +15,11 @@ ghost use lib.ListN.{length, set};
 ghost use Rattle.memory.specs.Lent.{given, before, after};
 ghost use Rattle.steps.specs.inner.Work.{Edit, Steppable, Stepped};
 
-// How far an edit is: so many banks are taken up, and so many of them changed their wave.
+// How far an edit is: how many banks are taken up, how many of them changed their wave, and the highest wave in use.
 pub struct Progress {
     pub taken: usize,
     pub moved: usize,
+    pub top: Highest,
 }
 
 // Puts b at the end of the moved list if it changed. Answers the list's length.
@@ -32,7 +35,8 @@ fn list_moved(moved: &mut [u16], count: usize, b: Bank, changed: bool) -> usize
     count + 1
 }
 
-// Takes up the earliest bank of the queue: puts it at the trail's end, collects, assigns, puts it at the end of moved if its wave changed, and notifies.
+// Takes up the earliest bank of the queue: puts it at the trail's end, collects, assigns, puts it at the end of moved if its wave changed, notifies, and
+// keeps the highest wave up.
 pub fn can_step(
     neighbours: &[u16],
     degrees: &[u16],
@@ -52,6 +56,7 @@ pub fn can_step(
 {
     let taken = p.taken;
     let changes = p.moved;
+    let top = p.top;
     let next = taken + 1;
     let b = dequeue(ranks, queue);
     let at = b.0 as usize;
@@ -72,8 +77,10 @@ pub fn can_step(
         old,
         new,
     );
+    let highest = highest_after(top, old, new);
     Progress {
         taken: next,
         moved: moves,
+        top: highest,
     }
 }

@@ -2,8 +2,10 @@
 mod assign;
 mod can_step;
 mod collect;
+mod highest;
 mod notify;
 mod work_list;
 
 pub use can_step::Progress;
+pub use highest::Highest;
 pub use work_list::settle;

@@ -1,12 +1,13 @@
 // All banks that wait, taken up.
 use crate::can_step::Progress;
 use crate::can_step::can_step;
+use crate::highest::Highest;
 use queue::WORDS;
 use queue::is_empty;
 ghost use Rattle.memory.specs.Lent.{given, before, after};
-ghost use Rattle.steps.specs.inner.Work.{Edit, Working, Settled};
+ghost use Rattle.steps.specs.inner.Work.{Edit, begun, Working, Settled};
 
-// Takes up the queue's banks, the earliest first, until none waits.
+// Takes up the queue's banks, the earliest first, until none waits. Before that `most` waves are in use.
 pub fn settle(
     neighbours: &[u16],
     degrees: &[u16],
@@ -16,15 +17,23 @@ pub fn settle(
     trail: &mut [u16],
     moved: &mut [u16],
     queue: &mut [u64; WORDS],
-    from: Progress,
+    most: u16,
 ) -> Progress
     requires { ⌜ ((e : Edit)
-        × Working e (given neighbours degrees waves counts ranks trail moved (e .was .tally)) (now queue) from) ⌝ }
+        × Working e (given neighbours degrees waves counts ranks trail moved (e .was .tally)) (now queue) (begun most)) ⌝ }
     ensures { λ r. ⌜ ((e : Edit)
-        → Working e (before neighbours degrees waves counts ranks trail moved (e .was .tally)) (now (queue .entry)) from
+        → Working e (before neighbours degrees waves counts ranks trail moved (e .was .tally)) (now (queue .entry)) (begun most)
         → Settled e (after neighbours degrees waves counts ranks trail moved (e .was .tally)) r) ⌝ }
 {
-    let mut p = from;
+    let top = Highest {
+        most: most,
+        left: false,
+    };
+    let mut p = Progress {
+        taken: 0,
+        moved: 0,
+        top: top,
+    };
     while !is_empty(queue) {
         p = can_step(
             neighbours,

@@ -3,6 +3,7 @@ use mathlib.Core.Path.{_≡_}
 use Prim.Native.Nat.{ℕ, _+_, _-_, _≤_}
 use lib.ListN.{length}
 use Rattle.rule.specs.Graph.{Graph}
+use Rattle.rule.specs.Wave.{waveCount}
 use Rattle.rule.specs.declared.Kind.{Kind}
 use Rattle.rule.specs.declared.Kind.the-variants.{Adding, Striking}
 use Rattle.memory.specs.declared.Tally.{Tally}
@@ -24,7 +25,8 @@ pub record Origin : Type 0 where
 abbrev pub editAt : Origin → ℕ → ℕ → Edit
 editAt o a b = record { kind = o .kind; old = o .graph; a = a; b = b; was = o .memory }
 
--- rows and degrees are new, the other slices as the edit found them; the tally has the new number of clashes and the cap that the edit found
+-- rows and degrees are new, the other slices as the edit found them; the tally has the new number of clashes, and the waves and the cap that the
+-- edit found
 pub record RowsChanged (e : Edit) (m : Memory) (before : Degrees) (t : Tally) : Type 0 where
   pub acceptable : Acceptable (e .kind) (e .old) (e .a) (e .b)
   pub held : Held (e .old) (e .was .slices) (t .banks)
@@ -38,6 +40,7 @@ pub record RowsChanged (e : Edit) (m : Memory) (before : Degrees) (t : Tally) : 
   pub wide-trail : t .banks ≤ length (e .was .trail)
   pub wide-moved : t .banks ≤ length (e .was .moved)
   pub number : t .clashes ≡ clashCount (new e)
+  pub waves : t .waves ≡ waveCount (e .old)
   pub cap : t .cap ≡ e .was .tally .cap
 
 -- the number of clashes can go one up or down

@@ -1,5 +1,5 @@
 -- The work-list part of an edit: the state between two steps, and that when no bank waits.
-use mathlib.Core.Bool.{cond}
+use mathlib.Core.Bool.{false, cond}
 use mathlib.Core.List.{List}
 use mathlib.Core.Path.{_≡_}
 use Prim.Native.Nat.{ℕ, _*_, _<_, _≤_}
@@ -18,6 +18,7 @@ use Rattle.memory.specs.inner.View.{Shown, Counted}
 use Rattle.queue.specs.Queue.{waits, Queue, Waiting}
 use Rattle.steps.specs.declared.can_step.Progress.{Progress}
 use Rattle.steps.specs.CanSteps.{Treated}
+use Rattle.steps.specs.inner.Tops.{Top}
 
 -- an edit: its kind, the old clashes, the two banks, and the memory as it found it
 pub record Edit : Type 0 where
@@ -30,6 +31,10 @@ pub record Edit : Type 0 where
 -- the new clashes
 abbrev pub new : Edit → Graph
 new e = edited (e .kind) (e .old) (e .a) (e .b)
+
+-- before the first step: no bank is taken up, and the highest of so many waves is in use
+abbrev pub begun : ℕ → Progress
+begun most = record { taken = 0; moved = 0; top = record { most = most; left = false } }
 
 -- the banks taken up so far: the trail's front
 abbrev pub done : Memory → Progress → List ℕ
@@ -57,6 +62,7 @@ pub record Working (e : Edit) (m : Memory) (q : List ℕ) (p : Progress) : Type 
   pub few : p .moved ≤ p .taken
   pub moves : take (p .moved) (m .moved) ≡ filter (changed (e .old) (new e)) (done m p)
   pub movedBeyond : Beyond (p .moved) (m .moved) (e .was .moved)
+  pub top : Top (new e .banks) (m .slices .waves) (p .top)
 
 -- what a step asks: that state, and some bank waits
 pub record Steppable (e : Edit) (m : Memory) (q : List ℕ) (p : Progress) : Type 0 where
@@ -82,3 +88,4 @@ pub record Settled (e : Edit) (m : Memory) (p : Progress) : Type 0 where
   pub wide-waves : new e .banks ≤ length (m .slices .waves)
   pub stored : (x : ℕ) → x < new e .banks → getD (m .slices .waves) x 0 ≡ wave (new e) x
   pub counted : Counted (new e) (m .slices .counts) (λ b v. wave (new e) v)
+  pub top : Top (new e .banks) (m .slices .waves) (p .top)

@@ -1,7 +1,7 @@
 -- `propagate`: the seeds are queued and counted anew, the queue is settled, and the outcome is that of `Propagating`.
 use borrow.Author.Needs.{needs}
 use native.Mathlib.Omega.{arith}
-use Rattle.edits.proofs.Propagating.{seedable, working, count-in, waves-small, few-taken, outcome}
+use Rattle.edits.proofs.Propagating.{seedable, working, count-in, waves-small, top-after, few-taken, outcome}
 use Rattle.edits.proofs.edit.propagate.Statement.{statement}
 use Rattle.edits.proofs.edit.propagate.Tie as tie
 
@@ -14,18 +14,18 @@ settle-requires c κs =
     let pre = seeds .before .before .before .before .before .before .before .before .before .before .before .pre in
     (_, working (pre .1) (seeds .queue-seeds .ensures (pre .0) (seedable (pre .1))))
 
-wave-count-requires : tie.Need-wave-count-requires
-wave-count-requires c κs =
-    let done = c .before .before .before .before .before .before .before .before .before in
+waves-after-requires : tie.Need-waves-after-requires
+waves-after-requires c κs =
+    let done = c .before .before .before .before .before .before .before .before .before .before in
     let seeds = done .before .before .before .before .before .before .before .before in
     let pre = seeds .before .before .before .before .before .before .before .before .before .before .before .pre in
     let ch = pre .1 in
     let st = done .settle .ensures _ (working ch (seeds .queue-seeds .ensures (pre .0) (seedable ch))) in
-    (count-in ch st, waves-small ch st)
+    (count-in ch st, (waves-small ch st, top-after ch st))
 
 cast-t35 : tie.Need-cast-t35
 cast-t35 c =
-    let done = c .before .before .before .before .before .before .before .before .before .before .before in
+    let done = c .before .before .before .before .before .before .before .before .before .before .before .before in
     let seeds = done .before .before .before .before .before .before .before .before in
     let pre = seeds .before .before .before .before .before .before .before .before .before .before .before .pre in
     let ch = pre .1 in
@@ -34,7 +34,7 @@ cast-t35 c =
 
 cast-t36 : tie.Need-cast-t36
 cast-t36 c =
-    let done = c .before .before .before .before .before .before .before .before .before .before .before .before in
+    let done = c .before .before .before .before .before .before .before .before .before .before .before .before .before in
     let seeds = done .before .before .before .before .before .before .before .before in
     let pre = seeds .before .before .before .before .before .before .before .before .before .before .before .pre in
     let ch = pre .1 in
@@ -55,9 +55,9 @@ same-length-4 c = search needs
 
 returns : tie.Need-returns
 returns c =
-    let done = c .before .before .before .before .before .before .before .before .before .before .before .before in
+    let done = c .before .before .before .before .before .before .before .before .before .before .before .before .before in
     let seeds = done .before .before .before .before .before .before .before .before .queue-seeds .ensures in
-    let most = c .before .before .wave-count in
+    let most = c .before .before .waves-after in
     λ o ch. outcome ch (done .settle .ensures _ (working ch (seeds o (seedable ch)))) (most .result) (most .ensures)
 
 pub propagate-spec : {M : Type 1} → statement M
@@ -66,7 +66,7 @@ propagate-spec =
     (tie.spec
     queue-seeds-requires
     settle-requires
-    wave-count-requires
+    waves-after-requires
     cast-t35
     cast-t36
     same-length

@@ -7,59 +7,59 @@ use Rattle.steps.proofs.can_step.can_step.Statement.{statement}
 use Rattle.steps.proofs.can_step.can_step.Tie as tie
 
 add-next : tie.Need-add-next
-add-next c = let wk = c .before .before .before .before .before .before .before .pre .1 .working in omega (arith, wk .room, wk .shown .few)
+add-next c = let wk = c .before .before .before .before .before .before .before .before .pre .1 .working in omega (arith, wk .room, wk .shown .few)
 
 dequeue-requires : tie.Need-dequeue-requires
-dequeue-requires c κs = (_, c .before .before .before .before .before .before .before .before .pre .1 .waiting)
+dequeue-requires c κs = (_, c .before .before .before .before .before .before .before .before .before .pre .1 .waiting)
 
 cast-at : tie.Need-cast-at
 cast-at c = search needs
 
 mul-trail : tie.Need-mul-trail
-mul-trail c = let wk = c .before .before .before .before .before .before .before .before .before .before .pre .1 .working in omega (arith, wk .room, wk .shown .few)
+mul-trail c = let wk = c .before .before .before .before .before .before .before .before .before .before .before .pre .1 .working in omega (arith, wk .room, wk .shown .few)
 
 slice-write-trail : tie.Need-slice-write-trail
 slice-write-trail c =
-    let st = c .before .before .before .before .before .before .before .before .before .before .pre .1 in
+    let st = c .before .before .before .before .before .before .before .before .before .before .before .pre .1 in
     let wk = st .working in
     omega (arith, taken-less wk (c .before .dequeue .ensures _ (st .waiting)), wk .wide-trail)
 
-mul-t21 : tie.Need-mul-t21
-mul-t21 c = search needs
+mul-t23 : tie.Need-mul-t23
+mul-t23 c = search needs
 
-slice-read-t24 : tie.Need-slice-read-t24
-slice-read-t24 c =
-    let st = c .before .before .before .before .before .before .before .before .before .before .before .pre .1 in
+slice-read-t26 : tie.Need-slice-read-t26
+slice-read-t26 c =
+    let st = c .before .before .before .before .before .before .before .before .before .before .before .before .pre .1 in
     omega (arith, c .before .before .dequeue .ensures _ (st .waiting) .next .bank, st .working .wide-waves)
 
 collect-colours-requires : tie.Need-collect-colours-requires
 collect-colours-requires c κs =
-    let st = c .before .before .before .before .before .before .before .before .before .before .before .before .pre .1 in
+    let st = c .before .before .before .before .before .before .before .before .before .before .before .before .before .pre .1 in
     counts-in (st .working) (c .before .before .before .dequeue .ensures _ (st .waiting))
 
 assign-colour-requires : tie.Need-assign-colour-requires
 assign-colour-requires c κs =
     let out = c .before .before .before .before .before in
-    let st = out .before .before .before .before .before .before .before .before .before .pre .1 in
+    let st = out .before .before .before .before .before .before .before .before .before .before .pre .1 in
     let wk = st .working in
     let dq = out .dequeue .ensures _ (st .waiting) in
     let col = c .before .collect-colours .ensures _ _ (indexed wk dq) (dq .next .bank) in
     (omega (arith, dq .next .bank, wk .wide-waves), (free-wave wk dq col, col .long))
 
-mul-t21-2 : tie.Need-mul-t21-2
-mul-t21-2 c = search needs
+mul-t23-2 : tie.Need-mul-t23-2
+mul-t23-2 c = search needs
 
-slice-read-t24-2 : tie.Need-slice-read-t24-2
-slice-read-t24-2 c =
+slice-read-t26-2 : tie.Need-slice-read-t26-2
+slice-read-t26-2 c =
     let asg = c .before .before .before in
     let out = asg .before .before .before .before .before .before in
-    let st = out .before .before .before .before .before .before .before .before .before .pre .1 in
+    let st = out .before .before .before .before .before .before .before .before .before .before .pre .1 in
     omega (arith, out .dequeue .ensures _ (st .waiting) .next .bank, st .working .wide-waves, asg .assign-colour .kept .0)
 
 list-moved-requires : tie.Need-list-moved-requires
 list-moved-requires c κs =
     let out = c .before .before .before .before .before .before .before .before .before .before in
-    let st = out .before .before .before .before .before .before .before .before .before .pre .1 in
+    let st = out .before .before .before .before .before .before .before .before .before .before .pre .1 in
     let wk = st .working in
     omega (arith, taken-less wk (out .dequeue .ensures _ (st .waiting)), wk .few, wk .wide-moved)
 
@@ -68,10 +68,21 @@ notify-colours-requires c κs =
     let asg = c .before .before .before .before .before .before .before .before .before in
     let col = asg .before .before in
     let out = col .before .before .before .before in
-    let st = out .before .before .before .before .before .before .before .before .before .pre .1 in
+    let st = out .before .before .before .before .before .before .before .before .before .before .pre .1 in
     let wk = st .working in
     let dq = out .dequeue .ensures _ (st .waiting) in
     (_, notifiable wk dq (col .collect-colours .ensures _ _ (indexed wk dq) (dq .next .bank)) (asg .assign-colour .ensures))
+
+highest-after-requires : tie.Need-highest-after-requires
+highest-after-requires c κs =
+    let asg = c .before .before .before .before .before .before .before .before .before .before .before .before in
+    let col = asg .before .before in
+    let out = col .before .before .before .before in
+    let st = out .before .before .before .before .before .before .before .before .before .before .pre .1 in
+    let wk = st .working in
+    let dq = out .dequeue .ensures _ (st .waiting) in
+    let cells = notifiable wk dq (col .collect-colours .ensures _ _ (indexed wk dq) (dq .next .bank)) (asg .assign-colour .ensures) .movable _ (dq .next .bank) in
+    (cells .low, cells .high)
 
 same-length : tie.Need-same-length
 same-length c = search needs
@@ -87,7 +98,7 @@ same-length-4 c = search needs
 
 returns : tie.Need-returns
 returns c =
-    let ask = c .before .before in
+    let ask = c .before .before .before in
     let lst = ask .before .before .before .before .before in
     let asg = lst .before .before .before .before .before in
     let col = asg .before .before in
@@ -101,8 +112,8 @@ returns c =
     let ntf = ask .notify-colours .ensures _ (notifiable wk dq set one) in
     record {
       bank = _;
-      treated = treated wk dq set one ntf refl (mv .0) (mv .1);
-      working = worked wk dq set one ntf refl (mv .0) (mv .1);
+      treated = treated wk dq set one ntf refl (mv .0) (mv .1) (c .highest-after .ensures);
+      working = worked wk dq set one ntf refl (mv .0) (mv .1) (c .highest-after .ensures);
     }
 
 pub can-step-spec : {M : Type 1} → statement M
@@ -114,14 +125,15 @@ can-step-spec =
     cast-at
     mul-trail
     slice-write-trail
-    mul-t21
-    slice-read-t24
+    mul-t23
+    slice-read-t26
     collect-colours-requires
     assign-colour-requires
-    mul-t21-2
-    slice-read-t24-2
+    mul-t23-2
+    slice-read-t26-2
     list-moved-requires
     notify-colours-requires
+    highest-after-requires
     same-length
     same-length-2
     same-length-3

@@ -6,23 +6,23 @@ use mathlib.Core.Path.{_≡_, refl, _∙_}
 use lib.ListN.{length}
 use Rattle.memory.specs.Memory.{memoryOf}
 use Rattle.memory.specs.Plan.{slicesOf}
-use Rattle.steps.specs.inner.Work.{Edit, Working}
+use Rattle.steps.specs.inner.Work.{Edit, begun, Working}
 use Rattle.steps.proofs.Ending.{steppable, settled}
 use Rattle.steps.proofs.work_list.settle.Statement.{statement}
 use Rattle.steps.proofs.work_list.settle.Tie as tie
 
 abbrev Inv-loop : tie.InvT-loop
-Inv-loop neighbours degrees waves₀ counts₀ ranks trail₀ moved₀ queue₀ p₀ waves counts trail moved queue p =
+Inv-loop neighbours degrees waves₀ counts₀ ranks trail₀ moved₀ queue₀ most p₀ waves counts trail moved queue p =
     (length waves ≡ length waves₀)
     × (length counts ≡ length counts₀)
     × (length trail ≡ length trail₀)
     × (length moved ≡ length moved₀)
     × ((e : Edit)
-    → Working e (memoryOf (slicesOf neighbours degrees waves₀ counts₀ ranks) trail₀ moved₀ (e .was .tally)) queue₀ p₀
+    → Working e (memoryOf (slicesOf neighbours degrees waves₀ counts₀ ranks) trail₀ moved₀ (e .was .tally)) queue₀ (begun most)
     → Working e (memoryOf (slicesOf neighbours degrees waves counts ranks) trail moved (e .was .tally)) queue p)
 
 abbrev μ-loop : tie.MeasureT-loop
-μ-loop neighbours degrees waves₀ counts₀ ranks trail₀ moved₀ queue₀ p₀ waves counts trail moved queue p = 1025 - p .taken
+μ-loop neighbours degrees waves₀ counts₀ ranks trail₀ moved₀ queue₀ most p₀ waves counts trail moved queue p = 1025 - p .taken
 
 loop-holds : tie.Need-loop-holds Inv-loop μ-loop
 loop-holds c = (refl, refl, refl, refl, λ e wk. wk)
