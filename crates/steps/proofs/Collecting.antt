@@ -4,7 +4,6 @@ use mathlib.Core.List.{List, [], _∷_, map}
 use mathlib.Core.Logic.{inl, inr}
 use mathlib.Core.Path.{_≡_, refl, sym, ap, _∙_}
 use Prim.Native.Nat.{ℕ, _+_, _*_, _-_, _≤_, _<_}
-use native.Mathlib.Decide.{ℕ-discrete}
 use native.Mathlib.Omega.{arith}
 use lib.Dec.{T, eqb, ltb, lt→ltb, ltb→lt, eqb→eq}
 use lib.ListN.{length, getD, set, take, drop, length-take, length-drop}
@@ -34,11 +33,11 @@ map-below f n (y ∷ ys) h c m =
 
 -- wave c is in the set
 module _ (cells : List ℕ) (c : ℕ) where
-  in-waves : c < 24 → 0 < getD cells c 0 → T (memb c (wavesIn cells))
+  pub in-waves : c < 24 → 0 < getD cells c 0 → T (memb c (wavesIn cells))
   unfolding wavesIn
   in-waves l some = in-filter (λ k. ltb 0 (getD cells k 0)) (upto 24) c (in-upto 24 c l) (lt→ltb 0 (getD cells c 0) some)
 
-  waves-in : T (memb c (wavesIn cells)) → (c < 24) × (0 < getD cells c 0)
+  pub waves-in : T (memb c (wavesIn cells)) → (c < 24) × (0 < getD cells c 0)
   unfolding wavesIn
   waves-in m = let r = filter-in (λ k. ltb 0 (getD cells k 0)) (upto 24) c m in (upto-below 24 c (r .0), ltb→lt 0 (getD cells c 0) (r .1))
 
@@ -72,22 +71,6 @@ module _ (G : Graph) (ws cs : List ℕ) (b : ℕ) (within : b * 24 + 24 ≤ leng
     long = omega (arith, length-take (b * 24 + 24 - b * 24) (drop (b * 24) cs), length-drop (b * 24) cs);
     exact = λ c. test-ext (memb c (wavesIn cells)) (memb c (map W earliers)) (there c) (back c);
   }
-
--- a walk up from 0 over waves of the set stays at or below the lowest that is free, and ends there
-module _ (cells : List ℕ) (c : ℕ) (low : c ≤ lowestFree (wavesIn cells)) (small : lowestFree (wavesIn cells) < 24) where
-  pub still-low : (getD cells c 0 ≡ 0 → ⊥) → c + 1 ≤ lowestFree (wavesIn cells)
-  still-low some = go (ℕ-discrete c (lowestFree (wavesIn cells)))
-    where
-      go : Dec (c ≡ lowestFree (wavesIn cells)) → c + 1 ≤ lowestFree (wavesIn cells)
-      go (no d) = omega arith
-      go (yes f) = absurd (lowestFree-free (wavesIn cells) (rw f at (in-waves cells c (omega arith) (pos (getD cells c 0) some))))
-
-  pub at-lowest : getD cells c 0 ≡ 0 → c ≡ lowestFree (wavesIn cells)
-  at-lowest none = go (ℕ-discrete c (lowestFree (wavesIn cells)))
-    where
-      go : Dec (c ≡ lowestFree (wavesIn cells)) → c ≡ lowestFree (wavesIn cells)
-      go (yes f) = f
-      go (no d) = let z : ⊥ = omega (arith, waves-in cells c (lowestFree-smaller (wavesIn cells) c (omega arith)) .1, none) in absurd z
 
 -- b has the lowest already, or gets it
 module _ (cells ws : List ℕ) (b : ℕ) {w : ℕ} (lowest : w ≡ lowestFree (wavesIn cells)) where

@@ -2,6 +2,7 @@
 pub mod SortedLists
 pub mod Counting
 pub mod Collecting
+pub mod FreeWaves
 pub mod Shows
 pub mod Notices
 pub mod Tops

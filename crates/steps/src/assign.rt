@@ -1,5 +1,6 @@
 // Operator AC of 000 (definition 4.8; AssignColor in algorithm 2): assigns a bank the smallest colour that was not collected.
 use rule::Bank;
+use rule::COUNT_CELLS;
 use rule::Wave;
 ghost use mathlib.Core.Path.{_≡_};
 ghost use Prim.Native.Nat.{_<_};
@@ -7,17 +8,19 @@ ghost use lib.ListN.{length};
 ghost use Rattle.rule.specs.Wave.{lowestFree};
 ghost use Rattle.steps.specs.CanSteps.{wavesIn, Assigns};
 
-// The lowest wave that was not collected. One of the 24 was not.
+// The lowest wave that was not collected. One of the 24 was not. Each of the 24 is a bit, so that no branch depends on which it is.
 fn lowest_free(colours: &[u16]) -> Wave
     requires { ⌜ lowestFree (wavesIn (now colours)) < 24 ⌝ }
     requires { ⌜ length (now colours) ≡ 24 ⌝ }
     ensures { λ r. ⌜ r .0 ≡ lowestFree (wavesIn (now (colours .entry))) ⌝ }
 {
+    let mut free: u32 = 0;
     let mut c = 0;
-    while colours[c] != 0 {
+    while c < COUNT_CELLS {
+        free = free | (((colours[c] == 0) as u32) << c);
         c += 1;
     }
-    Wave(c as u16)
+    Wave(u32::trailing_zeros(free) as u16)
 }
 
 // Gives b the lowest wave that was not collected. Answers whether b had another one.

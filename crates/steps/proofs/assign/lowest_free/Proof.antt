@@ -1,26 +1,34 @@
--- `lowest_free` goes up from 0; what it passed is in the set.
+-- `lowest_free` sets a bit for each wave that is not in the set; the lowest bit is the lowest such wave.
 use borrow.Author.Needs.{needs}
+use native.Mathlib.Omega.{arith}
 use Prim.Native.Nat.{_-_, _≤_}
-use Rattle.rule.specs.Wave.{lowestFree}
-use Rattle.steps.specs.CanSteps.{wavesIn}
-use Rattle.steps.proofs.Collecting.{still-low, at-lowest}
+use Rattle.steps.proofs.FreeWaves.{FreeBits, one-more, all-cells, first-small, first-lowest}
 use Rattle.steps.proofs.assign.lowest_free.Statement.{statement}
 use Rattle.steps.proofs.assign.lowest_free.Tie as tie
 
 abbrev Inv-loop : tie.InvT-loop
-Inv-loop colours c₀ c = c ≤ lowestFree (wavesIn colours)
+Inv-loop colours free₀ c₀ free c = (c ≤ 24) × FreeBits colours free c
 
 abbrev μ-loop : tie.MeasureT-loop
-μ-loop colours c₀ c = 24 - c
+μ-loop colours free₀ c₀ free c = 24 - c
 
 loop-holds : tie.Need-loop-holds Inv-loop μ-loop
-loop-holds c = search needs
+loop-holds c = (omega arith, record { fits = omega arith; bits = λ i l. absurd (omega arith) })
 
-mul-if1 : tie.Need-mul-if1 Inv-loop μ-loop
-mul-if1 c = search needs
+mul-free : tie.Need-mul-free Inv-loop μ-loop
+mul-free c = search needs
 
-shared-slice-read-if1 : tie.Need-shared-slice-read-if1 Inv-loop μ-loop
-shared-slice-read-if1 c = search needs
+shared-slice-read-free : tie.Need-shared-slice-read-free Inv-loop μ-loop
+shared-slice-read-free c = search needs
+
+cast-free : tie.Need-cast-free Inv-loop μ-loop
+cast-free c = search needs
+
+cast-free-2 : tie.Need-cast-free-2 Inv-loop μ-loop
+cast-free-2 c = search needs
+
+shl-free : tie.Need-shl-free Inv-loop μ-loop
+shl-free c = search needs
 
 add-c : tie.Need-add-c Inv-loop μ-loop
 add-c c = search needs
@@ -29,13 +37,13 @@ loop-less : tie.Need-loop-less Inv-loop μ-loop
 loop-less c = search needs
 
 loop-again : tie.Need-loop-again Inv-loop μ-loop
-loop-again c = still-low _ _ (c .before .before .loop .inv) (c .before .before .before .pre .0) (c .if1 .taken)
+loop-again c = (omega arith, one-more (c .before .before .loop .inv .1) (omega arith))
 
-cast-t7 : tie.Need-cast-t7 Inv-loop μ-loop
-cast-t7 c = search needs
+cast-t12 : tie.Need-cast-t12 Inv-loop μ-loop
+cast-t12 c = omega (arith, first-small (all-cells (c .before .loop .inv) (c .loop-test .left)) (c .before .before .pre .0))
 
 returns : tie.Need-returns Inv-loop μ-loop
-returns c = at-lowest _ _ (c .before .before .loop .inv) (c .before .before .before .pre .0) (c .if1 .left)
+returns c = first-lowest (all-cells (c .before .loop .inv) (c .loop-test .left)) (c .before .before .pre .0)
 
 pub lowest-free-spec : {M : Type 1} → statement M
 lowest-free-spec =
@@ -44,10 +52,13 @@ lowest-free-spec =
     Inv-loop
     μ-loop
     loop-holds
-    mul-if1
-    shared-slice-read-if1
+    mul-free
+    shared-slice-read-free
+    cast-free
+    cast-free-2
+    shl-free
     add-c
     loop-less
     loop-again
-    cast-t7
+    cast-t12
     returns)
