@@ -6,8 +6,11 @@ use crate::raw::{
     wave_plan_wave_by_rule, wave_plan_wave_of, wave_plan_write_sheet,
 };
 
+/// The words of a queue: WORDS of crates/queue.
+const QUEUE_WORDS: usize = 2439;
+
 /// An edit by the C interface: seven slices, tally, result, and the two banks.
-type EditCall = unsafe extern "C" fn(
+type CheckedCall = unsafe extern "C" fn(
     *mut u16,
     usize,
     *mut u16,
@@ -30,8 +33,33 @@ type EditCall = unsafe extern "C" fn(
     u16,
 ) -> u16;
 
-/// Declares functions of the type EditCall.
-macro_rules! edit_calls {
+/// The same with a queue of QUEUE_WORDS after the seven slices.
+type CoreCall = unsafe extern "C" fn(
+    *mut u16,
+    usize,
+    *mut u16,
+    usize,
+    *mut u16,
+    usize,
+    *mut u16,
+    usize,
+    *const u16,
+    usize,
+    *mut u16,
+    usize,
+    *mut u16,
+    usize,
+    *mut u64,
+    *mut u16,
+    usize,
+    *mut u16,
+    usize,
+    u16,
+    u16,
+) -> u16;
+
+/// Declares functions of the type CoreCall.
+macro_rules! core_calls {
     ($($name:ident)*) => {
         extern "C" {
             $(fn $name(
@@ -49,6 +77,7 @@ macro_rules! edit_calls {
                 trail_length: usize,
                 moved: *mut u16,
                 moved_length: usize,
+                queue: *mut u64,
                 tally: *mut u16,
                 tally_length: usize,
                 result: *mut u16,
@@ -60,7 +89,18 @@ macro_rules! edit_calls {
     };
 }
 
-edit_calls! { bench_add bench_strike }
+core_calls! { bench_add bench_strike }
+
+extern "C" {
+    fn bench_ready(ranks: *const u16, ranks_length: usize, queue: *mut u64, banks: u16);
+}
+
+/// An edit with question 5 or without.
+#[derive(Clone, Copy)]
+pub enum EditCall {
+    Checked(CheckedCall),
+    Core(CoreCall),
+}
 
 /// The two edits with question 5 and without.
 #[derive(Clone, Copy)]
@@ -71,18 +111,18 @@ pub struct EditCalls {
 
 /// Edits that ask no question 5.
 pub const CORE: EditCalls = EditCalls {
-    add: bench_add,
-    strike: bench_strike,
+    add: EditCall::Core(bench_add),
+    strike: EditCall::Core(bench_strike),
 };
 
 /// Edits that ask all questions.
 pub const CHECKED: EditCalls = EditCalls {
-    add: wave_plan_add,
-    strike: wave_plan_strike,
+    add: EditCall::Checked(wave_plan_add),
+    strike: EditCall::Checked(wave_plan_strike),
 };
 
 /// The memory of a plan.
-#[derive(Clone, PartialEq, Eq)]
+#[derive(Clone)]
 pub struct Memory {
     pub neighbours: Vec<u16>,
     pub degrees: Vec<u16>,
@@ -91,6 +131,8 @@ pub struct Memory {
     pub ranks: Vec<u16>,
     pub trail: Vec<u16>,
     pub moved: Vec<u16>,
+    /// What core edits are lent, ready for these ranks.
+    queue: Vec<u64>,
     /// Banks, clashes, waves, cap.
     pub tally: [u16; 4],
     /// Moved count and trail count, or the wave.
@@ -109,6 +151,7 @@ impl Memory {
             ranks: vec![0; banks],
             trail: vec![0; banks],
             moved: vec![0; banks],
+            queue: vec![0; QUEUE_WORDS],
             tally: [0; 4],
             result: [0; 2],
         };
@@ -132,7 +175,22 @@ impl Memory {
         };
         assert_eq!(number, 0);
         memory.ranks.copy_from_slice(ranks);
+        memory.ready_queue();
         memory
+    }
+
+    /// Makes the queue ready for core edits of plans with these ranks, as a list's pass does once for
+    /// all its rows.
+    fn ready_queue(&mut self) {
+        // Sound: the slice is valid for its length, the queue has its words, and they do not overlap.
+        unsafe {
+            bench_ready(
+                self.ranks.as_ptr(),
+                self.ranks.len(),
+                self.queue.as_mut_ptr(),
+                self.tally[0],
+            );
+        }
     }
 
     /// The plan of these clashes and ranks, made by core edits.
@@ -156,30 +214,55 @@ impl Memory {
     }
 
     fn number_of(&mut self, call: EditCall, a: u16, b: u16) -> u16 {
-        // Sound: each slice is valid for its length, and no two overlap.
+        // Sound: each slice is valid for its length, the queue has its words, and no two overlap.
         unsafe {
-            call(
-                self.neighbours.as_mut_ptr(),
-                self.neighbours.len(),
-                self.degrees.as_mut_ptr(),
-                self.degrees.len(),
-                self.waves.as_mut_ptr(),
-                self.waves.len(),
-                self.counts.as_mut_ptr(),
-                self.counts.len(),
-                self.ranks.as_ptr(),
-                self.ranks.len(),
-                self.trail.as_mut_ptr(),
-                self.trail.len(),
-                self.moved.as_mut_ptr(),
-                self.moved.len(),
-                self.tally.as_mut_ptr(),
-                self.tally.len(),
-                self.result.as_mut_ptr(),
-                self.result.len(),
-                a,
-                b,
-            )
+            match call {
+                EditCall::Checked(call) => call(
+                    self.neighbours.as_mut_ptr(),
+                    self.neighbours.len(),
+                    self.degrees.as_mut_ptr(),
+                    self.degrees.len(),
+                    self.waves.as_mut_ptr(),
+                    self.waves.len(),
+                    self.counts.as_mut_ptr(),
+                    self.counts.len(),
+                    self.ranks.as_ptr(),
+                    self.ranks.len(),
+                    self.trail.as_mut_ptr(),
+                    self.trail.len(),
+                    self.moved.as_mut_ptr(),
+                    self.moved.len(),
+                    self.tally.as_mut_ptr(),
+                    self.tally.len(),
+                    self.result.as_mut_ptr(),
+                    self.result.len(),
+                    a,
+                    b,
+                ),
+                EditCall::Core(call) => call(
+                    self.neighbours.as_mut_ptr(),
+                    self.neighbours.len(),
+                    self.degrees.as_mut_ptr(),
+                    self.degrees.len(),
+                    self.waves.as_mut_ptr(),
+                    self.waves.len(),
+                    self.counts.as_mut_ptr(),
+                    self.counts.len(),
+                    self.ranks.as_ptr(),
+                    self.ranks.len(),
+                    self.trail.as_mut_ptr(),
+                    self.trail.len(),
+                    self.moved.as_mut_ptr(),
+                    self.moved.len(),
+                    self.queue.as_mut_ptr(),
+                    self.tally.as_mut_ptr(),
+                    self.tally.len(),
+                    self.result.as_mut_ptr(),
+                    self.result.len(),
+                    a,
+                    b,
+                ),
+            }
         }
     }
 
@@ -337,5 +420,13 @@ impl Memory {
             && self.counts == other.counts
             && self.ranks == other.ranks
             && self.tally == other.tally
+    }
+
+    /// Whether what an edit leaves is equal: all but the queue, which checked edits are not lent.
+    pub fn same_edit(&self, other: &Memory) -> bool {
+        self.same_plan(other)
+            && self.trail == other.trail
+            && self.moved == other.moved
+            && self.result == other.result
     }
 }

@@ -1,6 +1,6 @@
 // An edit under a cap, in memory that holds a plan: it is made, and unmade where the rule then needs more waves than the cap. Its trail and moved list are
 // written to memory of its own first, so that a refused edit leaves the lent ones as they were.
-use held_edits::edit_held;
+use held_edits::edit_alone;
 use memory::Tally;
 use memory::put_front;
 use planner::Answer;
@@ -53,7 +53,7 @@ fn take_back(
         (before neighbours degrees waves counts ranks trail moved tally) r
         (after neighbours degrees waves counts ranks trail moved (r .tally))) ⌝ }
 {
-    edit_held(
+    edit_alone(
         opposite(kind),
         neighbours,
         degrees,
@@ -113,7 +113,7 @@ fn try_edit(
         (before neighbours degrees waves counts ranks trail moved tally) r
         (after neighbours degrees waves counts ranks trail moved (r .tally))) ⌝ }
 {
-    let made = edit_held(
+    let made = edit_alone(
         kind,
         neighbours,
         degrees,
@@ -243,7 +243,7 @@ pub fn edit_within(
         ≡ withinOf kind G (a .0) (b .0) last (before neighbours degrees waves counts ranks trail moved tally)) ⌝ }
 {
     if unlimited(tally.cap, last) {
-        return edit_held(
+        return edit_alone(
             kind,
             neighbours,
             degrees,

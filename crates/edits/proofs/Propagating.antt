@@ -6,7 +6,7 @@ use mathlib.Core.Path.{_≡_, refl, sym, ap, ap₂, _∙_}
 use Prim.Native.Nat.{ℕ, _+_, _*_, _/_, _%_, _≤_, _<_}
 use native.Mathlib.Nat.{div-add-mod'}
 use native.Mathlib.Omega.{arith}
-use lib.ListN.{length, getD, take, replicate}
+use lib.ListN.{length, getD, take}
 use Rattle.rule.specs.Lists.{upto, memb, filter}
 use Rattle.rule.specs.Graph.{Graph, neighbours, degree, earlierNeighbours}
 use Rattle.rule.specs.Wave.{wave, waveCount}
@@ -32,14 +32,14 @@ use Rattle.steps.specs.declared.can_step.Progress.{Progress}
 use Rattle.neighbour_rows.specs.declared.clash.Degrees.{Degrees}
 use Rattle.memory.specs.Memory.{Memory, memoryOf}
 use Rattle.edits.specs.Edits.{Editable, Outcome}
-use Rattle.queue.specs.Queue.{waits}
+use Rattle.queue.specs.Queue.{waits, Idle}
 use Rattle.neighbour_rows.specs.Rewritten.{Rewritten}
 use Rattle.steps.specs.inner.Tops.{Top}
 use Rattle.steps.specs.inner.Work.{Edit, new, begun, Working, Settled}
 use Rattle.edits.specs.inner.Recount.{withCounts}
 use Rattle.edits.specs.inner.Seeds.{Seedable, Seeded}
 use Rattle.edits.specs.inner.Change.{Origin, editAt, RowsChanged}
-use Rattle.queue.proofs.Queues.{empty-queue, no-one}
+use Rattle.queue.proofs.Queues.{idle-queue, idle-empty}
 use Rattle.steps.proofs.Notices.{memb-none}
 use Rattle.steps.proofs.Tops.{top-of}
 
@@ -123,9 +123,9 @@ module _ {e : Edit} {m : Memory} {before : Degrees} {t : Tally} (ch : RowsChange
       let was : mostOf (m .slices .waves) (e .old .banks) ≡ waveCount (e .old) = wave-count-is (e .old) (m .slices .waves) (λ x l. rw (ch .sameWaves) (ch .held .waves x l)) in
       top-of (m .slices .waves) (omega (arith, ch .acceptable .bankA, edit .sameBanks)) (ch .waves ∙ sym was ∙ ap (mostOf (m .slices .waves)) (edit .sameBanks))
 
-  -- before the seeds, with an empty queue
-  pub seedable : Seedable e (m .slices) (replicate 390 0) n before
-  seedable = record {
+  -- before the seeds, with an idle queue
+  pub seedable : {q : List ℕ} → Idle n (m .slices .ranks) q → Seedable e (m .slices) q n before
+  seedable idle = record {
     edit = edit;
     counts = record {
       banks = banks;
@@ -133,12 +133,12 @@ module _ {e : Edit} {m : Memory} {before : Degrees} {t : Tally} (ch : RowsChange
       wide-waves = rw (ch .sameWaves) (ch .held .wide-waves);
       small = λ x h. (let l : x < G .banks = omega (arith, banks) in omega (arith, stored x l, small x l));
       wide-counts = rw (ch .sameCounts) (omega (arith, ch .held .counted .wide-counts, edit .sameBanks));
-      queue = empty-queue G;
-      right = λ x c l t h. absurd (T-along (no-one G x) t);
+      queue = idle-queue idle G banks (ranks-kept .cells);
+      right = λ x c l t h. absurd (T-along (idle-empty idle G banks (ranks-kept .cells) x l) t);
       kept = λ x c l t h. refl;
       beyond = beyond-refl (new e .banks * 24) (m .slices .counts);
     };
-    empty = no-one G;
+    empty = λ x h. idle-empty idle G banks (ranks-kept .cells) x (omega (arith, banks));
     bankA = omega (arith, ch .acceptable .bankA, ch .held .banks);
     bankB = omega (arith, ch .acceptable .bankB, ch .held .banks);
     degreeA = ch .rewritten .degreeA;
@@ -185,6 +185,10 @@ module _ {e : Edit} {m : Memory} {before : Degrees} {t : Tally} (ch : RowsChange
       movedBeyond = beyond-same 0 (m .moved) (e .was .moved) (ch .sameMoved);
       top = top-before;
     }
+
+  -- the queue afterwards
+  pub idle-after : {rs q : List ℕ} → Idle (new e .banks) rs q → Idle n rs q
+  idle-after idle = rw banks idle
 
   -- nothing waits
   module _ {ws cs tr mv : List ℕ} {p : Progress}

@@ -163,7 +163,7 @@ module _ {e : Edit} {s : Slices} {queue : List ℕ} {n : ℕ} {before : Degrees}
             tb .members x h
             ∙ ap (λ (t : Bool). t || (memb x (take (getD (s .degrees) (e .b) 0) (neighbours G (e .b))) && turnedFrom (s .degrees) (s .ranks) (before .b) (e .b) x)) (ta .members x h
             ∙ ap (λ (t : Bool). t || (memb x (take (getD (s .degrees) (e .a) 0) (neighbours G (e .a))) && turnedFrom (s .degrees) (s .ranks) (before .a) (e .a) x)) (two .put .members x l
-            ∙ ap (λ (t : Bool). t || eqb x (e .b)) (one .put .members x l ∙ ap (λ (t : Bool). t || eqb x (e .a)) (sd .empty x))))
+            ∙ ap (λ (t : Bool). t || eqb x (e .b)) (one .put .members x l ∙ ap (λ (t : Bool). t || eqb x (e .a)) (sd .empty x h))))
             ∙ seed-parts (eqb x (e .a)) (eqb x (e .b)) _ _ (turned (e .old) G (e .a) x) (turned (e .old) G (e .b) x)
             (λ f. turned-is (e .a) (before .a) x la (sd .degreeA) l (na f) (nb f))
             (λ f. turned-is (e .b) (before .b) x lb (sd .degreeB) l (na f) (nb f));

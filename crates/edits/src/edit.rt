@@ -15,6 +15,7 @@ ghost use lib.ListN.{length, getD};
 ghost use Rattle.rule.specs.Graph.{Graph};
 ghost use Rattle.memory.specs.Lent.{given, before, after};
 ghost use Rattle.memory.specs.inner.Counts.{mostOf};
+ghost use Rattle.queue.specs.Queue.{Idle};
 ghost use Rattle.steps.specs.inner.Tops.{Top};
 ghost use Rattle.edits.specs.Edits.{Editable, Result};
 ghost use Rattle.edits.specs.inner.Change.{Origin, editAt, RowsChanged, NumberFits, numberAfter};
@@ -49,6 +50,7 @@ fn propagate(
     ranks: &[u16],
     trail: &mut [u16],
     moved: &mut [u16],
+    queue: &mut [u64; WORDS],
     tally: Tally,
     a: Bank,
     b: Bank,
@@ -56,19 +58,20 @@ fn propagate(
 ) -> Accepted
     requires { ⌜ ((o : Origin)
         × RowsChanged (editAt o (a .0) (b .0)) (given neighbours degrees waves counts ranks trail moved (o .memory .tally)) old tally) ⌝ }
+    requires { ⌜ Idle (tally .banks) (now ranks) (now queue) ⌝ }
     ensures { λ r. ⌜ ((o : Origin)
         → RowsChanged (editAt o (a .0) (b .0)) (before neighbours degrees waves counts ranks trail moved (o .memory .tally)) old tally
         → Result (o .kind) (o .graph) (a .0) (b .0) (o .memory) (after neighbours degrees waves counts ranks trail moved (r .tally)) r) ⌝ }
+    ensures { λ _. ⌜ Idle (tally .banks) (now (ranks .entry)) (now (queue .exit)) ⌝ }
 {
     let banks = tally.banks;
-    let mut queue = [0u64; WORDS];
     queue_seeds(
         neighbours,
         degrees,
         waves,
         counts,
         ranks,
-        &mut queue,
+        queue,
         banks,
         a,
         b,
@@ -82,7 +85,7 @@ fn propagate(
         ranks,
         trail,
         moved,
-        &mut queue,
+        queue,
         tally.waves,
     );
     let highest = done.top;
@@ -111,7 +114,7 @@ fn count_after(kind: Kind, clashes: u16) -> u16
     }
 }
 
-// Adds or strikes the clash of a and b.
+// Adds or strikes the clash of a and b. The queue is lent, so that it is made ready once for many edits.
 pub fn make_edit(
     kind: Kind,
     neighbours: &mut [u16],
@@ -121,15 +124,18 @@ pub fn make_edit(
     ranks: &[u16],
     trail: &mut [u16],
     moved: &mut [u16],
+    queue: &mut [u64; WORDS],
     tally: Tally,
     a: Bank,
     b: Bank,
 ) -> Accepted
     requires { ⌜ ((G : Graph) × Editable kind G (given neighbours degrees waves counts ranks trail moved tally) (a .0) (b .0)) ⌝ }
+    requires { ⌜ Idle (tally .banks) (now ranks) (now queue) ⌝ }
     ensures { λ r. ⌜ ((G : Graph)
         → Editable kind G (before neighbours degrees waves counts ranks trail moved tally) (a .0) (b .0)
         → Result kind G (a .0) (b .0) (before neighbours degrees waves counts ranks trail moved tally)
         (after neighbours degrees waves counts ranks trail moved (r .tally)) r) ⌝ }
+    ensures { λ _. ⌜ Idle (tally .banks) (now (ranks .entry)) (now (queue .exit)) ⌝ }
 {
     let clashes = count_after(kind, tally.clashes);
     let old = change_clash(kind, neighbours, degrees, a, b);
@@ -147,6 +153,7 @@ pub fn make_edit(
         ranks,
         trail,
         moved,
+        queue,
         start,
         a,
         b,

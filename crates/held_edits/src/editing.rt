@@ -4,6 +4,8 @@ use memory::Tally;
 use planner::Answer;
 use planner::Edited;
 use planner::clashes_held;
+use queue::WORDS;
+use queue::reset;
 use rule::Bank;
 use rule::Kind;
 use rule::MOST_CLASHES;
@@ -16,6 +18,7 @@ ghost use Rattle.rule.specs.declared.Kind.the-variants.{Adding, Striking};
 ghost use Rattle.memory.specs.Plan.{PlanOf};
 ghost use Rattle.memory.specs.Memory.{Ready};
 ghost use Rattle.memory.specs.Lent.{slicesGiven, slicesBefore, given, before, after};
+ghost use Rattle.queue.specs.Queue.{Idle};
 ghost use Rattle.planner.specs.Calls.{noEdit, editNumber};
 ghost use Rattle.planner.specs.inner.Held.{clashNumber, HoldsPlan, EditMade};
 
@@ -127,16 +130,19 @@ pub fn edit_held(
     ranks: &[u16],
     trail: &mut [u16],
     moved: &mut [u16],
+    queue: &mut [u64; WORDS],
     tally: Tally,
     a: Bank,
     b: Bank,
 ) -> Edited
     requires { ⌜ HoldsPlan (given neighbours degrees waves counts ranks trail moved tally) ⌝ }
+    requires { ⌜ Idle (tally .banks) (now ranks) (now queue) ⌝ }
     ensures { λ r. ⌜ ((G : Graph)
         → Ready G (before neighbours degrees waves counts ranks trail moved tally)
         → EditMade kind G (a .0) (b .0)
         (before neighbours degrees waves counts ranks trail moved tally) r
         (after neighbours degrees waves counts ranks trail moved (r .tally))) ⌝ }
+    ensures { λ _. ⌜ Idle (tally .banks) (now (ranks .entry)) (now (queue .exit)) ⌝ }
 {
     let number = edit_number(kind, neighbours, degrees, waves, counts, ranks, tally, a, b);
     if number != 0 {
@@ -151,6 +157,7 @@ pub fn edit_held(
         ranks,
         trail,
         moved,
+        queue,
         tally,
         a,
         b,
@@ -164,4 +171,43 @@ pub fn edit_held(
         },
         tally: after,
     }
+}
+
+// The same with a queue of its own, where one edit is made.
+pub fn edit_alone(
+    kind: Kind,
+    neighbours: &mut [u16],
+    degrees: &mut [u16],
+    waves: &mut [u16],
+    counts: &mut [u16],
+    ranks: &[u16],
+    trail: &mut [u16],
+    moved: &mut [u16],
+    tally: Tally,
+    a: Bank,
+    b: Bank,
+) -> Edited
+    requires { ⌜ HoldsPlan (given neighbours degrees waves counts ranks trail moved tally) ⌝ }
+    ensures { λ r. ⌜ ((G : Graph)
+        → Ready G (before neighbours degrees waves counts ranks trail moved tally)
+        → EditMade kind G (a .0) (b .0)
+        (before neighbours degrees waves counts ranks trail moved tally) r
+        (after neighbours degrees waves counts ranks trail moved (r .tally))) ⌝ }
+{
+    let mut queue = [0u64; WORDS];
+    reset(&mut queue);
+    edit_held(
+        kind,
+        neighbours,
+        degrees,
+        waves,
+        counts,
+        ranks,
+        trail,
+        moved,
+        &mut queue,
+        tally,
+        a,
+        b,
+    )
 }

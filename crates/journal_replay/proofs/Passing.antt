@@ -17,6 +17,8 @@ use Rattle.memory.specs.Memory.{Memory, Ready}
 use Rattle.planner.specs.declared.Edited.{Edited}
 use Rattle.planner.specs.States.{State, make, setRank, begunBy, entryNumber, enter}
 use Rattle.planner.specs.inner.Held.{at, Fresh, HoldsState, tried, Stands, RankFits, EntryDone, Enters}
+use Rattle.planner.proofs.Made.{ready-banks}
+use Rattle.planner.proofs.Outcomes.{edited-banks}
 use Rattle.journal_fields.specs.declared.field.Field.{Field}
 use Rattle.journal_fields.specs.declared.field.Field.the-variants.{Whole, Wrong, Misnumbered, Short}
 use Rattle.journal_replay.specs.declared.rerun.Replayed.{Replayed}
@@ -133,6 +135,27 @@ module _ (w : Bool) where
   unfolding going
   going-on n i bytes s z = rw z
 
+-- a field leaves a plan of as many banks
+enter-banks : (e : Entry) (s : State) → enter e s .graph .banks ≡ s .graph .banks
+unfolding enter make setRank
+enter-banks (Clash k a b) s = edited-banks k (s .graph) (a .0) (b .0)
+enter-banks (Rank b r) s = refl
+
+step-banks : (f : Field) (s : State) → fieldStep f s .graph .banks ≡ s .graph .banks
+unfolding fieldStep
+step-banks (Whole e) s = enter-banks e s
+step-banks Wrong s = refl
+step-banks Misnumbered s = refl
+step-banks Short s = refl
+
+tried-banks : (n : ℕ) (new old : State) → new .graph .banks ≡ old .graph .banks → tried n new old .graph .banks ≡ old .graph .banks
+unfolding tried
+tried-banks zero new old e = e
+tried-banks (suc c) new old e = refl
+
+done-banks : (f : Field) (s : State) (n : ℕ) (begun : Bool) (m′ : Memory) → FieldDone f s n begun m′ → m′ .tally .banks ≡ s .graph .banks
+done-banks f s n begun m′ d = ready-banks _ m′ (d .stands .ready) ∙ tried-banks (fieldNumber f s) (fieldStep f s) s (step-banks f s)
+
 -- where a replay stands after a field
 pub record Ahead (journal : List ℕ) (w : Bool) (first : ℕ) (G : Graph) (m : Memory) (r : Entered) (m′ : Memory) : Type 0 where
   pub state : State
@@ -166,6 +189,10 @@ module _ (journal : List ℕ) (w : Bool) (first : ℕ) (G : Graph) (m : Memory) 
     -- memory holds a plan, at this point
     pub ahead-holds : HoldsState (r .begun) m′
     ahead-holds = (x .state .graph, x .stands .ready, fresh-now)
+
+    -- the next field leaves the number of banks
+    pub ahead-banks : (r′ : Entered) (m″ : Memory) → EntersField journal w (r .next) (r .field + 1) (r .begun) m′ r′ m″ → m″ .tally .banks ≡ m′ .tally .banks
+    ahead-banks r′ m″ d = done-banks _ _ _ _ m″ (d .of (x .state .graph) (x .stands .ready) fresh-now) ∙ sym (ready-banks _ m′ (x .stands .ready))
 
     now-at : x .state ≡ at (r .begun) (x .state .graph) m′
     now-at i = at (sym (x .begun-is z) i) (x .state .graph) (sym (x .stands .memory) i)

@@ -11,11 +11,15 @@ use journal_fields::read_field;
 use journal_fields::refusal;
 use memory::Tally;
 use opening::open_all;
+use queue::WORDS;
+use queue::reset;
 use rule::wide;
+ghost use mathlib.Core.Bool.{false};
 ghost use mathlib.Core.Path.{_≡_};
 ghost use Prim.Native.Nat.{_<_};
 ghost use lib.ListN.{length};
 ghost use Rattle.memory.specs.Lent.{given, before, after};
+ghost use Rattle.queue.specs.Queue.{Idle, Unranked};
 ghost use Rattle.journal_replay.specs.Replay.{replayResult, replayed};
 ghost use Rattle.journal_replay.specs.inner.Steps.{AsksField, EntersField, AsksFields, EntersFields, ending, refusedFirst};
 
@@ -57,13 +61,18 @@ fn enter_field(
     ranks: &mut [u16],
     trail: &mut [u16],
     moved: &mut [u16],
+    queue: &mut [u64; WORDS],
     tally: Tally,
     begun: bool,
 ) -> Entered
     requires { ⌜ AsksField (now journal) numbered start field begun (given neighbours degrees waves counts ranks trail moved tally) ⌝ }
+    requires { ⌜ Idle (tally .banks) (now ranks) (now queue) ⌝ }
+    requires { ⌜ (begun ≡ false → Unranked (now queue)) ⌝ }
     ensures { λ r. ⌜ EntersField (now (journal .entry)) numbered start field begun
         (before neighbours degrees waves counts ranks trail moved tally) r
         (after neighbours degrees waves counts ranks trail moved (r .tally)) ⌝ }
+    ensures { λ _. ⌜ Idle (tally .banks) (now (ranks .exit)) (now (queue .exit)) ⌝ }
+    ensures { λ r. ⌜ (r .begun ≡ false → Unranked (now (queue .exit))) ⌝ }
 {
     let next = start + entry_bytes(numbered);
     let number = wide(field) - 1;
@@ -85,6 +94,7 @@ fn enter_field(
         ranks,
         trail,
         moved,
+        queue,
         tally,
         begun,
         entry,
@@ -147,6 +157,8 @@ fn enter_fields(
 {
     let numbered = is_numbered(&journal[first..]);
     let size = entry_bytes(numbered);
+    let mut queue = [0u64; WORDS];
+    reset(&mut queue);
     let mut last = Entered {
         number: 0,
         field: 1,
@@ -167,6 +179,7 @@ fn enter_fields(
             ranks,
             trail,
             moved,
+            &mut queue,
             last.tally,
             last.begun,
         );

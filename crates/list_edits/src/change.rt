@@ -6,12 +6,15 @@ use memory::Tally;
 use planner::Answer;
 use planner::Edited;
 use planner::clashes_held;
+use queue::WORDS;
 use rule::Bank;
 use rule::Kind;
+ghost use mathlib.Core.Bool.{false};
 ghost use mathlib.Core.Path.{_≡_};
 ghost use Rattle.memory.specs.Lent.{given, before, after};
+ghost use Rattle.queue.specs.Queue.{Idle, Unranked};
 ghost use Rattle.planner.specs.inner.Held.{HoldsPlan};
-ghost use Rattle.list_pass.specs.inner.Steps.{Asks, Applies, StrikesAll};
+ghost use Rattle.list_pass.specs.inner.Steps.{changeBegun, Asks, Applies, StrikesAll};
 
 // Makes the edit of one row or sets its rank. The answer is that of its last edit.
 pub fn apply(
@@ -22,14 +25,19 @@ pub fn apply(
     ranks: &mut [u16],
     trail: &mut [u16],
     moved: &mut [u16],
+    queue: &mut [u64; WORDS],
     tally: Tally,
     begun: bool,
     change: Change,
 ) -> Edited
     requires { ⌜ Asks begun change (given neighbours degrees waves counts ranks trail moved tally) ⌝ }
+    requires { ⌜ Idle (tally .banks) (now ranks) (now queue) ⌝ }
+    requires { ⌜ (begun ≡ false → Unranked (now queue)) ⌝ }
     ensures { λ r. ⌜ Applies change begun
         (before neighbours degrees waves counts ranks trail moved tally) r
         (after neighbours degrees waves counts ranks trail moved (r .tally)) ⌝ }
+    ensures { λ _. ⌜ Idle (tally .banks) (now (ranks .exit)) (now (queue .exit)) ⌝ }
+    ensures { λ _. ⌜ (changeBegun change begun ≡ false → Unranked (now (queue .exit))) ⌝ }
 {
     match change {
         Change::One(entry) => enter_held(
@@ -40,6 +48,7 @@ pub fn apply(
             ranks,
             trail,
             moved,
+            queue,
             tally,
             begun,
             entry,
@@ -52,6 +61,7 @@ pub fn apply(
             ranks,
             trail,
             moved,
+            queue,
             tally,
             b,
         ),
@@ -67,13 +77,16 @@ fn strike_all(
     ranks: &[u16],
     trail: &mut [u16],
     moved: &mut [u16],
+    queue: &mut [u64; WORDS],
     tally: Tally,
     b: Bank,
 ) -> Edited
     requires { ⌜ HoldsPlan (given neighbours degrees waves counts ranks trail moved tally) ⌝ }
+    requires { ⌜ Idle (tally .banks) (now ranks) (now queue) ⌝ }
     ensures { λ r. ⌜ StrikesAll b
         (before neighbours degrees waves counts ranks trail moved tally) r
         (after neighbours degrees waves counts ranks trail moved (r .tally)) ⌝ }
+    ensures { λ _. ⌜ Idle (tally .banks) (now (ranks .entry)) (now (queue .exit)) ⌝ }
 {
     if tally.banks <= b.0 {
         return Edited {
@@ -108,6 +121,7 @@ fn strike_all(
             ranks,
             trail,
             moved,
+            queue,
             held,
             b,
             lowest,

@@ -8,9 +8,13 @@ use list_pass::not_taken;
 use list_rows::Row;
 use list_rows::read_row_in;
 use memory::Tally;
+use queue::WORDS;
+use queue::reset;
 use text::find;
+ghost use mathlib.Core.Bool.{false};
 ghost use mathlib.Core.Path.{_≡_};
 ghost use Rattle.memory.specs.Lent.{given, before, after};
+ghost use Rattle.queue.specs.Queue.{Idle, Unranked};
 ghost use Rattle.list_pass.specs.inner.Steps.{AsksRow, AsksRows, ReadsEdits, EditsRow};
 
 // Makes the edits of the rows after row `row`, the first of which starts at `first`.
@@ -33,6 +37,8 @@ pub fn read_edits(
         (before neighbours degrees waves counts ranks trail moved tally) r
         (after neighbours degrees waves counts ranks trail moved (r .tally)) ⌝ }
 {
+    let mut queue = [0u64; WORDS];
+    reset(&mut queue);
     let mut last = Step {
         number: 0,
         row: row,
@@ -53,6 +59,7 @@ pub fn read_edits(
             ranks,
             trail,
             moved,
+            &mut queue,
             last.tally,
             last.begun,
         );
@@ -78,13 +85,18 @@ fn edit_row(
     ranks: &mut [u16],
     trail: &mut [u16],
     moved: &mut [u16],
+    queue: &mut [u64; WORDS],
     tally: Tally,
     begun: bool,
 ) -> Step
     requires { ⌜ AsksRow (now list) start begun (given neighbours degrees waves counts ranks trail moved tally) ⌝ }
+    requires { ⌜ Idle (tally .banks) (now ranks) (now queue) ⌝ }
+    requires { ⌜ (begun ≡ false → Unranked (now queue)) ⌝ }
     ensures { λ r. ⌜ EditsRow (now (list .entry)) v2 start row begun
         (before neighbours degrees waves counts ranks trail moved tally) r
         (after neighbours degrees waves counts ranks trail moved (r .tally)) ⌝ }
+    ensures { λ _. ⌜ Idle (tally .banks) (now (ranks .exit)) (now (queue .exit)) ⌝ }
+    ensures { λ r. ⌜ (r .begun ≡ false → Unranked (now (queue .exit))) ⌝ }
 {
     let end = find(list, start, b'\n');
     let next = end + 1;
@@ -107,6 +119,7 @@ fn edit_row(
         ranks,
         trail,
         moved,
+        queue,
         tally,
         begun,
         change,

@@ -3,14 +3,14 @@ use mathlib.Core.Bool.{Bool, true, not}
 use mathlib.Core.List.{List}
 use mathlib.Core.Logic.{_≢_}
 use mathlib.Core.Path.{_≡_, sym, ap, _∙_}
-use Prim.Native.Nat.{ℕ, _+_, _*_, _-_, _/_, _%_, _<_}
+use Prim.Native.Nat.{ℕ, _+_, _*_, _-_, _/_, _%_, _<_, _≤_}
 use native.Mathlib.Decide.{ℕ-discrete}
 use native.Mathlib.Omega.{arith}
 use lib.Dec.{T, eqb, eqb→eq, not-T}
 use lib.ListN.{getD}
-use Rattle.rule.specs.Graph.{Graph}
+use Rattle.rule.specs.Graph.{Graph, degree}
 use Rattle.rule.proofs.Booleans.{is-true, T-along}
-use Rattle.queue.specs.Queue.{testBit, wordOf, waits, Queue, Keyed}
+use Rattle.queue.specs.Queue.{testBit, placeOf, bankAt, Unranked, Places, wordOf, waits, IsBit, Queue}
 use Rattle.queue.specs.inner.Words.{HasBit, Written}
 use Rattle.queue.proofs.Bits.{bit-none}
 
@@ -28,24 +28,60 @@ word-marked {q = q} queue i k l t = T-along (sym (queue .summary i l ∙ not-zer
 
 -- ---- the words
 
--- distinct banks have distinct bits
-same-bank : {G : Graph} → Keyed G → (x y : ℕ) → x < G .banks → y < G .banks → wordOf G x ≡ wordOf G y → x % 64 ≡ y % 64 → x ≡ y
-same-bank keyed x y lx ly e d = omega (arith, keyed .few)
+module _ (G : Graph) {q : List ℕ} (places : Places (G .banks) (G .rank) q) where
+  -- distinct banks have distinct bits
+  same-bank : (x y : ℕ) → x < G .banks → y < G .banks → wordOf G q x ≡ wordOf G q y → placeOf q x % 64 ≡ placeOf q y % 64 → x ≡ y
+  same-bank x y lx ly e d =
+      let same : placeOf q x ≡ placeOf q y = omega (arith, places .inside x lx, places .inside y ly) in
+      sym (places .back x lx) ∙ ap (bankAt q) same ∙ places .back y ly
 
--- the word of a bank is one of the first 384
-pub word-inside : {G : Graph} → Keyed G → (x : ℕ) → x < G .banks → wordOf G x < 384
-word-inside keyed x lx = omega (arith, keyed .few)
+  -- the word of a bank is one of the first 384
+  pub word-inside : (x : ℕ) → x < G .banks → wordOf G q x < 384
+  word-inside x lx = omega (arith, places .inside x lx)
+
+-- where the places are numbers, a bit's bank is its place
+pub number-named : {G : Graph} {q : List ℕ} → Queue G q → Unranked q → (i k : ℕ) → i < 384 → k < 64 → T (testBit (getD q i 0) k)
+    → (bankAt q (i % 16 * 64 + k) ≡ i % 16 * 64 + k) × (i % 16 * 64 + k < G .banks)
+number-named {q = q} queue plain i k l m t =
+    let n = queue .names i k l m t in
+    let e : bankAt q (i % 16 * 64 + k) ≡ i % 16 * 64 + k = sym (queue .places .numbered plain (bankAt q (i % 16 * 64 + k)) (n .bank)) ∙ n .place in
+    (e, omega (arith, n .bank))
+
+-- words of which only bits changed keep their places
+pub places-kept : {banks : ℕ} {rank : ℕ → ℕ} {q q′ : List ℕ} → ((i : ℕ) → 390 ≤ i → getD q′ i 0 ≡ getD q i 0) → Places banks rank q → Places banks rank q′
+places-kept {q = q} {q′ = q′} same places = record {
+  inside = λ x l. rw (place x) (places .inside x l);
+  back = λ x l. ap (bankAt q′) (place x) ∙ same (1414 + placeOf q x) (omega arith) ∙ places .back x l;
+  numbered = λ plain x l. place x ∙ places .numbered (sym flag ∙ plain) x l;
+  ranked = λ by x y lx ly t. rw (place x, place y) (places .ranked (λ plain. by (flag ∙ plain)) x y lx ly t);
+}
+  where
+    place : (x : ℕ) → placeOf q′ x ≡ placeOf q x
+    place x = same (390 + x) (omega arith)
+
+    flag : getD q′ 2438 0 ≡ getD q 2438 0
+    flag = same 2438 (omega arith)
 
 -- ---- the bit of v, and that of its word in the summary, written
 
-module _ {G : Graph} {q q₁ q₂ : List ℕ} {v w k : ℕ} {value mark : Bool} (keyed : Keyed G) (queue : Queue G q) (bank : v < G .banks) (own-word : w ≡ wordOf G v) (own-bit : k ≡ v % 64)
+module _ {G : Graph} {q q₁ q₂ : List ℕ} {v w k : ℕ} {value mark : Bool} (queue : Queue G q) (bank : v < G .banks) (own-word : w ≡ wordOf G q v) (own-bit : k ≡ placeOf q v % 64)
     (one : Written q q₁ w k value) (two : Written q₁ q₂ (384 + w / 64) (w % 64) mark) where
   inside : w < 384
-  inside = omega (arith, word-inside keyed v bank)
+  inside = omega (arith, word-inside G (queue .places) v bank)
 
   -- the first 384 words are as the first step left them
   after-one : (i : ℕ) → i < 384 → getD q₂ i 0 ≡ getD q₁ i 0
   after-one i l = two .elsewhere i (λ e. omega arith)
+
+  -- the words after those of bits stay
+  same-places : (i : ℕ) → 390 ≤ i → getD q₂ i 0 ≡ getD q i 0
+  same-places i l = two .elsewhere i (λ e. omega (arith, inside)) ∙ one .elsewhere i (λ e. omega (arith, inside))
+
+  place-kept : (x : ℕ) → placeOf q₂ x ≡ placeOf q x
+  place-kept x = same-places (390 + x) (omega arith)
+
+  word-kept : (x : ℕ) → wordOf G q₂ x ≡ wordOf G q x
+  word-kept x = ap (λ (p : ℕ). (23 - degree G x) * 16 + p / 64) (place-kept x)
 
   -- no bit changed but that of v
   kept : (i m : ℕ) → i < 384 → (i ≡ w → m ≡ k → ⊥) → testBit (getD q₂ i 0) m ≡ testBit (getD q i 0) m
@@ -53,11 +89,19 @@ module _ {G : Graph} {q q₁ q₂ : List ℕ} {v w k : ℕ} {value mark : Bool} 
       ap (λ (a : ℕ). testBit a m) (after-one i l)
       ∙ elim (ℕ-discrete i w) [ yes e ↦ rw e (one .others m (n e)) | no d ↦ ap (λ (a : ℕ). testBit a m) (one .elsewhere i d) ]
 
-  written-names : (i m : ℕ) → i < 384 → m < 64 → T (testBit (getD q₂ i 0) m) → (i % 16 * 64 + m < G .banks) × (i ≡ wordOf G (i % 16 * 64 + m))
-  written-names i m l s t = go (ℕ-discrete i w) (ℕ-discrete m k)
+  is-kept : (i m : ℕ) → IsBit G q i m (bankAt q (i % 16 * 64 + m)) → IsBit G q₂ i m (bankAt q₂ (i % 16 * 64 + m))
+  is-kept i m n =
+      rw (same-places (1414 + (i % 16 * 64 + m)) (omega arith))
+      (record { bank = n .bank; place = place-kept (bankAt q (i % 16 * 64 + m)) ∙ n .place; word = n .word ∙ sym (word-kept (bankAt q (i % 16 * 64 + m))) })
+
+  written-names : (i m : ℕ) → i < 384 → m < 64 → T (testBit (getD q₂ i 0) m) → IsBit G q₂ i m (bankAt q₂ (i % 16 * 64 + m))
+  written-names i m l s t = is-kept i m (go (ℕ-discrete i w) (ℕ-discrete m k))
     where
-      go : Dec (i ≡ w) → Dec (m ≡ k) → (i % 16 * 64 + m < G .banks) × (i ≡ wordOf G (i % 16 * 64 + m))
-      go (yes e) (yes f) = let own : i % 16 * 64 + m ≡ v = omega (arith, keyed .few) in rw own (bank, e ∙ own-word)
+      go : Dec (i ≡ w) → Dec (m ≡ k) → IsBit G q i m (bankAt q (i % 16 * 64 + m))
+      go (yes e) (yes f) =
+          let own : i % 16 * 64 + m ≡ placeOf q v = omega (arith, queue .places .inside v bank) in
+          let same : bankAt q (i % 16 * 64 + m) ≡ v = ap (bankAt q) own ∙ queue .places .back v bank in
+          rw same (record { bank = bank; place = sym own; word = e ∙ own-word })
       go (no n) d = queue .names i m l s (T-along (kept i m l (λ e f. n e)) t)
       go (yes e) (no n) = queue .names i m l s (T-along (kept i m l (λ e f. n f)) t)
 
@@ -75,6 +119,7 @@ module _ {G : Graph} {q q₁ q₂ : List ℕ} {v w k : ℕ} {value mark : Bool} 
   written-queue right = record {
     long = two .long;
     fits = two .fits;
+    places = places-kept same-places (queue .places);
     names = written-names;
     summary = λ i l. rw (after-one i l) (elim (ℕ-discrete i w) [
       | yes e ↦ rw e (two .own ∙ right)
@@ -85,11 +130,13 @@ module _ {G : Graph} {q q₁ q₂ : List ℕ} {v w k : ℕ} {value mark : Bool} 
   -- of the members only v can have changed
   pub written-own : waits G q₂ v ≡ value
   unfolding waits
-  written-own = rw (← own-word, ← own-bit, after-one w inside) (one .own)
+  written-own = rw (place-kept v, ← own-word, ← own-bit, after-one w inside) (one .own)
 
   pub written-other : (x : ℕ) → x < G .banks → x ≢ v → waits G q₂ x ≡ waits G q x
   unfolding waits
-  written-other x lx n = kept (wordOf G x) (x % 64) (word-inside keyed x lx) (λ e f. n (same-bank keyed x v lx bank (e ∙ own-word) (f ∙ own-bit)))
+  written-other x lx n =
+      rw (place-kept x) (kept (wordOf G q x) (placeOf q x % 64) (word-inside G (queue .places) x lx)
+      (λ e f. n (same-bank G (queue .places) x v lx bank (e ∙ own-word) (f ∙ own-bit))))
 
 -- what the two steps ask of the words
 pub word-bits : {G : Graph} {q : List ℕ} {w k : ℕ} → Queue G q → w < 384 → k < 64 → HasBit q w k

@@ -12,15 +12,15 @@ use lib.ListN.{length, getD}
 use Rattle.rule.specs.Graph.{Graph}
 use Rattle.rule.proofs.Booleans.{passes?, T-along, lt-or-ge}
 use Rattle.rule.proofs.Degrees.{two-digits}
-use Rattle.queue.specs.Queue.{testBit, Waiting}
+use Rattle.queue.specs.Queue.{testBit, Unranked, Waiting}
 use Rattle.queue.specs.inner.Words.{Head}
 use Rattle.queue.specs.inner.Ties.{tied, inDegree, keyOf, Candidates, KeyOfOne, Least, FirstOfDegree}
 use Rattle.queue.proofs.Bits.{LowestBit, trailing, bit-shifted, bit-kept}
 use Rattle.queue.proofs.Lowest.{withoutLowest, lowest, rest-part, rest-above, rest-gone, rest-fits, rest-less}
-use Rattle.queue.proofs.Banks.{zero-bit, word-marked}
+use Rattle.queue.proofs.Banks.{zero-bit, word-marked, number-named}
 
 -- a bank that comes before another has the smaller key
-tied-key : (rs : List ℕ) (x y : ℕ) → x < 1024 → y < 1024 → T (tied rs x y) → keyOf rs x < keyOf rs y
+pub tied-key : (rs : List ℕ) (x y : ℕ) → x < 1024 → y < 1024 → T (tied rs x y) → keyOf rs x < keyOf rs y
 unfolding tied
 tied-key rs x y lx ly t = ltb→lt (keyOf rs x) (keyOf rs y) (T-along (sym (two-digits (getD rs x 0) x (getD rs y 0) y lx ly)) t)
 
@@ -93,15 +93,15 @@ place words w i k l =
     let bit : (i * 64 + k) % 64 ≡ k = omega arith in
     rw (word, bit)
 
-module _ {G : Graph} {rs words : List ℕ} {w : ℕ} (wait : Waiting G rs words) (head : Head words w) where
+module _ {G : Graph} {rs words : List ℕ} {w : ℕ} (wait : Waiting G rs words) (head : Head words w) (plain : Unranked words) where
   -- the banks of the degree have ranks
   cells : (x : ℕ) → x < 1024 → T (inDegree words w x) → x < length rs
   unfolding inDegree
   cells x l t =
       let i = w / 16 * 16 + x / 64 in
-      let named = wait .queue .names i (x % 64) (omega (arith, head .inside)) (omega arith) t in
+      let named = number-named (wait .queue) plain i (x % 64) (omega (arith, head .inside)) (omega arith) t in
       let e : i % 16 * 64 + x % 64 ≡ x = omega arith in
-      omega (arith, named .0, e, wait .wide-ranks)
+      omega (arith, named .1, e, wait .wide-ranks)
 
   pub head-lowest : LowestBit 64 (getD words w 0) (trailingZeros 64 (getD words w 0))
   head-lowest = trailing 64 (getD words w 0) (head .some) (wait .queue .fits w)

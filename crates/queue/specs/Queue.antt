@@ -1,10 +1,11 @@
--- The priority queue of an edit: the banks that wait, in 390 words. A caller goes by `waits` and `Queue` alone.
+-- The priority queue of an edit: the banks that wait, in 2,439 words. A caller goes by `waits`, `Queue` and `Idle` alone.
 use mathlib.Core.Bool.{Bool, true, false, _&&_, _||_, not}
 use mathlib.Core.List.{List}
 use mathlib.Core.Path.{_≡_}
 use Prim.Native.Nat.{ℕ, _+_, _*_, _-_, _/_, _%_, _^_, _<_, _≤_}
 use lib.Dec.{T, eqb}
 use lib.ListN.{length, getD}
+use Rattle.rule.specs.Order.{tieBy}
 use Rattle.rule.specs.Graph.{Graph, degree}
 use Rattle.rule.specs.WorkList.{Next}
 
@@ -12,19 +13,45 @@ use Rattle.rule.specs.WorkList.{Next}
 unfoldable pub testBit : ℕ → ℕ → Bool
 testBit a k = eqb (a / 2 ^ k % 2) 1
 
--- the word of bank x: those of the highest degree come first, and in each degree 16 words of 64 banks
-abbrev pub wordOf : Graph → ℕ → ℕ
-wordOf G x = (23 - degree G x) * 16 + x / 64
+-- the place of bank x among the banks of its degree, and the bank of a place
+abbrev pub placeOf : List ℕ → ℕ → ℕ
+placeOf words x = getD words (390 + x) 0
+
+abbrev pub bankAt : List ℕ → ℕ → ℕ
+bankAt words p = getD words (1414 + p) 0
+
+-- no rank has been read: a bank's place is its number, whatever the ranks
+abbrev pub Unranked : List ℕ → Type 0
+Unranked words = getD words 2438 0 ≡ 0
+
+-- the places of so many banks: each has one of its own, which is its number or goes by rank and number
+pub record Places (banks : ℕ) (rank : ℕ → ℕ) (words : List ℕ) : Type 0 where
+  pub inside : (x : ℕ) → x < banks → placeOf words x < 1024
+  pub back : (x : ℕ) → x < banks → bankAt words (placeOf words x) ≡ x
+  pub numbered : Unranked words → (x : ℕ) → x < banks → placeOf words x ≡ x
+  pub ranked : (Unranked words → ⊥) → (x y : ℕ) → x < banks → y < banks → T (tieBy (rank x) x (rank y) y)
+      → placeOf words x < placeOf words y
+
+-- the word of bank x: those of the highest degree come first, and in each degree 16 words of 64 places
+abbrev pub wordOf : Graph → List ℕ → ℕ → ℕ
+wordOf G words x = (23 - degree G x) * 16 + placeOf words x / 64
 
 -- bank x is in the queue
 unfoldable pub waits : Graph → List ℕ → ℕ → Bool
-waits G words x = testBit (getD words (wordOf G x) 0) (x % 64)
+waits G words x = testBit (getD words (wordOf G words x) 0) (placeOf words x % 64)
 
--- the set bits of the first 384 words are those of banks of G, and the last six words have a bit for each of these words that is not 0
+-- bit k of word i is that of bank x
+pub record IsBit (G : Graph) (words : List ℕ) (i k x : ℕ) : Type 0 where
+  pub bank : x < G .banks
+  pub place : placeOf words x ≡ i % 16 * 64 + k
+  pub word : i ≡ wordOf G words x
+
+-- the set bits of the first 384 words are those of banks of G, and the next six words have a bit for each of these words that is not 0
 pub record Queue (G : Graph) (words : List ℕ) : Type 0 where
-  pub long : length words ≡ 390
+  pub long : length words ≡ 2439
   pub fits : (i : ℕ) → getD words i 0 < 2 ^ 64
-  pub names : (i k : ℕ) → i < 384 → k < 64 → T (testBit (getD words i 0) k) → (i % 16 * 64 + k < G .banks) × (i ≡ wordOf G (i % 16 * 64 + k))
+  pub places : Places (G .banks) (G .rank) words
+  pub names : (i k : ℕ) → i < 384 → k < 64 → T (testBit (getD words i 0) k) → IsBit G words i k (bankAt words (i % 16 * 64 + k))
   pub summary : (i : ℕ) → i < 384 → testBit (getD words (384 + i / 64) 0) (i % 64) ≡ not (eqb (getD words i 0) 0)
 
 -- the banks of G can be told by 1,024 numbers, and their degrees by 24
@@ -67,3 +94,11 @@ pub record Dequeued (G : Graph) (old new : List ℕ) (h : ℕ) : Type 0 where
   pub queue : Queue G new
   pub next : Next G (waits G old) h
   pub members : (x : ℕ) → x < G .banks → waits G new x ≡ (waits G old x && not (eqb x h))
+
+-- no bank waits, and the queue can serve plans of so many banks with the ranks in these cells
+pub record Idle (banks : ℕ) (rs words : List ℕ) : Type 0 where
+  pub few : banks ≤ 1024
+  pub long : length words ≡ 2439
+  pub fits : (i : ℕ) → getD words i 0 < 2 ^ 64
+  pub places : Places banks (λ x. getD rs x 0) words
+  pub zeros : (i : ℕ) → i < 390 → getD words i 0 ≡ 0

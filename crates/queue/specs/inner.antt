@@ -1,3 +1,4 @@
 -- What only this crate's own functions speak of.
 pub mod Words
 pub mod Ties
+pub mod Places

@@ -1,9 +1,12 @@
 // The priority queue of an edit: a bit for each degree and number, so that the degrees stand in the rule order and no bank stands there twice. A
 // summary has a bit for each word, so that the first word that is not 0 is found in a few steps. Among the banks of its degree ranks decide.
+mod places;
 mod queue;
 mod ties;
 mod words;
 
+pub use places::place_by_rank;
+pub use places::reset;
 pub use queue::dequeue;
 pub use queue::enqueue;
 pub use queue::is_empty;

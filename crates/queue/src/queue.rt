@@ -1,7 +1,11 @@
 // The banks of a queue: put in, taken out, the earliest first.
 use crate::ties::first_of_degree;
 use crate::words::BANK_WORDS;
+use crate::words::BIT_WORDS;
+use crate::words::BY_RANK;
 use crate::words::DEGREE_WORDS;
+use crate::words::PLACED;
+use crate::words::PLACES;
 use crate::words::WORD_BITS;
 use crate::words::WORDS;
 use crate::words::clear_bit;
@@ -14,6 +18,7 @@ ghost use Prim.Native.Nat.{ℕ};
 ghost use Rattle.rule.specs.Graph.{Graph};
 ghost use Rattle.queue.specs.Queue.{Queue, Keyed, Enqueuable, Enqueued, TellsEmpty, Waiting, Dequeued};
 ghost use Rattle.queue.specs.inner.Words.{Head};
+ghost use Rattle.queue.specs.inner.Ties.{FirstPlace};
 
 // If `put`, puts v into the queue.
 pub fn enqueue(degrees: &[u16], queue: &mut [u64; WORDS], v: Bank, put: bool)
@@ -23,8 +28,9 @@ pub fn enqueue(degrees: &[u16], queue: &mut [u64; WORDS], v: Bank, put: bool)
 {
     let at = v.0 as usize;
     let degree = degrees[at];
-    let word = (MOST_CLASHES - degree) as usize * DEGREE_WORDS + at / WORD_BITS;
-    set_bit(queue, word, at % WORD_BITS, put);
+    let place = queue[PLACES + at] as usize;
+    let word = (MOST_CLASHES - degree) as usize * DEGREE_WORDS + place / WORD_BITS;
+    set_bit(queue, word, place % WORD_BITS, put);
     set_bit(queue, BANK_WORDS + word / WORD_BITS, word % WORD_BITS, put);
 }
 
@@ -32,7 +38,7 @@ pub fn enqueue(degrees: &[u16], queue: &mut [u64; WORDS], v: Bank, put: bool)
 pub fn is_empty(queue: &[u64; WORDS]) -> bool
     ensures { λ r. ⌜ ((G : Graph) → Keyed G → Queue G (now (queue .entry)) → TellsEmpty G (now (queue .entry)) r) ⌝ }
 {
-    first_summary(queue) == WORDS
+    first_summary(queue) == BIT_WORDS
 }
 
 // The first word in which a bank waits, where some bank waits.
@@ -45,6 +51,18 @@ fn first_word(queue: &[u64; WORDS]) -> usize
     (at - BANK_WORDS) * WORD_BITS + u64::trailing_zeros(marks) as usize
 }
 
+// The place of the earliest bank, from the first word in which a bank waits. Where the places go by rank it is the lowest.
+fn first_place(ranks: &[u16], queue: &[u64; WORDS], word: usize) -> usize
+    requires { ⌜ ((G : Graph) × Waiting G (now ranks) (now queue)) ⌝ }
+    requires { ⌜ Head (now queue) word ⌝ }
+    ensures { λ r. ⌜ ((G : Graph) → Waiting G (now (ranks .entry)) (now (queue .entry)) → FirstPlace G (now (queue .entry)) word r) ⌝ }
+{
+    if queue[BY_RANK] == 0 {
+        return first_of_degree(ranks, queue, word);
+    }
+    word % DEGREE_WORDS * WORD_BITS + u64::trailing_zeros(queue[word]) as usize
+}
+
 // Takes the earliest bank out of the queue, where some bank waits.
 pub fn dequeue(ranks: &[u16], queue: &mut [u64; WORDS]) -> Bank
     requires { ⌜ ((G : Graph) × Waiting G (now ranks) (now queue)) ⌝ }
@@ -52,9 +70,10 @@ pub fn dequeue(ranks: &[u16], queue: &mut [u64; WORDS]) -> Bank
         → Dequeued G (now (queue .entry)) (now (queue .exit)) (r .0)) ⌝ }
 {
     let head = first_word(queue);
-    let number = first_of_degree(ranks, queue, head);
-    let word = head / DEGREE_WORDS * DEGREE_WORDS + number / WORD_BITS;
-    clear_bit(queue, word, number % WORD_BITS, true);
+    let place = first_place(ranks, queue, head);
+    let bank = queue[PLACED + place] as u16;
+    let word = head / DEGREE_WORDS * DEGREE_WORDS + place / WORD_BITS;
+    clear_bit(queue, word, place % WORD_BITS, true);
     let left = queue[word];
     clear_bit(
         queue,
@@ -62,5 +81,5 @@ pub fn dequeue(ranks: &[u16], queue: &mut [u64; WORDS]) -> Bank
         word % WORD_BITS,
         left == 0,
     );
-    Bank(number as u16)
+    Bank(bank)
 }

@@ -1,4 +1,4 @@
-// The first of the banks that wait in one degree: by rank, then by number.
+// The first of the banks that wait in one degree, by rank and then by number, where the places are the banks' numbers.
 use crate::words::BANK_WORDS;
 use crate::words::DEGREE_MARKS;
 use crate::words::DEGREE_WORDS;
@@ -10,7 +10,7 @@ ghost use mathlib.Core.Path.{_≡_};
 ghost use Prim.Native.Nat.{_<_, min};
 ghost use lib.ListN.{length};
 ghost use Rattle.rule.specs.Graph.{Graph};
-ghost use Rattle.queue.specs.Queue.{Waiting};
+ghost use Rattle.queue.specs.Queue.{Unranked, Waiting};
 ghost use Rattle.queue.specs.inner.Words.{Head};
 ghost use Rattle.queue.specs.inner.Ties.{keyOf, Candidates, Least, FirstOfDegree};
 
@@ -52,6 +52,7 @@ fn least_in_word(ranks: &[u16], bits: u64, base: usize, so_far: usize) -> usize
 pub fn first_of_degree(ranks: &[u16], queue: &[u64; WORDS], word: usize) -> usize
     requires { ⌜ ((G : Graph) × Waiting G (now ranks) (now queue)) ⌝ }
     requires { ⌜ Head (now queue) word ⌝ }
+    requires { ⌜ Unranked (now queue) ⌝ }
     ensures { λ r. ⌜ FirstOfDegree (now (ranks .entry)) (now (queue .entry)) word r ⌝ }
 {
     let head = queue[word];

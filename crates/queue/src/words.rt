@@ -8,13 +8,25 @@ ghost use Rattle.queue.specs.inner.Words.{HasBit, Written, First};
 // The words of the banks: those of the 24 degrees, 16 each, the highest degree first.
 pub const BANK_WORDS: usize = 384;
 
-// The words of a queue: those of the banks, and a summary with a bit for each of them.
-pub const WORDS: usize = 390;
+// The words of bits: those of the banks, and a summary with a bit for each of them.
+pub const BIT_WORDS: usize = 390;
+
+// From here on: the place of each bank among those of its degree.
+pub const PLACES: usize = 390;
+
+// From here on: the bank of each place.
+pub const PLACED: usize = 1414;
+
+// The last word: 0 if the places are the banks' numbers, else they go by rank.
+pub const BY_RANK: usize = 2438;
+
+// The words of a queue.
+pub const WORDS: usize = 2439;
 
 // The bits of a word.
 pub const WORD_BITS: usize = 64;
 
-// The words of a degree: a bit for each of the 1,024 banks.
+// The words of a degree: a bit for each of 1,024 places.
 pub const DEGREE_WORDS: usize = 16;
 
 // One more than what the summary can say of the words of a degree.
@@ -38,12 +50,12 @@ pub fn clear_bit(queue: &mut [u64; WORDS], word: usize, place: usize, out: bool)
     queue[word] = queue[word] ^ ((out as u64) << place);
 }
 
-// The first word of the summary that is not 0, or the number of words.
+// The first word of the summary that is not 0, or the number of words of bits.
 pub fn first_summary(queue: &[u64; WORDS]) -> usize
     ensures { λ r. ⌜ First (now (queue .entry)) r ⌝ }
 {
     let mut i = BANK_WORDS;
-    while i < WORDS {
+    while i < BIT_WORDS {
         if queue[i] != 0 {
             return i;
         }

@@ -26,9 +26,9 @@ use Rattle.memory.proofs.Cells.{cells-over}
 use Rattle.memory.proofs.Fronts.{front-over}
 use Rattle.steps.specs.declared.can_step.Progress.{Progress}
 use Rattle.memory.specs.Memory.{Memory}
-use Rattle.queue.specs.Queue.{waits, Queue, Keyed, Empty, TellsEmpty}
+use Rattle.queue.specs.Queue.{waits, Queue, Keyed, Empty, TellsEmpty, Idle}
 use Rattle.steps.specs.inner.Work.{Edit, new, Working, Steppable, Settled}
-use Rattle.queue.proofs.Queues.{none-waits, some-waits}
+use Rattle.queue.proofs.Queues.{none-waits, some-waits, queue-idle}
 use Rattle.steps.proofs.Counting.{counted-cong}
 use Rattle.steps.proofs.Shows.{keyed}
 use Rattle.steps.proofs.Stepping.{changed-not}
@@ -122,5 +122,8 @@ module _ {e : Edit} {m : Memory} {q : List ℕ} {p : Progress} (wk : Working e m
         top = wk .top;
       }
 
-pub settled : {e : Edit} {m : Memory} {q : List ℕ} {p : Progress} (wk : Working e m q p) {r : Bool} → Tells q r → not r ≡ false → Settled e m p
-settled wk tells end = all-settled wk (empty wk tells end)
+pub settled : {e : Edit} {m : Memory} {q : List ℕ} {p : Progress} (wk : Working e m q p) {r : Bool} → Tells q r → not r ≡ false
+    → Settled e m p × Idle (new e .banks) (m .slices .ranks) q
+settled {m = m} wk tells end =
+    let none = empty wk tells end in
+    (all-settled wk none, queue-idle (wk .queue) none (keyed (wk .shown)) (m .slices .ranks) (wk .shown .ranked .cells))

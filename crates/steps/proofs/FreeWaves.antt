@@ -93,4 +93,4 @@ module _ {cells : List ℕ} {free : ℕ} (all : FreeBits cells free 24) (small :
       lowestFree-only (wavesIn cells) at
       (λ m. let none = eqb→eq (getD cells at 0) 0 (T-along (all .bits at first-small) (first .set)) in let z : ⊥ = omega (arith, waves-in cells at m .1, none) in absurd z)
       (λ c l. let inside : c < 24 = omega (arith, first-small) in
-        in-waves cells c inside (pos (getD cells c 0) (λ e. first .below c l (T-along (sym (all .bits c inside)) (eq→eqb (getD cells c 0) 0 e)))))
+      in-waves cells c inside (pos (getD cells c 0) (λ e. first .below c l (T-along (sym (all .bits c inside)) (eq→eqb (getD cells c 0) 0 e)))))

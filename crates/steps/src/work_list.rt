@@ -5,7 +5,8 @@ use crate::highest::Highest;
 use queue::WORDS;
 use queue::is_empty;
 ghost use Rattle.memory.specs.Lent.{given, before, after};
-ghost use Rattle.steps.specs.inner.Work.{Edit, begun, Working, Settled};
+ghost use Rattle.queue.specs.Queue.{Idle};
+ghost use Rattle.steps.specs.inner.Work.{Edit, new, begun, Working, Settled};
 
 // Takes up the queue's banks, the earliest first, until none waits. Before that `most` waves are in use.
 pub fn settle(
@@ -23,7 +24,8 @@ pub fn settle(
         × Working e (given neighbours degrees waves counts ranks trail moved (e .was .tally)) (now queue) (begun most)) ⌝ }
     ensures { λ r. ⌜ ((e : Edit)
         → Working e (before neighbours degrees waves counts ranks trail moved (e .was .tally)) (now (queue .entry)) (begun most)
-        → Settled e (after neighbours degrees waves counts ranks trail moved (e .was .tally)) r) ⌝ }
+        → Settled e (after neighbours degrees waves counts ranks trail moved (e .was .tally)) r
+        × Idle (new e .banks) (now (ranks .entry)) (now (queue .exit))) ⌝ }
 {
     let top = Highest {
         most: most,

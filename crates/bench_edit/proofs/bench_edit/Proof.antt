@@ -10,14 +10,17 @@ tally-in-requires c κs = search needs
 
 edit-held-requires : tie.Need-edit-held-requires
 edit-held-requires c κs =
-    let read = c .before .before .before .before .before .before in
-    held _ _ (read .tally-in .ensures) (read .before .before .before .before .before .before .before .before .before .before .before .pre .1)
+    let read = c .before .before .before .before .before .before .before in
+    let pre = read .before .before .before .before .before .before .before .before .before .before .before .pre in
+    (held _ _ (read .tally-in .ensures) (pre .1 .0), rw (read .tally-in .ensures) (pre .1 .1))
 
 slice-aggregate-put-answer : tie.Need-slice-aggregate-put-answer
 slice-aggregate-put-answer c = search needs
 
 put-answer-requires : tie.Need-put-answer-requires
-put-answer-requires c κs = omega (arith, c .before .before .before .before .before .before .before .before .before .before .before .before .before .before .before .before)
+put-answer-requires c κs =
+    let core = c .before .before .before .before .before .before .before .before .before .before .before .before .before .before .before in
+    omega (arith, core .before .before .before .before .before .before .before .before .before .before .before .before .before .before .before .before .before .before .before .pre .0)
 
 same-length : tie.Need-same-length
 same-length c = search needs
@@ -44,11 +47,13 @@ same-length-8 : tie.Need-same-length-8
 same-length-8 c = search needs
 
 returns : tie.Need-returns
-returns c G ready =
+returns c =
     let put = c .before .before .before .before in
     let core = put .before .before .before .before .before .before .before .before .before .before .before .before .before .before .before .before in
-    let at = core .before .before .before .before .before .before .before .tally-in .ensures in
-    held-done _ _ at _ G _ _ _ _ _ _ _ _ (core .edit-held .ensures) ready (put .put-answer .ensures .0) (put .put-answer .ensures .1)
+    let at = core .before .before .before .before .before .before .before .before .tally-in .ensures in (
+      λ G ready. held-done _ _ at _ G _ _ _ _ _ _ _ _ (core .edit-held .ensures .0) ready (put .put-answer .ensures .0) (put .put-answer .ensures .1),
+      rw (← at) (core .edit-held .ensures .1),
+    )
 
 pub bench-edit-spec : {M : Type 1} → statement M
 bench-edit-spec =

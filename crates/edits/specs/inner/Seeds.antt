@@ -36,7 +36,7 @@ pub record Turning (from : Search) (s : Slices) (q : List ℕ) (n y d i : ℕ) :
 pub record Seedable (e : Edit) (s : Slices) (q : List ℕ) (n : ℕ) (before : Degrees) : Type 0 where
   pub edit : OneEdit (e .old) (new e) (e .a) (e .b)
   pub counts : Recounting (new e) s (s .counts) q n
-  pub empty : (x : ℕ) → waits (new e) q x ≡ false
+  pub empty : (x : ℕ) → x < n → waits (new e) q x ≡ false
   pub bankA : e .a < n
   pub bankB : e .b < n
   pub degreeA : before .a ≡ degree (e .old) (e .a)

@@ -7,13 +7,14 @@ use Prim.Native.Nat.{ℕ, _+_, _*_, _/_, _%_, _^_, _<_, _≤_}
 use lib.Dec.{T}
 use lib.ListN.{length, getD}
 use Rattle.rule.specs.Order.{tieBy}
-use Rattle.queue.specs.Queue.{testBit}
+use Rattle.rule.specs.Graph.{Graph}
+use Rattle.queue.specs.Queue.{testBit, placeOf, bankAt}
 
 -- of two banks of one degree: x comes before y, by the ranks in their cells
 unfoldable pub tied : List ℕ → ℕ → ℕ → Bool
 tied rs x y = tieBy (getD rs x 0) x (getD rs y 0) y
 
--- bank x waits, in the degree that word w belongs to
+-- the bank of place x waits, in the degree that word w belongs to
 unfoldable pub inDegree : List ℕ → ℕ → ℕ → Bool
 inDegree words w x = testBit (getD words (w / 16 * 16 + x / 64) 0) (x % 64)
 
@@ -42,3 +43,10 @@ pub record FirstOfDegree (rs words : List ℕ) (w r : ℕ) : Type 0 where
   pub inside : r < 1024
   pub waits : T (inDegree words w r)
   pub first : (x : ℕ) → x < 1024 → T (inDegree words w x) → T (tied rs x r) → ⊥
+
+-- of the banks that wait in the degree of word w, that of place r comes first
+pub record FirstPlace (G : Graph) (words : List ℕ) (w r : ℕ) : Type 0 where
+  pub inside : r < 1024
+  pub waits : T (inDegree words w r)
+  pub first : (x : ℕ) → x < G .banks → T (inDegree words w (placeOf words x))
+      → T (tieBy (G .rank x) x (G .rank (bankAt words r)) (bankAt words r)) → ⊥

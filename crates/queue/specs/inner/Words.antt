@@ -7,16 +7,16 @@ use Prim.Native.Nat.{ℕ, _^_, _<_, _≤_}
 use lib.ListN.{length, getD}
 use Rattle.queue.specs.Queue.{testBit}
 
--- word w has a bit k, and each word has 64 bits
+-- word w, one of those of bits, has a bit k, and each word has 64 bits
 pub record HasBit (words : List ℕ) (w k : ℕ) : Type 0 where
   pub word : w < 390
   pub place : k < 64
-  pub long : length words ≡ 390
+  pub long : length words ≡ 2439
   pub fits : (i : ℕ) → getD words i 0 < 2 ^ 64
 
 -- bit k of word w became `value`, and no other bit changed
 pub record Written (old new : List ℕ) (w k : ℕ) (value : Bool) : Type 0 where
-  pub long : length new ≡ 390
+  pub long : length new ≡ 2439
   pub fits : (i : ℕ) → getD new i 0 < 2 ^ 64
   pub own : testBit (getD new w 0) k ≡ value
   pub others : (m : ℕ) → m ≢ k → testBit (getD new w 0) m ≡ testBit (getD old w 0) m

@@ -7,8 +7,8 @@ use Rattle.capped_edits.proofs.within.edit_within.Tie as tie
 unlimited-requires : tie.Need-unlimited-requires
 unlimited-requires c κs = search needs
 
-edit-held-requires : tie.Need-edit-held-requires
-edit-held-requires c κs = c .before .before .before .before .before .before .before .before .before .before .before .before .before .before .before .pre
+edit-alone-requires : tie.Need-edit-alone-requires
+edit-alone-requires c κs = c .before .before .before .before .before .before .before .before .before .before .before .before .before .before .before .pre
 
 same-length : tie.Need-same-length
 same-length c = search needs
@@ -32,7 +32,7 @@ returns : tie.Need-returns
 returns c =
     let at1 = c .before .before .before .before .before .before .before .before .before .before in
     let free = at1 .before .before .before .before .before .before .before .before .before in
-    λ G ready. wide-within ready (free .before .unlimited .ensures (free .if1 .taken) .0) (free .before .unlimited .ensures (free .if1 .taken) .1) (at1 .before .before .edit-held .ensures G ready)
+    λ G ready. wide-within ready (free .before .unlimited .ensures (free .if1 .taken) .0) (free .before .unlimited .ensures (free .if1 .taken) .1) (at1 .before .before .edit-alone .ensures G ready)
 
 edit-apart-requires : tie.Need-edit-apart-requires
 edit-apart-requires c κs = c .before .before .before .before .before .before .before .before .before .before .before .before .before .before .before .pre
@@ -63,7 +63,7 @@ edit-within-spec =
     tie.close
     (tie.spec
     unlimited-requires
-    edit-held-requires
+    edit-alone-requires
     same-length
     same-length-2
     same-length-3

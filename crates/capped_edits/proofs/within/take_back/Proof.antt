@@ -6,8 +6,8 @@ use Rattle.capped_edits.proofs.within.take_back.Tie as tie
 opposite-requires : tie.Need-opposite-requires
 opposite-requires c κs = search needs
 
-edit-held-requires : tie.Need-edit-held-requires
-edit-held-requires c κs = search needs
+edit-alone-requires : tie.Need-edit-alone-requires
+edit-alone-requires c κs = search needs
 
 same-length : tie.Need-same-length
 same-length c = search needs
@@ -30,14 +30,14 @@ same-length-6 c = search needs
 returns : tie.Need-returns
 returns c =
     let e = c .before .before .before .before .before .before .before .before .before .before .before .before in
-    λ G ready. rw (e .before .before .before .before .before .before .before .opposite .ensures) at (e .edit-held .ensures G ready)
+    λ G ready. rw (e .before .before .before .before .before .before .before .opposite .ensures) at (e .edit-alone .ensures G ready)
 
 pub take-back-spec : {M : Type 1} → statement M
 take-back-spec =
     tie.close
     (tie.spec
     opposite-requires
-    edit-held-requires
+    edit-alone-requires
     same-length
     same-length-2
     same-length-3

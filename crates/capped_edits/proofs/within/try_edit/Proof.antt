@@ -5,8 +5,8 @@ use Rattle.capped_edits.proofs.Unmade.{made-ready, first-refused, kept,
 use Rattle.capped_edits.proofs.within.try_edit.Statement.{statement}
 use Rattle.capped_edits.proofs.within.try_edit.Tie as tie
 
-edit-held-requires : tie.Need-edit-held-requires
-edit-held-requires c κs = c .before .before .before .before .before .before .before .before .before .before .before .before .before .pre
+edit-alone-requires : tie.Need-edit-alone-requires
+edit-alone-requires c κs = c .before .before .before .before .before .before .before .before .before .before .before .before .before .pre
 
 same-length : tie.Need-same-length
 same-length c = search needs
@@ -28,7 +28,7 @@ same-length-6 c = search needs
 
 returns : tie.Need-returns
 returns c =
-    let e = c .before .before .before .before .before .before .before .before .before .before .before .before .before .before .edit-held .ensures in
+    let e = c .before .before .before .before .before .before .before .before .before .before .before .before .before .before .edit-alone .ensures in
     λ G ready. first-refused (e G ready) _ (c .if1 .taken)
 
 late-number-requires : tie.Need-late-number-requires
@@ -54,7 +54,7 @@ same-length-12 c = search needs
 
 returns-2 : tie.Need-returns-2
 returns-2 c =
-    let e = c .before .before .before .before .before .before .before .before .before .before .before .before .before .before .before .before .edit-held .ensures in
+    let e = c .before .before .before .before .before .before .before .before .before .before .before .before .before .before .before .before .edit-alone .ensures in
     λ G ready. kept (e G ready) _ (c .before .before .if1 .left) (sym (c .before .late-number .ensures) ∙ c .if2 .taken)
 
 take-back-requires : tie.Need-take-back-requires
@@ -62,7 +62,7 @@ take-back-requires c κs =
     let at1 = c .before .before .before .before .before .before .before .before .before .before in
     let at2 = at1 .before .before .before .before .before .before .before .before .before .before in
     let at3 = at2 .before .before .before .before .before .before .before .before .before .before in
-    let e = at2 .before .before .edit-held .ensures in
+    let e = at2 .before .before .edit-alone .ensures in
     let p = at3 .before .before .before .before .before .before .pre in
     (_, made-ready (e (p .0) (p .1)) (c .before .before .before .before .before .before .before .before .if1 .left))
 
@@ -111,7 +111,7 @@ returns-3 c =
     let two = back .before .before .before .before .before .before .before in
     let late = two .before in
     let first = late .before in
-    let e = first .before .before .before .before .before .before .before .before .before .before .before .before .before .before .edit-held .ensures in
+    let e = first .before .before .before .before .before .before .before .before .before .before .before .before .before .before .edit-alone .ensures in
     λ G ready.
     unmade (e G ready) ready (first .if1 .left) (back .take-back .ensures _ (made-ready (e G ready) (first .if1 .left))) _ (late .late-number .result)
     (late .late-number .ensures) (two .if2 .left)
@@ -120,7 +120,7 @@ pub try-edit-spec : {M : Type 1} → statement M
 try-edit-spec =
     tie.close
     (tie.spec
-    edit-held-requires
+    edit-alone-requires
     same-length
     same-length-2
     same-length-3

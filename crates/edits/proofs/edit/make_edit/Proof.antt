@@ -10,22 +10,25 @@ use Rattle.edits.proofs.edit.make_edit.Statement.{statement}
 use Rattle.edits.proofs.edit.make_edit.Tie as tie
 
 count-after-requires : tie.Need-count-after-requires
-count-after-requires c κs = number-fits (c .before .before .before .before .before .before .before .pre .1)
+count-after-requires c κs = number-fits (c .before .before .before .before .before .before .before .pre .0 .1)
 
 change-clash-requires : tie.Need-change-clash-requires
 change-clash-requires c κs =
     let p = c .before .before .before .before .before .before .before .before .before .before .pre in
-    (p .0, rowed-before (p .1), p .1 .acceptable)
+    (p .0 .0, rowed-before (p .0 .1), p .0 .1 .acceptable)
 
 propagate-requires : tie.Need-propagate-requires
 propagate-requires c κs =
-    let at = c .before .before .before .before .before .before .before .before .before .before in
+    let at = c .before .before .before .before .before .before .before .before .before .before .before in
     let start = at .before .before .before .before .before .before .before .before .before .before .before in
     let a = start .args in
-    let ed = start .pre .1 in
-    let rows = at .change-clash .ensures (start .pre .0) (rowed-before ed) (ed .acceptable) in (
-      originOf _ _ (given (a .neighbours) (a .degrees) (a .waves) (a .counts) (a .ranks) (a .trail) (a .moved) (a .tally)),
-      changed-from ed rows (at .before .before .before .count-after .ensures ∙ clashes-after ed),
+    let ed = start .pre .0 .1 in
+    let rows = at .change-clash .ensures (start .pre .0 .0) (rowed-before ed) (ed .acceptable) in (
+      (
+        originOf _ _ (given (a .neighbours) (a .degrees) (a .waves) (a .counts) (a .ranks) (a .trail) (a .moved) (a .tally)),
+        changed-from ed rows (at .before .before .before .count-after .ensures ∙ clashes-after ed),
+      ),
+      start .pre .1,
     )
 
 same-length : tie.Need-same-length
@@ -49,12 +52,15 @@ same-length-6 c = search needs
 returns : tie.Need-returns
 returns c =
     let done = c .before .before .before .before .before .before .before .before in
-    let at = done .before .before .before .before .before .before .before .before .before .before .before in
-    let a = at .before .before .before .before .before .before .before .before .before .before .before .args in
-    λ G ed.
-    done .propagate .ensures
-    (originOf _ G (given (a .neighbours) (a .degrees) (a .waves) (a .counts) (a .ranks) (a .trail) (a .moved) (a .tally)))
-    (changed-from ed (at .change-clash .ensures G (rowed-before ed) (ed .acceptable)) (at .before .before .before .count-after .ensures ∙ clashes-after ed))
+    let at = done .before .before .before .before .before .before .before .before .before .before .before .before in
+    let start = at .before .before .before .before .before .before .before .before .before .before .before in
+    let a = start .args in (
+      λ G ed.
+          done .propagate .ensures .0
+          (originOf _ G (given (a .neighbours) (a .degrees) (a .waves) (a .counts) (a .ranks) (a .trail) (a .moved) (a .tally)))
+          (changed-from ed (at .change-clash .ensures G (rowed-before ed) (ed .acceptable)) (at .before .before .before .count-after .ensures ∙ clashes-after ed)),
+      done .propagate .ensures .1,
+    )
 
 pub make-edit-spec : {M : Type 1} → statement M
 make-edit-spec =

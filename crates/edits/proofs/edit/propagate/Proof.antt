@@ -1,26 +1,26 @@
 -- `propagate`: the seeds are queued and counted anew, the queue is settled, and the outcome is that of `Propagating`.
 use borrow.Author.Needs.{needs}
 use native.Mathlib.Omega.{arith}
-use Rattle.edits.proofs.Propagating.{seedable, working, count-in, waves-small, top-after, few-taken, outcome}
+use Rattle.edits.proofs.Propagating.{seedable, working, count-in, waves-small, top-after, few-taken, outcome, idle-after}
 use Rattle.edits.proofs.edit.propagate.Statement.{statement}
 use Rattle.edits.proofs.edit.propagate.Tie as tie
 
 queue-seeds-requires : tie.Need-queue-seeds-requires
-queue-seeds-requires c κs = let pre = c .before .before .before .before .before .before .before .before .before .before .pre in (pre .0, seedable (pre .1))
+queue-seeds-requires c κs = let pre = c .before .before .before .before .before .before .before .before .before .before .pre in (pre .0 .0, seedable (pre .0 .1) (pre .1))
 
 settle-requires : tie.Need-settle-requires
 settle-requires c κs =
     let seeds = c .before .before .before .before .before .before .before in
     let pre = seeds .before .before .before .before .before .before .before .before .before .before .before .pre in
-    (_, working (pre .1) (seeds .queue-seeds .ensures (pre .0) (seedable (pre .1))))
+    (_, working (pre .0 .1) (seeds .queue-seeds .ensures (pre .0 .0) (seedable (pre .0 .1) (pre .1))))
 
 waves-after-requires : tie.Need-waves-after-requires
 waves-after-requires c κs =
     let done = c .before .before .before .before .before .before .before .before .before .before in
     let seeds = done .before .before .before .before .before .before .before .before in
     let pre = seeds .before .before .before .before .before .before .before .before .before .before .before .pre in
-    let ch = pre .1 in
-    let st = done .settle .ensures _ (working ch (seeds .queue-seeds .ensures (pre .0) (seedable ch))) in
+    let ch = pre .0 .1 in
+    let st = done .settle .ensures _ (working ch (seeds .queue-seeds .ensures (pre .0 .0) (seedable ch (pre .1)))) .0 in
     (count-in ch st, (waves-small ch st, top-after ch st))
 
 cast-t35 : tie.Need-cast-t35
@@ -28,8 +28,8 @@ cast-t35 c =
     let done = c .before .before .before .before .before .before .before .before .before .before .before .before in
     let seeds = done .before .before .before .before .before .before .before .before in
     let pre = seeds .before .before .before .before .before .before .before .before .before .before .before .pre in
-    let ch = pre .1 in
-    let st = done .settle .ensures _ (working ch (seeds .queue-seeds .ensures (pre .0) (seedable ch))) in
+    let ch = pre .0 .1 in
+    let st = done .settle .ensures _ (working ch (seeds .queue-seeds .ensures (pre .0 .0) (seedable ch (pre .1)))) .0 in
     omega (arith, few-taken ch st, st .fewer)
 
 cast-t36 : tie.Need-cast-t36
@@ -37,8 +37,8 @@ cast-t36 c =
     let done = c .before .before .before .before .before .before .before .before .before .before .before .before .before in
     let seeds = done .before .before .before .before .before .before .before .before in
     let pre = seeds .before .before .before .before .before .before .before .before .before .before .before .pre in
-    let ch = pre .1 in
-    let st = done .settle .ensures _ (working ch (seeds .queue-seeds .ensures (pre .0) (seedable ch))) in
+    let ch = pre .0 .1 in
+    let st = done .settle .ensures _ (working ch (seeds .queue-seeds .ensures (pre .0 .0) (seedable ch (pre .1)))) .0 in
     omega (arith, few-taken ch st)
 
 same-length : tie.Need-same-length
@@ -56,9 +56,12 @@ same-length-4 c = search needs
 returns : tie.Need-returns
 returns c =
     let done = c .before .before .before .before .before .before .before .before .before .before .before .before .before in
-    let seeds = done .before .before .before .before .before .before .before .before .queue-seeds .ensures in
-    let most = c .before .before .waves-after in
-    λ o ch. outcome ch (done .settle .ensures _ (working ch (seeds o (seedable ch)))) (most .result) (most .ensures)
+    let seeds = done .before .before .before .before .before .before .before .before in
+    let pre = seeds .before .before .before .before .before .before .before .before .before .before .before .pre in
+    let most = c .before .before .waves-after in (
+      λ o ch. outcome ch (done .settle .ensures _ (working ch (seeds .queue-seeds .ensures o (seedable ch (pre .1)))) .0) (most .result) (most .ensures),
+      idle-after (pre .0 .1) (done .settle .ensures _ (working (pre .0 .1) (seeds .queue-seeds .ensures (pre .0 .0) (seedable (pre .0 .1) (pre .1)))) .1),
+    )
 
 pub propagate-spec : {M : Type 1} → statement M
 propagate-spec =

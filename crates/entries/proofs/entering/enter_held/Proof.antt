@@ -4,20 +4,24 @@ use native.Mathlib.Omega.{arith}
 use Rattle.planner.specs.inner.Held.{RankFits}
 use Rattle.planner.proofs.Made.{ready-banks}
 use Rattle.planner.proofs.RanksSet.{clash-entered, rank-entered, ranks-wide, rank-of}
+use Rattle.entries.proofs.Queued.{idle-ranked, clash-begun, rank-begun}
 use Rattle.entries.proofs.entering.enter_held.Statement.{statement}
 use Rattle.entries.proofs.entering.enter_held.Tie as tie
 
 enum-known-entry : tie.Need-enum-known-entry
 enum-known-entry c = search needs
 
-edit-held-requires : tie.Need-edit-held-requires
-edit-held-requires c κs = let h = c .before .before .before .before .before .before .before .before .before .before .before .before .before .before .before .before .before .pre .held in (h .0, h .1)
+edit-placed-requires : tie.Need-edit-placed-requires
+edit-placed-requires c κs =
+    let pre = c .before .before .before .before .before .before .before .before .before .before .before .before .before .before .before .before .before .before .pre in
+    let h = pre .0 .held in
+    ((h .0, h .1), pre .1 .0)
 
 enum-known-entry-2 : tie.Need-enum-known-entry-2
 enum-known-entry-2 c = search needs
 
 rank-held-requires : tie.Need-rank-held-requires
-rank-held-requires c κs = let h = c .before .before .before .before .before .before .before .before .before .before .before .pre .held in ranks-wide (h .0) _ (h .1)
+rank-held-requires c κs = let h = c .before .before .before .before .before .before .before .before .before .before .before .pre .0 .held in ranks-wide (h .0) _ (h .1)
 
 same-length : tie.Need-same-length
 same-length c = search needs
@@ -43,7 +47,10 @@ same-length-7 c = search needs
 returns : tie.Need-returns
 returns c =
     let made = c .before .before .before .before .before .before .before .before .before .before .before .before in
-    record { of = λ G h f. rw (made .before .before .before .before .before .before .before .before .before .entry .given .1) (clash-entered _ _ _ _ G _ _ _ (made .edit-held .ensures G h) f) }
+    let is = made .before .before .before .before .before .before .before .before .before .before .entry .given .1 in (
+      record { of = λ G h f. rw is (clash-entered _ _ _ _ G _ _ _ (made .edit-placed .ensures .0 G h) f) },
+      (made .edit-placed .ensures .1, λ f. absurd (clash-begun _ is f)),
+    )
 
 same-length-8 : tie.Need-same-length-8
 same-length-8 c = search needs
@@ -52,15 +59,18 @@ returns-2 : tie.Need-returns-2
 returns-2 c =
     let made = c .before .before in
     let is = made .before .before .before .entry2 .given .1 in
-    let fits = rank-of is (made .before .before .before .before .before .before .before .before .before .before .before .before .pre .fits) in
-    record { of = λ G h f. rw is (rank-entered _ _ _ h f fits (made .rank-held .ensures)) }
+    let pre = made .before .before .before .before .before .before .before .before .before .before .before .before .pre in
+    let fits = rank-of is (pre .0 .fits) in (
+      record { of = λ G h f. rw is (rank-entered _ _ _ h f fits (made .rank-held .ensures)) },
+      (idle-ranked _ (made .rank-held .ensures) (pre .1 .0) (pre .1 .1), λ f. pre .1 .1 (rank-begun _ is f)),
+    )
 
 pub enter-held-spec : {M : Type 1} → statement M
 enter-held-spec =
     tie.close
     (tie.spec
     enum-known-entry
-    edit-held-requires
+    edit-placed-requires
     enum-known-entry-2
     rank-held-requires
     same-length

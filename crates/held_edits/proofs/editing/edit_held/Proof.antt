@@ -7,7 +7,7 @@ use Rattle.held_edits.proofs.editing.edit_held.Statement.{statement}
 use Rattle.held_edits.proofs.editing.edit_held.Tie as tie
 
 edit-number-requires : tie.Need-edit-number-requires
-edit-number-requires c κs = let held = c .before .before .before .before .before .before .before .before .before .before .before .pre in (held .0, held .1 .plan)
+edit-number-requires c κs = let held = c .before .before .before .before .before .before .before .before .before .before .before .pre .0 in (held .0, held .1 .plan)
 
 refuse-requires : tie.Need-refuse-requires
 refuse-requires c κs = search needs
@@ -27,18 +27,21 @@ same-length-4 c = search needs
 returns : tie.Need-returns
 returns c =
     let n = c .before .before in
-    let a = n .before .before .before .before .before .before .before .before .before .before .before .before .args in
-    λ G ready.
-    edit-refused _ G _ _ (given (a .neighbours) (a .degrees) (a .waves) (a .counts) (a .ranks) (a .trail) (a .moved) (a .tally)) ready
-    (n .edit-number .result) (n .edit-number .ensures G (ready .plan)) (c .before .if1 .taken) (c .refuse .result) (c .refuse .ensures .0) (c .refuse .ensures .1)
+    let start = n .before .before .before .before .before .before .before .before .before .before .before .before in
+    let a = start .args in (
+      λ G ready.
+          edit-refused _ G _ _ (given (a .neighbours) (a .degrees) (a .waves) (a .counts) (a .ranks) (a .trail) (a .moved) (a .tally)) ready
+          (n .edit-number .result) (n .edit-number .ensures G (ready .plan)) (c .before .if1 .taken) (c .refuse .result) (c .refuse .ensures .0) (c .refuse .ensures .1),
+      start .pre .1,
+    )
 
 make-edit-requires : tie.Need-make-edit-requires
 make-edit-requires c κs =
-    let at1 = c .before .before .before .before .before .before in
-    let at2 = at1 .before in
-    let n = at2 in
-    let held = n .before .before .before .before .before .before .before .before .before .before .before .before .pre in
-    (held .0, editable _ _ _ (held .1) (sym (at1 .if1 .left) ∙ n .edit-number .ensures (held .0) (held .1 .plan)))
+    let at1 = c .before .before .before .before .before .before .before in
+    let n = at1 .before in
+    let pre = n .before .before .before .before .before .before .before .before .before .before .before .before .pre in
+    let held = pre .0 in
+    ((held .0, editable _ _ _ (held .1) (sym (at1 .if1 .left) ∙ n .edit-number .ensures (held .0) (held .1 .plan))), pre .1)
 
 same-length-5 : tie.Need-same-length-5
 same-length-5 c = search needs
@@ -61,10 +64,12 @@ same-length-10 c = search needs
 returns-2 : tie.Need-returns-2
 returns-2 c =
     let made = c .before .before .before .before .before .before .before .before .before .before .before .before .before in
-    let n = made .before .before .before .before .before .before .before in
-    λ G ready.
-    let e = sym (n .if1 .left) ∙ n .before .edit-number .ensures G (ready .plan) in
-    edit-accepted _ _ _ ready e (made .make-edit .ensures G (editable _ _ _ ready e))
+    let n = made .before .before .before .before .before .before .before .before in (
+      λ G ready.
+          let e = sym (n .if1 .left) ∙ n .before .edit-number .ensures G (ready .plan) in
+          edit-accepted _ _ _ ready e (made .make-edit .ensures .0 G (editable _ _ _ ready e)),
+      made .make-edit .ensures .1,
+    )
 
 pub edit-held-spec : {M : Type 1} → statement M
 edit-held-spec =

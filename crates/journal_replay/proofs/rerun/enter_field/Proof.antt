@@ -2,7 +2,7 @@
 use borrow.Author.Needs.{needs}
 use native.Mathlib.Omega.{arith}
 use Prim.Native.Nat.{ℕ, _+_, _-_}
-use mathlib.Core.Path.{_≡_, refl, ap}
+use mathlib.Core.Path.{_≡_, refl, sym, ap, _∙_}
 use Rattle.journal_replay.proofs.Passing.{enters-none, enters-one, read-fits}
 use Rattle.journal_replay.proofs.rerun.enter_field.Statement.{statement}
 use Rattle.journal_replay.proofs.rerun.enter_field.Tie as tie
@@ -18,19 +18,19 @@ entry-bytes-requires : tie.Need-entry-bytes-requires
 entry-bytes-requires c κs = search needs
 
 add-next : tie.Need-add-next
-add-next c = let start = c .before .before .before .before .before .before .before .before .before in omega (arith, c .entry-bytes .ensures, start .pre .inside)
+add-next c = let start = c .before .before .before .before .before .before .before .before .before in omega (arith, c .entry-bytes .ensures, start .pre .0 .inside)
 
 wide-requires : tie.Need-wide-requires
 wide-requires c κs = search needs
 
 sub-number : tie.Need-sub-number
-sub-number c = let start = c .before .before .before .before .before .before .before .before .before .before in omega (arith, c .wide .ensures, start .pre .later)
+sub-number c = let start = c .before .before .before .before .before .before .before .before .before .before in omega (arith, c .wide .ensures, start .pre .0 .later)
 
 sub-read-field : tie.Need-sub-read-field
-sub-read-field c = let start = c .before .before .before .before .before .before .before .before .before .before in omega (arith, start .pre .inside)
+sub-read-field c = let start = c .before .before .before .before .before .before .before .before .before .before in omega (arith, start .pre .0 .inside)
 
 part-read-field-start : tie.Need-part-read-field-start
-part-read-field-start c = let start = c .before .before .before .before .before .before .before .before .before .before in omega (arith, start .pre .inside)
+part-read-field-start c = let start = c .before .before .before .before .before .before .before .before .before .before in omega (arith, start .pre .0 .inside)
 
 part-read-field-end : tie.Need-part-read-field-end
 part-read-field-end c = search needs
@@ -47,16 +47,20 @@ refusal-requires c κs = search needs
 returns : tie.Need-returns
 returns c =
     let read = c .before .before in
-    let size = read .before .before .before in
-    enters-none _ _ _ _ _ (number-of _ _ (read .before .before .wide .ensures)) _ (read .read-field .ensures) _ _ _ refl (next-of _ _ _ (size .entry-bytes .ensures)) (c .before .match .keys2)
-    (c .refusal .ensures)
+    let size = read .before .before .before in (
+      enters-none _ _ _ _ _ (number-of _ _ (read .before .before .wide .ensures)) _ (read .read-field .ensures) _ _ _ refl (next-of _ _ _ (size .entry-bytes .ensures)) (c .before .match .keys2)
+          (c .refusal .ensures),
+      size .before .before .before .before .before .before .before .before .before .pre .1,
+    )
 
 enter-held-requires : tie.Need-enter-held-requires
 enter-held-requires c κs =
-    let entry = c .before .before .before .before .before .before .before .before in
+    let entry = c .before .before .before .before .before .before .before .before .before in
     let read = entry .before .before in
-    let start = read .before .before .before .before .before .before .before .before .before .before .before .before in
-    record { held = start .pre .held; fits = read-fits _ _ (start .args .journal .now) (start .args .start) _ (read .read-field .ensures) _ (entry .read .given .1) }
+    let start = read .before .before .before .before .before .before .before .before .before .before .before .before in (
+      record { held = start .pre .0 .held; fits = read-fits _ _ (start .args .journal .now) (start .args .start) _ (read .read-field .ensures) _ (entry .read .given .1) },
+      start .pre .1,
+    )
 
 begun-by-requires : tie.Need-begun-by-requires
 begun-by-requires c κs = search needs
@@ -85,11 +89,14 @@ same-length-7 c = search needs
 returns-2 : tie.Need-returns-2
 returns-2 c =
     let made = c .before .before .before .before .before .before .before .before .before .before .before .before .before .before .before .before .before in
-    let entry = made .before .before .before .before .before .before .before .before .before in
+    let entry = made .before .before .before .before .before .before .before .before .before .before in
     let read = entry .before .before in
     let size = read .before .before .before in
-    enters-one _ _ _ _ _ (number-of _ _ (read .before .before .wide .ensures)) _ (read .read-field .ensures) _ _ _ refl (next-of _ _ _ (size .entry-bytes .ensures)) _ (entry .read .given .1)
-    _ _ (made .enter-held .ensures) refl (c .begun-by .ensures)
+    let done = made .enter-held .ensures in (
+      enters-one _ _ _ _ _ (number-of _ _ (read .before .before .wide .ensures)) _ (read .read-field .ensures) _ _ _ refl (next-of _ _ _ (size .entry-bytes .ensures)) _ (entry .read .given .1)
+          _ _ (done .0) refl (c .begun-by .ensures),
+      (done .1 .0, λ f. done .1 .1 (sym (c .begun-by .ensures) ∙ f)),
+    )
 
 pub enter-field-spec : {M : Type 1} → statement M
 enter-field-spec =

@@ -1,5 +1,5 @@
 -- The loop has entered the fields before `last.next`: `Ahead` says where the replay stands.
-use Rattle.journal_replay.proofs.Passing.{Ahead, ahead-start, ahead-holds, ahead-turn, ahead-end, rest-few}
+use Rattle.journal_replay.proofs.Passing.{Ahead, ahead-start, ahead-holds, ahead-banks, ahead-turn, ahead-end, rest-few}
 use mathlib.Core.Bool.{false}
 use mathlib.Core.Logic.{⊎-elim}
 use borrow.Author.Tests.{leb-true, leb-false}
@@ -8,6 +8,8 @@ use Rattle.memory.specs.Plan.{slicesOf}
 use Rattle.rule.specs.Graph.{Graph}
 use Rattle.planner.specs.inner.Held.{Fresh}
 use Rattle.planner.proofs.Lengths.{SameLengths, same, then}
+use Rattle.planner.proofs.Made.{ready-banks}
+use Rattle.queue.specs.Queue.{Idle, Unranked}
 use borrow.Author.Needs.{needs}
 use native.Mathlib.Omega.{arith}
 use Prim.Native.Nat.{ℕ, _+_, _-_, _<_, _≤_}
@@ -29,7 +31,7 @@ stops : (n size w : ℕ) → size ≡ w → n < size → n < w
 stops n size w e h = omega arith
 
 abbrev Inv-loop : tie.InvT-loop
-Inv-loop journal first neighbours₀ degrees₀ waves₀ counts₀ ranks₀ trail₀ moved₀ numbered size last₀ neighbours degrees waves counts ranks trail moved last =
+Inv-loop journal first neighbours₀ degrees₀ waves₀ counts₀ ranks₀ trail₀ moved₀ numbered size queue₀ last₀ neighbours degrees waves counts ranks trail moved queue last =
     let m₀ = memoryOf (slicesOf neighbours₀ degrees₀ waves₀ counts₀ ranks₀) trail₀ moved₀ (last₀ .tally) in
     let m = memoryOf (slicesOf neighbours degrees waves counts ranks) trail moved (last .tally) in
     ((G : Graph) → Ready G m₀ → Fresh false G → Ahead journal numbered first G m₀ last m)
@@ -37,9 +39,12 @@ Inv-loop journal first neighbours₀ degrees₀ waves₀ counts₀ ranks₀ trai
     × (last .next ≤ length journal)
     × (last .field < last .next)
     × (1 ≤ last .field)
+    × Idle (last .tally .banks) ranks queue
+    × (last .begun ≡ false → Unranked queue)
 
 abbrev μ-loop : tie.MeasureT-loop
-μ-loop journal first neighbours₀ degrees₀ waves₀ counts₀ ranks₀ trail₀ moved₀ numbered size last₀ neighbours degrees waves counts ranks trail moved last = length journal - last .next
+μ-loop journal first neighbours₀ degrees₀ waves₀ counts₀ ranks₀ trail₀ moved₀ numbered size queue₀ last₀ neighbours degrees waves counts ranks trail moved queue last =
+    length journal - last .next
 
 sub-is-numbered : tie.Need-sub-is-numbered Inv-loop μ-loop
 sub-is-numbered c = let start = c .before .before .before .before .before .before .before .before in start .pre .inside
@@ -56,10 +61,21 @@ is-numbered-requires c κs = search needs
 entry-bytes-requires : tie.Need-entry-bytes-requires Inv-loop μ-loop
 entry-bytes-requires c κs = search needs
 
+reset-requires : tie.Need-reset-requires Inv-loop μ-loop
+reset-requires c κs = search needs
+
 loop-holds : tie.Need-loop-holds Inv-loop μ-loop
 loop-holds c =
-    let p = c .before .before .before .before .before .before .before .before .before .before .before .pre in
-    (λ G h f. ahead-start _ _ _ G _ h f (c .before .is-numbered .ensures) _ refl refl refl refl, same _, p .inside, p .later, omega arith)
+    let p = c .before .before .before .before .before .before .before .before .before .before .before .before .before .pre in
+    let h = p .held in (
+      λ G h f. ahead-start _ _ _ G _ h f (c .before .before .before .is-numbered .ensures) _ refl refl refl refl,
+      same _,
+      p .inside,
+      p .later,
+      omega arith,
+      c .reset .ensures .0 _ _ (omega (arith, ready-banks _ _ (h .1), h .1 .plan .clashes .most)),
+      λ f. c .reset .ensures .1,
+    )
 
 sub-if2 : tie.Need-sub-if2 Inv-loop μ-loop
 sub-if2 c = c .before .before .before .loop .inv .2
@@ -67,47 +83,53 @@ sub-if2 c = c .before .before .before .loop .inv .2
 add-enter-field : tie.Need-add-enter-field Inv-loop μ-loop
 add-enter-field c =
     let at = c .before .before .before .before .before in
-    let p = at .before .before .before .before .before .before .before .before .before .before .before .before .pre in
+    let p = at .before .before .before .before .before .before .before .before .before .before .before .before .before .before .pre in
     omega (arith, at .loop .inv .3, at .loop .inv .2, p .few)
 
 enter-field-requires : tie.Need-enter-field-requires Inv-loop μ-loop
 enter-field-requires c κs =
-    let test = c .before .before .before .before .before .before .before .before in
+    let test = c .before .before .before .before .before .before .before .before .before in
     let at = test .before .before .before .before in
-    let start = at .before .before .before .before .before .before .before .before .before .before .before .before in
-    let h = start .pre .held in
-    record {
-      held = ahead-holds _ _ _ (h .0) _ _ _ (at .loop .inv .0 (h .0) (h .1) (h .2)) (test .before .before .if1 .taken);
-      inside = fits (start .args .journal .now) (at .loop .last .next) _ _ (at .before .entry-bytes .ensures) (omega arith) (leb-true _ _ (test .if2 .taken));
-      later = omega (arith, at .loop .inv .4);
-    }
+    let start = at .before .before .before .before .before .before .before .before .before .before .before .before .before .before in
+    let h = start .pre .held in (
+      record {
+        held = ahead-holds _ _ _ (h .0) _ _ _ (at .loop .inv .0 (h .0) (h .1) (h .2)) (test .before .before .if1 .taken);
+        inside = fits (start .args .journal .now) (at .loop .last .next) _ _ (at .before .before .before .entry-bytes .ensures) (omega arith) (leb-true _ _ (test .if2 .taken));
+        later = omega (arith, at .loop .inv .4);
+      },
+      (at .loop .inv .5, at .loop .inv .6),
+    )
 
 loop-less : tie.Need-loop-less Inv-loop μ-loop
 loop-less c =
     let done = c .before .before .before .before .before .before .before .before .before .before .before .before .before .before in
-    let test = done .before .before .before .before .before .before .before .before .before in
+    let test = done .before .before .before .before .before .before .before .before .before .before in
     let at = test .before .before .before .before in
-    let start = at .before .before .before .before .before .before .before .before .before .before .before .before in
-    falls (start .args .journal .now) (at .loop .last .next) _ _ (at .before .entry-bytes .ensures) (omega arith) (leb-true _ _ (test .if2 .taken)) _
-    (done .enter-field .ensures .next)
+    let start = at .before .before .before .before .before .before .before .before .before .before .before .before .before .before in
+    falls (start .args .journal .now) (at .loop .last .next) _ _ (at .before .before .before .entry-bytes .ensures) (omega arith) (leb-true _ _ (test .if2 .taken)) _
+    (done .enter-field .ensures .0 .next)
 
 loop-again : tie.Need-loop-again Inv-loop μ-loop
 loop-again c =
     let done = c .before .before .before .before .before .before .before .before .before .before .before .before .before .before in
-    let test = done .before .before .before .before .before .before .before .before .before in
+    let test = done .before .before .before .before .before .before .before .before .before .before in
     let at = test .before .before .before .before in
     let i = at .loop .inv in
     let f = done .enter-field in
     let k = f .kept .1 .1 .1 .1 in
-    let size = at .before .entry-bytes .ensures in
+    let size = at .before .before .before .entry-bytes .ensures in
     let l = leb-true _ _ (test .if2 .taken) in
-    let inside = fits (at .before .before .before .before .before .before .before .before .before .before .before .before .args .journal .now) (at .loop .last .next) _ _ size (omega arith) l in (
-      λ G h r. ahead-turn _ _ _ G _ _ _ (i .0 G h r) (test .before .before .if1 .taken) (rw size at l) _ _ (f .ensures),
+    let start = at .before .before .before .before .before .before .before .before .before .before .before .before .before .before in
+    let h = start .pre .held in
+    let inside = fits (start .args .journal .now) (at .loop .last .next) _ _ size (omega arith) l in (
+      λ G h r. ahead-turn _ _ _ G _ _ _ (i .0 G h r) (test .before .before .if1 .taken) (rw size at l) _ _ (f .ensures .0),
       then _ _ _ (i .1)
           (record { neighbours = k .0; degrees = k .1 .0; waves = k .1 .1 .0; counts = k .1 .1 .1 .0; ranks = k .1 .1 .1 .1 .0; trail = k .1 .1 .1 .1 .1 .0; moved = k .1 .1 .1 .1 .1 .1 .0 }),
-      omega (arith, f .ensures .next, inside),
-      omega (arith, f .ensures .next, f .ensures .field, i .3),
-      omega (arith, f .ensures .field),
+      omega (arith, f .ensures .0 .next, inside),
+      omega (arith, f .ensures .0 .next, f .ensures .0 .field, i .3),
+      omega (arith, f .ensures .0 .field),
+      rw (ahead-banks _ _ _ (h .0) _ _ _ (i .0 (h .0) (h .1) (h .2)) (test .before .before .if1 .taken) _ _ (f .ensures .0)) (f .ensures .1 .0),
+      f .ensures .1 .1,
     )
 
 sub-ended : tie.Need-sub-ended Inv-loop μ-loop
@@ -122,7 +144,7 @@ part-ended-end c = search needs
 ended-requires : tie.Need-ended-requires Inv-loop μ-loop
 ended-requires c κs =
     let at = c .before .before .before .before in
-    let start = at .before .before .before .before .before .before .before .before .before .before .before .before in
+    let start = at .before .before .before .before .before .before .before .before .before .before .before .before .before .before in
     let i = at .loop .inv in
     (rest-few (start .args .journal .now) _ (start .pre .few) (i .2), omega (arith, i .3, i .2, start .pre .few))
 
@@ -153,7 +175,7 @@ returns c =
     let at = stop .before .before in
     record {
       of = λ G h f. ahead-end _ _ _ G _ _ _ (at .loop .inv .0 G h f)
-          (λ z. stops _ _ _ (at .before .entry-bytes .ensures) (⊎-elim (λ w. leb-false _ _ (w .2 .left)) (λ w. absurd (w .left z)) (stop .if1 .came))) _ (c .ended .ensures);
+          (λ z. stops _ _ _ (at .before .before .before .entry-bytes .ensures) (⊎-elim (λ w. leb-false _ _ (w .2 .left)) (λ w. absurd (w .left z)) (stop .if1 .came))) _ (c .ended .ensures);
     }
 
 pub enter-fields-spec : {M : Type 1} → statement M
@@ -167,6 +189,7 @@ enter-fields-spec =
     part-is-numbered-end
     is-numbered-requires
     entry-bytes-requires
+    reset-requires
     loop-holds
     sub-if2
     add-enter-field

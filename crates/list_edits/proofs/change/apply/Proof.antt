@@ -2,6 +2,7 @@
 use borrow.Author.Needs.{needs}
 use mathlib.Core.Path.{refl}
 use Rattle.list_pass.proofs.Passing.{change-one, one-fits}
+use Rattle.list_edits.proofs.Queued.{one-begun, all-begun}
 use Rattle.list_edits.proofs.change.apply.Statement.{statement}
 use Rattle.list_edits.proofs.change.apply.Tie as tie
 
@@ -10,15 +11,18 @@ enum-known-change c = search needs
 
 enter-held-requires : tie.Need-enter-held-requires
 enter-held-requires c κs =
-    let row = c .before .before .before .before .before .before .before .before in
+    let row = c .before .before .before .before .before .before .before .before .before in
     let p = row .before .before .before .before .before .before .before .before .before .pre in
-    record { held = p .held; fits = one-fits (row .change .given .1) (p .fits) }
+    (record { held = p .0 .held; fits = one-fits (row .change .given .1) (p .0 .fits) }, p .1)
 
 enum-known-change-2 : tie.Need-enum-known-change-2
 enum-known-change-2 c = search needs
 
 strike-all-requires : tie.Need-strike-all-requires
-strike-all-requires c κs = let h = c .before .before .before .before .before .before .before .before .before .before .before .before .before .before .before .before .before .pre .held in (h .0, h .1)
+strike-all-requires c κs =
+    let p = c .before .before .before .before .before .before .before .before .before .before .before .before .before .before .before .before .before .before .pre in
+    let h = p .0 .held in
+    ((h .0, h .1), p .1 .0)
 
 same-length : tie.Need-same-length
 same-length c = search needs
@@ -44,7 +48,11 @@ same-length-7 c = search needs
 returns : tie.Need-returns
 returns c =
     let made = c .before .before .before .before .before .before .before .before .before .before .before .before .before .before in
-    record { of = λ G h f. rw (made .before .before .before .before .before .before .before .before .before .change .given .1) (change-one _ G _ h f _ _ _ (made .enter-held .ensures .of G h f)) }
+    let is = made .before .before .before .before .before .before .before .before .before .before .change .given .1 in
+    let done = made .enter-held .ensures in (
+      record { of = λ G h f. rw is (change-one _ G _ h f _ _ _ (done .0 .of G h f)) },
+      (done .1 .0, λ f. done .1 .1 (one-begun _ is f)),
+    )
 
 same-length-8 : tie.Need-same-length-8
 same-length-8 c = search needs
@@ -70,7 +78,11 @@ same-length-14 c = search needs
 returns-2 : tie.Need-returns-2
 returns-2 c =
     let made = c .before .before .before .before .before .before .before .before .before .before .before .before in
-    record { of = λ G h f. rw (made .before .before .before .before .before .before .before .before .before .change2 .given .1) (made .strike-all .ensures _ .of G h f) }
+    let is = made .before .before .before .before .before .before .before .before .before .before .change2 .given .1 in
+    let done = made .strike-all .ensures in (
+      record { of = λ G h f. rw is (done .0 _ .of G h f) },
+      (done .1, λ f. absurd (all-begun _ is f)),
+    )
 
 pub apply-spec : {M : Type 1} → statement M
 apply-spec =

@@ -8,7 +8,7 @@ use Rattle.list_edits.proofs.rows.edit_row.Statement.{statement}
 use Rattle.list_edits.proofs.rows.edit_row.Tie as tie
 
 find-requires : tie.Need-find-requires
-find-requires c κs = omega (arith, c .before .before .before .before .before .before .before .before .pre .inside)
+find-requires c κs = omega (arith, c .before .before .before .before .before .before .before .before .pre .0 .inside)
 
 add-next : tie.Need-add-next
 add-next c = omega (arith, c .find .ensures .high)
@@ -34,14 +34,17 @@ not-taken-requires c κs = search needs
 returns : tie.Need-returns
 returns c =
     let read = c .before .before in
-    edits-none _ _ _ _ (read .before .before .find .ensures) _ _ _ _ refl refl _ (read .read-row-in .ensures) (c .before .match .keys2) (c .not-taken .ensures)
+    let found = read .before .before in (
+      edits-none _ _ _ _ (found .find .ensures) _ _ _ _ refl refl _ (read .read-row-in .ensures) (c .before .match .keys2) (c .not-taken .ensures),
+      found .before .before .before .before .before .before .before .before .before .pre .1,
+    )
 
 apply-requires : tie.Need-apply-requires
 apply-requires c κs =
-    let row = c .before .before .before .before .before .before .before .before in
+    let row = c .before .before .before .before .before .before .before .before .before in
     let read = row .before .before in
     let start = read .before .before .before .before .before .before .before .before .before .before .before in
-    record { held = start .pre .held; fits = edit-fits _ _ _ (sym (row .read .given .1) ∙ read .read-row-in .ensures) }
+    (record { held = start .pre .0 .held; fits = edit-fits _ _ _ (sym (row .read .given .1) ∙ read .read-row-in .ensures) }, start .pre .1)
 
 begun-after-requires : tie.Need-begun-after-requires
 begun-after-requires c κs = search needs
@@ -70,11 +73,13 @@ same-length-7 c = search needs
 returns-2 : tie.Need-returns-2
 returns-2 c =
     let at1 = c .before .before .before .before .before .before .before .before .before .before .before .before .before .before .before .before .before in
-    let at2 = at1 .before .before .before .before .before .before .before .before .before in
+    let at2 = at1 .before .before .before .before .before .before .before .before .before .before in
     let at3 = at2 .before .before in
     let at4 = at3 .before .before in
-    edits-one _ _ _ _ (at4 .find .ensures) _ _ _ _ refl refl _ (sym (at2 .read .given .1) ∙ at3 .read-row-in .ensures) _ _ (at1 .apply .ensures) refl
-    (c .begun-after .ensures)
+    let done = at1 .apply .ensures in (
+      edits-one _ _ _ _ (at4 .find .ensures) _ _ _ _ refl refl _ (sym (at2 .read .given .1) ∙ at3 .read-row-in .ensures) _ _ (done .0) refl (c .begun-after .ensures),
+      (done .1 .0, λ f. done .1 .1 (sym (c .begun-after .ensures) ∙ f)),
+    )
 
 pub edit-row-spec : {M : Type 1} → statement M
 edit-row-spec =

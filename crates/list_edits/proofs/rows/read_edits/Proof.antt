@@ -1,7 +1,7 @@
--- `read_edits` meets its contract. The invariant: memory holds the plan after the rows so far, and what is ahead leads to the same result; a row is no further than its first byte.
+-- `read_edits` meets its contract. The invariant: memory holds the plan after the rows so far, and what is ahead leads to the same result; a row is no further than its first byte; the queue is idle.
 use mathlib.Core.Bool.{false}
 use mathlib.Core.Logic.{⊎-elim}
-use mathlib.Core.Path.{refl}
+use mathlib.Core.Path.{_≡_, refl}
 use Prim.Native.Nat.{_+_, _-_, _≤_, _<_}
 use lib.ListN.{length}
 use borrow.Author.Tests.{ltb-true, ltb-false}
@@ -9,64 +9,83 @@ use Rattle.rule.specs.Graph.{Graph}
 use Rattle.memory.specs.Memory.{memoryOf}
 use Rattle.memory.specs.Plan.{slicesOf}
 use Rattle.memory.specs.Memory.{Ready}
+use Rattle.queue.specs.Queue.{Idle, Unranked}
 use Rattle.planner.specs.inner.Held.{Fresh}
+use Rattle.planner.proofs.Made.{ready-banks}
 use Rattle.planner.proofs.Lengths.{SameLengths, same, then}
 use Rattle.list_pass.proofs.Passing.{Ahead, ahead-start, ahead-held, ahead-turn, ahead-end}
 use borrow.Author.Needs.{needs}
 use native.Mathlib.Omega.{arith}
+use Rattle.list_edits.proofs.Queued.{idle-row}
 use Rattle.list_edits.proofs.rows.read_edits.Statement.{statement}
 use Rattle.list_edits.proofs.rows.read_edits.Tie as tie
 
 abbrev Inv-loop : tie.InvT-loop
-Inv-loop list v2 row first neighbours₀ degrees₀ waves₀ counts₀ ranks₀ trail₀ moved₀ last₀ neighbours degrees waves counts ranks trail moved last =
+Inv-loop list v2 row first neighbours₀ degrees₀ waves₀ counts₀ ranks₀ trail₀ moved₀ queue₀ last₀ neighbours degrees waves counts ranks trail moved queue last =
     let m₀ = memoryOf (slicesOf neighbours₀ degrees₀ waves₀ counts₀ ranks₀) trail₀ moved₀ (last₀ .tally) in
     let m = memoryOf (slicesOf neighbours degrees waves counts ranks) trail moved (last .tally) in
     ((G : Graph) → Ready G m₀ → Fresh false G → Ahead list v2 row first G m₀ last m)
     × SameLengths m₀ m
     × (last .next ≤ length list + 1)
     × (last .row ≤ last .next)
+    × Idle (last .tally .banks) ranks queue
+    × (last .begun ≡ false → Unranked queue)
 
 abbrev μ-loop : tie.MeasureT-loop
-μ-loop list v2 row first neighbours₀ degrees₀ waves₀ counts₀ ranks₀ trail₀ moved₀ last₀ neighbours degrees waves counts ranks trail moved last =
+μ-loop list v2 row first neighbours₀ degrees₀ waves₀ counts₀ ranks₀ trail₀ moved₀ queue₀ last₀ neighbours degrees waves counts ranks trail moved queue last =
     length list + 1 - last .next
+
+reset-requires : tie.Need-reset-requires Inv-loop μ-loop
+reset-requires c κs = search needs
 
 loop-holds : tie.Need-loop-holds Inv-loop μ-loop
 loop-holds c =
-    let at1 = c .before .before .before .before .before .before .before .before in
-    (λ G h f. ahead-start _ _ _ _ G _ h f _ refl refl refl refl, same _, at1 .pre .inside, at1 .pre .later)
+    let p = c .before .before .before .before .before .before .before .before .before .before .pre in
+    let ready = p .held .1 in
+    let empty = c .reset .ensures in (
+      λ G h f. ahead-start _ _ _ _ G _ h f _ refl refl refl refl,
+      same _,
+      p .inside,
+      p .later,
+      empty .0 _ _ (omega (arith, ready-banks _ _ ready, ready .plan .clashes .most)),
+      λ f. empty .1,
+    )
 
 add-edit-row : tie.Need-add-edit-row Inv-loop μ-loop
 add-edit-row c =
     let at1 = c .before .before .before .before .before in
-    let at2 = at1 .before .before .before .before .before .before .before .before .before in
+    let at2 = at1 .before .before .before .before .before .before .before .before .before .before .before in
     let w = at1 .loop in
     let l : w .last .next < length (at2 .args .list .now) = ltb-true _ _ (c .before .if2 .taken) in
     omega (arith, at2 .pre .few, w .inv .3)
 
 edit-row-requires : tie.Need-edit-row-requires Inv-loop μ-loop
 edit-row-requires c κs =
-    let at1 = c .before .before .before .before .before .before .before .before in
+    let at1 = c .before .before .before .before .before .before .before .before .before in
     let at2 = at1 .before .before .before .before in
-    let at3 = at2 .before .before .before .before .before .before .before .before .before in
-    let p = at3 .pre in
-    let w = at2 .loop .inv .0 (p .held .0) (p .held .1) (p .held .2) in
-    record { held = ahead-held _ _ _ _ _ _ _ _ w (at1 .before .before .if1 .taken); inside = ltb-true _ _ (at1 .if2 .taken) }
+    let p = at2 .before .before .before .before .before .before .before .before .before .before .before .pre in
+    let i = at2 .loop .inv in
+    let w = i .0 (p .held .0) (p .held .1) (p .held .2) in
+    (record { held = ahead-held _ _ _ _ _ _ _ _ w (at1 .before .before .if1 .taken); inside = ltb-true _ _ (at1 .if2 .taken) }, (i .4, i .5))
 
 loop-less : tie.Need-loop-less Inv-loop μ-loop
 loop-less c =
-    let f = c .before .before .before .before .before .before .before .before .before .before .before .before .before .before .edit-row .ensures in
+    let f = c .before .before .before .before .before .before .before .before .before .before .before .before .before .before .edit-row .ensures .0 in
     omega (arith, f .on, f .within)
 
 loop-again : tie.Need-loop-again Inv-loop μ-loop
 loop-again c =
     let at1 = c .before .before .before .before .before .before .before .before .before .before .before .before .before .before in
-    let at2 = at1 .before .before .before .before .before .before .before .before .before in
+    let at2 = at1 .before .before .before .before .before .before .before .before .before .before in
     let at3 = at2 .before .before in
     let at4 = at3 .before .before in
+    let p = at4 .before .before .before .before .before .before .before .before .before .before .before .pre in
     let i = at4 .loop .inv in
     let f = at1 .edit-row in
+    let done = f .ensures .0 in
+    let held = ahead-held _ _ _ _ _ _ _ _ (i .0 (p .held .0) (p .held .1) (p .held .2)) (at3 .if1 .taken) in
     let k = f .kept .1 .1 .1 .1 in (
-      λ G h q. ahead-turn _ _ _ _ G _ _ _ (i .0 G h q) (at3 .if1 .taken) (ltb-true _ _ (at2 .if2 .taken)) _ _ (f .ensures),
+      λ G h q. ahead-turn _ _ _ _ G _ _ _ (i .0 G h q) (at3 .if1 .taken) (ltb-true _ _ (at2 .if2 .taken)) _ _ done,
       then _ _ _ (i .1) (record {
         neighbours = k .0;
         degrees = k .1 .0;
@@ -76,8 +95,10 @@ loop-again c =
         trail = k .1 .1 .1 .1 .1 .0;
         moved = k .1 .1 .1 .1 .1 .1 .0;
       }),
-      f .ensures .within,
-      omega (arith, f .ensures .row, f .ensures .on, i .3),
+      done .within,
+      omega (arith, done .row, done .on, i .3),
+      idle-row done held (f .ensures .1 .0),
+      f .ensures .1 .1,
     )
 
 ended-requires : tie.Need-ended-requires Inv-loop μ-loop
@@ -117,6 +138,7 @@ read-edits-spec =
     (tie.spec
     Inv-loop
     μ-loop
+    reset-requires
     loop-holds
     add-edit-row
     edit-row-requires

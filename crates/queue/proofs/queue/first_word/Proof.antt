@@ -12,7 +12,7 @@ mul-marks : tie.Need-mul-marks
 mul-marks c = search needs
 
 element-copy-out-marks : tie.Need-element-copy-out-marks
-element-copy-out-marks c = summary-inside (c .before .pre .2) (c .first-summary .ensures)
+element-copy-out-marks c = omega (arith, summary-inside (c .before .pre .2) (c .first-summary .ensures))
 
 sub-result : tie.Need-sub-result
 sub-result c = search needs

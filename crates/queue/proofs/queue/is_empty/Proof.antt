@@ -8,7 +8,7 @@ first-summary-requires : tie.Need-first-summary-requires
 first-summary-requires c κs = search needs
 
 returns : tie.Need-returns
-returns c = λ G keyed queue. tells-empty keyed queue (c .first-summary .ensures)
+returns c = λ G keyed queue. tells-empty queue (c .first-summary .ensures)
 
 pub is-empty-spec : {M : Type 1} → statement M
 is-empty-spec = tie.close (tie.spec first-summary-requires returns)

@@ -35,38 +35,44 @@ mul-key c = search needs
 cast-key : tie.Need-cast-key Inv-loop μ-loop
 cast-key c =
     let p = c .before .before .before .pre in
-    omega (arith, head-lowest (p .0 .1) (p .1) .inside)
+    omega (arith, head-lowest (p .0 .1) (p .1 .0) (p .1 .1) .inside)
 
 add-key : tie.Need-add-key Inv-loop μ-loop
 add-key c =
     let p = c .before .before .before .pre in
-    omega (arith, head-lowest (p .0 .1) (p .1) .inside)
+    omega (arith, head-lowest (p .0 .1) (p .1 .0) (p .1 .1) .inside)
 
 key-requires : tie.Need-key-requires Inv-loop μ-loop
-key-requires c κs = first-key (c .before .before .before .pre .0 .1) (c .before .before .before .pre .1)
+key-requires c κs = first-key (c .before .before .before .pre .0 .1) (c .before .before .before .pre .1 .0) (c .before .before .before .pre .1 .1)
 
 shr-marks : tie.Need-shr-marks Inv-loop μ-loop
 shr-marks c = search needs
 
 loop-holds : tie.Need-loop-holds Inv-loop μ-loop
-loop-holds c = search-start (c .before .before .before .before .pre .0 .1) (c .before .before .before .before .pre .1) (c .key .ensures)
+loop-holds c = search-start (c .before .before .before .before .pre .0 .1) (c .before .before .before .before .pre .1 .0) (c .before .before .before .before .pre .1 .1) (c .key .ensures)
 
 returns : tie.Need-returns Inv-loop μ-loop
 returns c =
     let p = c .before .before .before .before .before .before .before .pre in
-    search-zero (p .0 .1) (p .1) (c .before .before .loop .inv) (c .if1 .taken)
+    search-zero (p .0 .1) (p .1 .0) (p .1 .1) (c .before .before .loop .inv) (c .if1 .taken)
 
 cast-i : tie.Need-cast-i Inv-loop μ-loop
 cast-i c = omega (arith, search-lowest (c .before .before .loop .inv) (c .before .loop-test .taken) .inside)
 
 add-bits : tie.Need-add-bits Inv-loop μ-loop
-add-bits c = omega (arith, c .before .before .before .before .before .before .before .pre .1 .inside, search-lowest (c .before .before .loop .inv) (c .before .loop-test .taken) .inside)
+add-bits c =
+    let low = search-lowest (c .before .before .loop .inv) (c .before .loop-test .taken) in
+    omega (arith, c .before .before .before .before .before .before .before .pre .1 .0 .inside, low .inside)
 
 mul-bits : tie.Need-mul-bits Inv-loop μ-loop
-mul-bits c = omega (arith, c .before .before .before .before .before .before .before .pre .1 .inside, search-lowest (c .before .before .loop .inv) (c .before .loop-test .taken) .inside)
+mul-bits c =
+    let low = search-lowest (c .before .before .loop .inv) (c .before .loop-test .taken) in
+    omega (arith, c .before .before .before .before .before .before .before .pre .1 .0 .inside, low .inside)
 
 element-copy-out-bits : tie.Need-element-copy-out-bits Inv-loop μ-loop
-element-copy-out-bits c = omega (arith, c .before .before .before .before .before .before .before .pre .1 .inside, search-lowest (c .before .before .loop .inv) (c .before .loop-test .taken) .inside)
+element-copy-out-bits c =
+    let low = search-lowest (c .before .before .loop .inv) (c .before .loop-test .taken) in
+    omega (arith, c .before .before .before .before .before .before .before .pre .1 .0 .inside, low .inside)
 
 mul-least-in-word : tie.Need-mul-least-in-word Inv-loop μ-loop
 mul-least-in-word c = omega (arith, search-lowest (c .before .before .before .loop .inv) (c .before .before .loop-test .taken) .inside)
@@ -74,7 +80,7 @@ mul-least-in-word c = omega (arith, search-lowest (c .before .before .before .lo
 least-in-word-requires : tie.Need-least-in-word-requires Inv-loop μ-loop
 least-in-word-requires c κs =
     let p = c .before .before .before .before .before .before .before .before .pre in
-    search-word (p .0 .1) (p .1) (c .before .before .before .loop .inv) (c .before .before .loop-test .taken)
+    search-word (p .0 .1) (p .1 .0) (p .1 .1) (c .before .before .before .loop .inv) (c .before .before .loop-test .taken)
 
 sub-marks : tie.Need-sub-marks Inv-loop μ-loop
 sub-marks c = search needs
@@ -85,12 +91,12 @@ loop-less c = search-less (c .before .before .before .before .loop .inv) (c .bef
 loop-again : tie.Need-loop-again Inv-loop μ-loop
 loop-again c =
     let p = c .before .before .before .before .before .before .before .before .before .pre in
-    search-step (p .0 .1) (p .1) (c .before .before .before .before .loop .inv) (c .before .before .before .loop-test .taken) (c .least-in-word .ensures)
+    search-step (p .0 .1) (p .1 .0) (p .1 .1) (c .before .before .before .before .loop .inv) (c .before .before .before .loop-test .taken) (c .least-in-word .ensures)
 
 returns-2 : tie.Need-returns-2 Inv-loop μ-loop
 returns-2 c =
     let p = c .before .before .before .before .before .before .pre in
-    search-end (p .0 .1) (p .1) (c .before .loop .inv) (c .loop-test .left)
+    search-end (p .0 .1) (p .1 .0) (p .1 .1) (c .before .loop .inv) (c .loop-test .left)
 
 pub first-of-degree-spec : {M : Type 1} → statement M
 first-of-degree-spec =

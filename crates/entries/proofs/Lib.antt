@@ -1,0 +1,2 @@
+-- The queue as entries come.
+pub mod Queued

@@ -1,0 +1,2 @@
+-- The banks and the queue as rows come.
+pub mod Queued
