@@ -7,8 +7,8 @@ use std::path::{Path, PathBuf};
 fn main() {
     let manifest = env::var_os("CARGO_MANIFEST_DIR").expect("set for build scripts");
     let folder = match env::var_os("WAVE_PLAN_LIB_DIR") {
-        Some(folder) => PathBuf::from(folder),
-        None => Path::new(&manifest).join("../../target/staticlib"),
+        Some(folder) if !folder.is_empty() => PathBuf::from(folder),
+        _ => Path::new(&manifest).join("../../target/staticlib"),
     };
     let archive = folder.join("libwave_plan.a");
     println!("cargo:rerun-if-env-changed=WAVE_PLAN_LIB_DIR");
