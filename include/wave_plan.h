@@ -15,7 +15,7 @@
  * before the one refused).
  *
  * No call allocates, and none keeps a pointer. Those that ask whether the memory holds a plan, which are all but open, open_shelf, a
- * list and a replay, need up to 56 KB of stack, the others less than 8 KB.
+ * list and a replay, need up to 56 KB of stack, a list and a replay up to 24 KB, open and open_shelf less than 8 KB.
  */
 #ifndef WAVE_PLAN_H
 #define WAVE_PLAN_H
