@@ -41,7 +41,10 @@ module _ {G : Graph} {s : Slices} {was queue : List ℕ} {n v : ℕ} (rc : Recou
   pub part-in : v * 24 + 24 ≤ length (s .counts)
   part-in = omega (arith, v-bank, rc .wide-counts)
 
-  pub enqueuable : Enqueuable G (s .degrees) queue v
+  pub own-cell : v < length (s .degrees)
+  own-cell = omega (arith, v-bank, rc .shown .wide-degrees)
+
+  pub enqueuable : Enqueuable G queue v (getD (s .degrees) v 0)
   enqueuable = enqueuable-of (rc .shown) (rc .queue) v-bank
 
   module _ {cs queue′ : List ℕ} (same : length cs ≡ length (s .counts))

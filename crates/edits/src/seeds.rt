@@ -36,7 +36,7 @@ fn queue_seed(
         → SeedQueued G (slicesAfter neighbours degrees waves counts ranks) was (now (queue .entry)) (now (queue .exit)) banks (v .0)) ⌝ }
 {
     recount_one(neighbours, degrees, waves, counts, ranks, banks, v);
-    enqueue(degrees, queue, v, true);
+    enqueue(queue, v, degrees[v.0 as usize], true);
 }
 
 // If the order of b and its neighbour i turned over, where b had the degree `old`: the neighbour is a seed.

@@ -30,12 +30,12 @@ same-zero {a} {b} la lb same =
           | no n ↦ absurd (zero-bit (trailingZeros 64 d) z (T-along (sym (e (trailingZeros 64 d))) (trailing 64 d n l .set)))
         ]
 
-module _ {G : Graph} {ds q : List ℕ} {v : ℕ} (line : Enqueuable G ds q v) where
+module _ {G : Graph} {q : List ℕ} {v d : ℕ} (line : Enqueuable G q v d) where
   abbrev place : ℕ
   place = placeOf q v
 
   abbrev w : ℕ
-  w = (23 - getD ds v 0) * 16 + place / 64
+  w = (23 - d) * 16 + place / 64
 
   own-word : w ≡ wordOf G q v
   own-word = rw (line .own-degree)
@@ -43,10 +43,10 @@ module _ {G : Graph} {ds q : List ℕ} {v : ℕ} (line : Enqueuable G ds q v) wh
   pub place-small : placeOf q v < 1024
   place-small = line .queue .places .inside v (line .bank)
 
-  pub inside : (23 - getD ds v 0) * 16 + placeOf q v / 64 < 384
+  pub inside : (23 - d) * 16 + placeOf q v / 64 < 384
   inside = omega (arith, own-word, word-inside G (line .queue .places) v (line .bank))
 
-  pub own-bits : HasBit q ((23 - getD ds v 0) * 16 + placeOf q v / 64) (placeOf q v % 64)
+  pub own-bits : HasBit q ((23 - d) * 16 + placeOf q v / 64) (placeOf q v % 64)
   own-bits = word-bits (line .queue) inside (omega arith)
 
   module _ {q₁ q₂ : List ℕ} (put : Bool) (one : Written q q₁ w (place % 64) (testBit (getD q w 0) (place % 64) || put))

@@ -59,13 +59,12 @@ pub record Keyed (G : Graph) : Type 0 where
   pub few : G .banks ≤ 1024
   pub small : (b : ℕ) → b < G .banks → degree G b ≤ 23
 
--- v can be put into the queue, and its cell holds its degree
-pub record Enqueuable (G : Graph) (ds words : List ℕ) (v : ℕ) : Type 0 where
+-- v, of degree d, can be put into the queue
+pub record Enqueuable (G : Graph) (words : List ℕ) (v d : ℕ) : Type 0 where
   pub keyed : Keyed G
   pub queue : Queue G words
   pub bank : v < G .banks
-  pub wide-degrees : v < length ds
-  pub own-degree : getD ds v 0 ≡ degree G v
+  pub own-degree : d ≡ degree G v
 
 -- v is in the queue, if it was put there, with those that were
 pub record Enqueued (G : Graph) (old new : List ℕ) (v : ℕ) (put : Bool) : Type 0 where

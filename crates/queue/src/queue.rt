@@ -20,15 +20,13 @@ ghost use Rattle.queue.specs.Queue.{Queue, Keyed, Enqueuable, Enqueued, 
 ghost use Rattle.queue.specs.inner.Words.{Head};
 ghost use Rattle.queue.specs.inner.Ties.{FirstPlace};
 
-// If `put`, puts v into the queue.
-pub fn enqueue(degrees: &[u16], queue: &mut [u64; WORDS], v: Bank, put: bool)
-    requires { ⌜ ((G : Graph) × Enqueuable G (now degrees) (now queue) (v .0)) ⌝ }
-    ensures { λ _. ⌜ ((G : Graph) → Enqueuable G (now (degrees .entry)) (now (queue .entry)) (v .0)
+// If `put`, puts v, which has this degree, into the queue.
+pub fn enqueue(queue: &mut [u64; WORDS], v: Bank, degree: u16, put: bool)
+    requires { ⌜ ((G : Graph) × Enqueuable G (now queue) (v .0) degree) ⌝ }
+    ensures { λ _. ⌜ ((G : Graph) → Enqueuable G (now (queue .entry)) (v .0) degree
         → Enqueued G (now (queue .entry)) (now (queue .exit)) (v .0) put) ⌝ }
 {
-    let at = v.0 as usize;
-    let degree = degrees[at];
-    let place = queue[PLACES + at] as usize;
+    let place = queue[PLACES + v.0 as usize] as usize;
     let word = (MOST_CLASHES - degree) as usize * DEGREE_WORDS + place / WORD_BITS;
     set_bit(queue, word, place % WORD_BITS, put);
     set_bit(queue, BANK_WORDS + word / WORD_BITS, word % WORD_BITS, put);

@@ -1,13 +1,14 @@
 -- The later neighbours of a bank: what it is to notify them all, and one neighbour notified, if it is later.
 use mathlib.Core.Bool.{Bool, true, false, cond, _&&_, _||_}
 use mathlib.Core.List.{List, []}
-use mathlib.Core.Path.{_≡_, refl, sym, ap, _∙_}
+use mathlib.Core.Path.{_≡_, refl, sym, ap, ap₂, _∙_}
 use Prim.Native.Nat.{ℕ, _+_, _*_, _≤_, _<_}
 use native.Mathlib.Decide.{ℕ-discrete}
 use native.Mathlib.Omega.{arith}
 use lib.Dec.{T, eqb, eqb→eq}
 use lib.ListN.{length, getD, take}
 use Rattle.rule.specs.Lists.{memb, some}
+use Rattle.rule.specs.Order.{earlierBy}
 use Rattle.rule.specs.Graph.{Graph, neighbours, earlier, earlierNeighbours}
 use Rattle.rule.proofs.Booleans.{and-l, and-r, both, or-r, is-true, and-true, and-false, T-along, eq→eqb, cond-no, or-false}
 use Rattle.rule.proofs.Neighbours.{neighbours-in, in-neighbours}
@@ -131,8 +132,13 @@ module _ {s : Notice} {ns ds rs cs q : List ℕ} {h o w i : ℕ} (nt : Notifying
       (λ t. cell-new (nt .start .shown) h i (nt .start .bank) lt (and-l (memb v (take i N)) (earlier G h v) t))
 
   -- what `enqueue` asks
-  pub enqueuable : Enqueuable G ds q v
+  pub enqueuable : Enqueuable G q v (getD ds v 0)
   enqueuable = enqueuable-of (nt .start .shown) (nt .made .queue) v-bank
+
+  -- the test is that of the cells
+  pub by-cells : {later : Bool} {d k : ℕ} → d ≡ getD ds h 0 → k ≡ getD rs h 0 → later ≡ earlierBy d k h (getD ds v 0) (getD rs v 0) v → later ≡ byCells ds rs h v
+  unfolding byCells
+  by-cells e f is = is ∙ ap₂ (λ (x y : ℕ). earlierBy x y h (getD ds v 0) (getD rs v 0) v) e f
 
   -- v is notified exactly if it is later
   module _ {later : Bool} (is : later ≡ byCells ds rs h v) where

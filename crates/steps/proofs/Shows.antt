@@ -28,12 +28,11 @@ module _ {G : Graph} {ns ds rs : List ℕ} (sh : Shown G ns ds rs) where
   pub keyed : Keyed G
   keyed = record { few = sh .few; small = sh .small }
 
-  pub enqueuable-of : {queue : List ℕ} {v : ℕ} → Queue G queue → v < G .banks → Enqueuable G ds queue v
+  pub enqueuable-of : {queue : List ℕ} {v : ℕ} → Queue G queue → v < G .banks → Enqueuable G queue v (getD ds v 0)
   enqueuable-of {v = v} q bank = record {
     keyed = keyed;
     queue = q;
     bank = bank;
-    wide-degrees = omega (arith, sh .wide-degrees);
     own-degree = sh .degrees v bank;
   }
 

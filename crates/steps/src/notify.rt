@@ -1,12 +1,13 @@
 // Operator NC of 000 (definition 4.9; NotifyColor in algorithm 2): notifies a bank's later neighbours that its colour changed. Their Counts learn
 // it, and they are queued.
-use memory::is_earlier;
 use queue::WORDS;
 use queue::enqueue;
 use rule::Bank;
 use rule::COUNT_CELLS;
 use rule::ROW_CELLS;
 use rule::Wave;
+use rule::earlier;
+ghost use mathlib.Core.Path.{_≡_};
 ghost use Prim.Native.Nat.{_<_};
 ghost use lib.ListN.{getD};
 ghost use Rattle.rule.specs.Graph.{Graph};
@@ -27,7 +28,7 @@ fn move_count(counts: &mut [u16], v: Bank, old: Wave, new: Wave, notified: bool)
     counts[to] = more;
 }
 
-// Neighbour i of b: if it is later than b, its Counts learn that b went from `old` to `new`, and it is queued.
+// Neighbour i of b, which has this degree and rank: if it is later than b, its Counts learn that b went from `old` to `new`, and it is queued.
 fn notify_one(
     neighbours: &[u16],
     degrees: &[u16],
@@ -35,6 +36,8 @@ fn notify_one(
     ranks: &[u16],
     queue: &mut [u64; WORDS],
     b: Bank,
+    degree: u16,
+    rank: u16,
     old: Wave,
     new: Wave,
     i: usize,
@@ -42,13 +45,16 @@ fn notify_one(
     requires { ⌜ ((s : Notice)
         × Notifying s (now neighbours) (now degrees) (now ranks) (now counts) (now queue) (b .0) (old .0) (new .0) i) ⌝ }
     requires { ⌜ i < getD (now degrees) (b .0) 0 ⌝ }
+    requires { ⌜ (degree ≡ getD (now degrees) (b .0) 0) × (rank ≡ getD (now ranks) (b .0) 0) ⌝ }
     ensures { λ _. ⌜ NotifiesNext neighbours degrees ranks counts queue (b .0) (old .0) (new .0) i ⌝ }
 {
     let at = b.0 as usize;
     let v = Bank(neighbours[at * ROW_CELLS + i]);
-    let later = is_earlier(degrees, ranks, b, v);
+    let at_v = v.0 as usize;
+    let degree_v = degrees[at_v];
+    let later = earlier(degree, rank, b, degree_v, ranks[at_v], v);
     move_count(counts, v, old, new, later);
-    enqueue(degrees, queue, v, later);
+    enqueue(queue, v, degree_v, later);
 }
 
 // If b changed, notifies its later neighbours that it went from `old` to `new`.
@@ -71,10 +77,24 @@ pub fn notify_colours(
         return;
     }
     let at = b.0 as usize;
-    let degree = degrees[at] as usize;
+    let degree = degrees[at];
+    let rank = ranks[at];
+    let end = degree as usize;
     let mut i = 0;
-    while i < degree {
-        notify_one(neighbours, degrees, counts, ranks, queue, b, old, new, i);
+    while i < end {
+        notify_one(
+            neighbours,
+            degrees,
+            counts,
+            ranks,
+            queue,
+            b,
+            degree,
+            rank,
+            old,
+            new,
+            i,
+        );
         i += 1;
     }
 }

@@ -6,28 +6,22 @@ use Rattle.queue.proofs.Putting.{place-small, inside, own-bits, enqueue
 use Rattle.queue.proofs.queue.enqueue.Statement.{statement}
 use Rattle.queue.proofs.queue.enqueue.Tie as tie
 
-cast-at : tie.Need-cast-at
-cast-at c = search needs
-
-mul-degree : tie.Need-mul-degree
-mul-degree c = search needs
-
-shared-slice-read-degree : tie.Need-shared-slice-read-degree
-shared-slice-read-degree c = search needs
+cast-place : tie.Need-cast-place
+cast-place c = search needs
 
 add-place : tie.Need-add-place
 add-place c = search needs
 
 mul-place : tie.Need-mul-place
-mul-place c = let line = c .before .before .before .pre .1 in omega (arith, line .bank, line .keyed .few)
+mul-place c = let line = c .before .pre .1 in omega (arith, line .bank, line .keyed .few)
 
 element-copy-out-place : tie.Need-element-copy-out-place
-element-copy-out-place c = let line = c .before .before .before .pre .1 in omega (arith, line .bank, line .keyed .few)
+element-copy-out-place c = let line = c .before .pre .1 in omega (arith, line .bank, line .keyed .few)
 
 sub-word : tie.Need-sub-word
 sub-word c =
-    let line = c .before .before .before .before .pre .1 in
-    omega (arith, line .own-degree, line .keyed .small (c .before .before .before .before .args .v .0) (line .bank))
+    let line = c .before .before .pre .1 in
+    omega (arith, line .own-degree, line .keyed .small (c .before .before .args .v .0) (line .bank))
 
 cast-word : tie.Need-cast-word
 cast-word c = search needs
@@ -36,27 +30,25 @@ mul-word : tie.Need-mul-word
 mul-word c = search needs
 
 add-word : tie.Need-add-word
-add-word c = omega (arith, place-small (c .before .before .before .before .pre .1))
+add-word c = omega (arith, place-small (c .before .before .pre .1))
 
 set-bit-requires : tie.Need-set-bit-requires
-set-bit-requires c κs = own-bits (c .before .before .before .before .before .pre .1)
+set-bit-requires c κs = own-bits (c .before .before .before .pre .1)
 
 add-set-bit : tie.Need-add-set-bit
-add-set-bit c = omega (arith, place-small (c .before .before .before .before .before .before .before .pre .1))
+add-set-bit c = omega (arith, place-small (c .before .before .before .before .before .pre .1))
 
 set-bit-requires-2 : tie.Need-set-bit-requires-2
-set-bit-requires-2 c κs = summary-bits (inside (c .before .before .before .before .before .before .before .pre .1)) (c .before .set-bit .ensures)
+set-bit-requires-2 c κs = summary-bits (inside (c .before .before .before .before .before .pre .1)) (c .before .set-bit .ensures)
 
 returns : tie.Need-returns
-returns c = λ G line. enqueued line (c .before .before .before .before .before .before .before .before .args .put) (c .before .before .set-bit .ensures) (c .set-bit2 .ensures)
+returns c = λ G line. enqueued line (c .before .before .before .before .before .before .args .put) (c .before .before .set-bit .ensures) (c .set-bit2 .ensures)
 
 pub enqueue-spec : {M : Type 1} → statement M
 enqueue-spec =
     tie.close
     (tie.spec
-    cast-at
-    mul-degree
-    shared-slice-read-degree
+    cast-place
     add-place
     mul-place
     element-copy-out-place

@@ -11,15 +11,15 @@ use Rattle.steps.proofs.notify.notify_colours.Statement.{statement}
 use Rattle.steps.proofs.notify.notify_colours.Tie as tie
 
 abbrev Inv-loop : tie.InvT-loop
-Inv-loop neighbours degrees counts₀ ranks queue₀ b changed old new at degree i₀ counts queue i =
-    (i ≤ degree)
+Inv-loop neighbours degrees counts₀ ranks queue₀ b changed old new at degree rank end i₀ counts queue i =
+    (i ≤ end)
     × (length counts ≡ length counts₀)
     × ((s : Notice)
     → Notifying s neighbours degrees ranks counts₀ queue₀ (b .0) (old .0) (new .0) 0
     → Notifying s neighbours degrees ranks counts queue (b .0) (old .0) (new .0) i)
 
 abbrev μ-loop : tie.MeasureT-loop
-μ-loop neighbours degrees counts₀ ranks queue₀ b changed old new at degree i₀ counts queue i = degree - i
+μ-loop neighbours degrees counts₀ ranks queue₀ b changed old new at degree rank end i₀ counts queue i = end - i
 
 returns : tie.Need-returns Inv-loop μ-loop
 returns c = λ G nf. none-notified nf _ (λ x. rw (not-true (c .before .before .before .before .before .args .changed) (c .if1 .taken)) refl)
@@ -33,8 +33,14 @@ mul-degree c = let nf = c .before .before .before .before .before .before .pre .
 shared-slice-read-degree : tie.Need-shared-slice-read-degree Inv-loop μ-loop
 shared-slice-read-degree c = let nf = c .before .before .before .before .before .before .before .pre .1 in omega (arith, nf .bank, nf .shown .wide-degrees)
 
-cast-degree : tie.Need-cast-degree Inv-loop μ-loop
-cast-degree c = omega (arith, few-neighbours (c .before .before .before .before .before .before .before .pre .1))
+mul-rank : tie.Need-mul-rank Inv-loop μ-loop
+mul-rank c = let nf = c .before .before .before .before .before .before .before .pre .1 in omega (arith, nf .bank, nf .shown .few)
+
+shared-slice-read-rank : tie.Need-shared-slice-read-rank Inv-loop μ-loop
+shared-slice-read-rank c = let nf = c .before .before .before .before .before .before .before .before .pre .1 in omega (arith, nf .bank, nf .shown .ranked .wide)
+
+cast-end : tie.Need-cast-end Inv-loop μ-loop
+cast-end c = omega (arith, few-neighbours (c .before .before .before .before .before .before .before .before .pre .1))
 
 loop-holds : tie.Need-loop-holds Inv-loop μ-loop
 loop-holds c = (omega arith, refl, λ s nt. nt)
@@ -42,14 +48,14 @@ loop-holds c = (omega arith, refl, λ s nt. nt)
 notify-one-requires : tie.Need-notify-one-requires Inv-loop μ-loop
 notify-one-requires c κs =
     let loop = c .before .before .before in
-    let at = loop .before .before .before in
+    let at = loop .before .before .before .before in
     let start = start-notifying (not-false _ (at .if1 .left)) (at .before .before .before .before .before .pre .1) in
-    ((_, loop .loop .inv .2 _ start), c .before .before .loop-test .taken)
+    ((_, loop .loop .inv .2 _ start), (c .before .before .loop-test .taken, (refl, refl)))
 
 add-i : tie.Need-add-i Inv-loop μ-loop
 add-i c =
     let test = c .before .before .before .before .before in
-    omega (arith, few-neighbours (test .before .before .before .before .before .before .before .before .before .pre .1), test .loop-test .taken)
+    omega (arith, few-neighbours (test .before .before .before .before .before .before .before .before .before .before .pre .1), test .loop-test .taken)
 
 loop-less : tie.Need-loop-less Inv-loop μ-loop
 loop-less c = omega arith
@@ -66,7 +72,7 @@ same-length c = c .before .loop .inv .1
 returns-2 : tie.Need-returns-2 Inv-loop μ-loop
 returns-2 c =
     let loop = c .before .loop in
-    let at = c .before .before .before .before in
+    let at = c .before .before .before .before .before in
     let a = at .before .before .before .before .before .args in
     let e : loop .i ≡ getD (a .degrees .now) (a .b .0) 0 = omega (arith, loop .inv .0, c .loop-test .left) in
     λ G nf.
@@ -83,7 +89,9 @@ notify-colours-spec =
     cast-at
     mul-degree
     shared-slice-read-degree
-    cast-degree
+    mul-rank
+    shared-slice-read-rank
+    cast-end
     loop-holds
     notify-one-requires
     add-i

@@ -1,38 +1,52 @@
 -- `notify_one`: Counts of neighbour i and the queue are brought up to date.
+use borrow.Author.Needs.{needs}
 use native.Mathlib.Omega.{arith}
-use Rattle.steps.proofs.Notices.{in-row, v-degree, v-rank, h-degree, h-rank, movable, enqueuable, notified}
+use Rattle.steps.proofs.Notices.{in-row, v-degree, v-rank, by-cells, movable, enqueuable, notified}
 use Rattle.steps.proofs.notify.notify_one.Statement.{statement}
 use Rattle.steps.proofs.notify.notify_one.Tie as tie
 
 cast-at : tie.Need-cast-at
 cast-at c = omega arith
 
-mul-t13 : tie.Need-mul-t13
-mul-t13 c = omega arith
+mul-degree-v : tie.Need-mul-degree-v
+mul-degree-v c = omega arith
 
-add-t14 : tie.Need-add-t14
-add-t14 c = let at = c .before .before .before .before .before in omega (arith, in-row (at .pre .0 .1) (at .pre .1), at .good .0)
+add-degree-v : tie.Need-add-degree-v
+add-degree-v c = let at = c .before .before .before .before .before in omega (arith, in-row (at .pre .0 .1) (at .pre .1 .0), at .good .0)
 
-mul-t15 : tie.Need-mul-t15
-mul-t15 c = let at = c .before .before .before .before .before in omega (arith, in-row (at .pre .0 .1) (at .pre .1), at .good .0)
+mul-degree-v-2 : tie.Need-mul-degree-v-2
+mul-degree-v-2 c = let at = c .before .before .before .before .before in omega (arith, in-row (at .pre .0 .1) (at .pre .1 .0), at .good .0)
 
-shared-slice-read-t17 : tie.Need-shared-slice-read-t17
-shared-slice-read-t17 c = let pre = c .before .before .before .before .before .before .pre in in-row (pre .0 .1) (pre .1)
+shared-slice-read-degree-v : tie.Need-shared-slice-read-degree-v
+shared-slice-read-degree-v c = let pre = c .before .before .before .before .before .before .pre in in-row (pre .0 .1) (pre .1 .0)
 
-is-earlier-requires : tie.Need-is-earlier-requires
-is-earlier-requires c κs =
-    let pre = c .before .before .before .before .before .before .pre in
-    let h = h-degree (pre .0 .1) (pre .1) in
-    let v = v-degree (pre .0 .1) (pre .1) in
-    let hr = h-rank (pre .0 .1) (pre .1) in
-    let vr = v-rank (pre .0 .1) (pre .1) in
-    ((omega arith, omega arith), (omega arith, omega arith))
+cast-at-v : tie.Need-cast-at-v
+cast-at-v c = search needs
+
+mul-degree-v-3 : tie.Need-mul-degree-v-3
+mul-degree-v-3 c = search needs
+
+shared-slice-read-degree-v-2 : tie.Need-shared-slice-read-degree-v-2
+shared-slice-read-degree-v-2 c = let pre = c .before .before .before .before .before .before .before .before .pre in v-degree (pre .0 .1) (pre .1 .0)
+
+mul-earlier : tie.Need-mul-earlier
+mul-earlier c = search needs
+
+shared-slice-read-earlier : tie.Need-shared-slice-read-earlier
+shared-slice-read-earlier c = let pre = c .before .before .before .before .before .before .before .before .before .pre in v-rank (pre .0 .1) (pre .1 .0)
+
+earlier-requires : tie.Need-earlier-requires
+earlier-requires c κs = search needs
 
 move-count-requires : tie.Need-move-count-requires
-move-count-requires c κs = let pre = c .before .before .before .before .before .before .before .before .pre in movable (pre .0 .1) (pre .1) (c .before .is-earlier .ensures)
+move-count-requires c κs =
+    let pre = c .before .before .before .before .before .before .before .before .before .before .before .pre in
+    movable (pre .0 .1) (pre .1 .0) (by-cells (pre .0 .1) (pre .1 .0) (pre .1 .1 .0) (pre .1 .1 .1) (c .before .earlier .ensures))
 
 enqueue-requires : tie.Need-enqueue-requires
-enqueue-requires c κs = let pre = c .before .before .before .before .before .before .before .before .before .before .before .before .pre in (pre .0 .0 .graph, enqueuable (pre .0 .1) (pre .1))
+enqueue-requires c κs =
+    let pre = c .before .before .before .before .before .before .before .before .before .before .before .before .before .before .before .pre in
+    (pre .0 .0 .graph, enqueuable (pre .0 .1) (pre .1 .0))
 
 same-length : tie.Need-same-length
 same-length c = c .before .before .before .before .move-count .kept .0
@@ -41,19 +55,26 @@ returns : tie.Need-returns
 returns c =
     let move = c .before .before .before .before in
     let test = move .before .before in
-    let lt = test .before .before .before .before .before .before .before .pre .1 in
-    λ s nt. rw (move .move-count .ensures) (notified nt lt (test .is-earlier .ensures) (c .enqueue .ensures (s .graph) (enqueuable nt lt)))
+    let pre = test .before .before .before .before .before .before .before .before .before .before .pre .1 in
+    λ s nt.
+    rw (move .move-count .ensures)
+    (notified nt (pre .0) (by-cells nt (pre .0) (pre .1 .0) (pre .1 .1) (test .earlier .ensures)) (c .enqueue .ensures (s .graph) (enqueuable nt (pre .0))))
 
 pub notify-one-spec : {M : Type 1} → statement M
 notify-one-spec =
     tie.close
     (tie.spec
     cast-at
-    mul-t13
-    add-t14
-    mul-t15
-    shared-slice-read-t17
-    is-earlier-requires
+    mul-degree-v
+    add-degree-v
+    mul-degree-v-2
+    shared-slice-read-degree-v
+    cast-at-v
+    mul-degree-v-3
+    shared-slice-read-degree-v-2
+    mul-earlier
+    shared-slice-read-earlier
+    earlier-requires
     move-count-requires
     enqueue-requires
     same-length
