@@ -181,7 +181,7 @@ impl Memory {
 
     /// Makes the queue ready for core edits of plans with these ranks, as a list's pass does once for
     /// all its rows.
-    fn ready_queue(&mut self) {
+    pub fn ready_queue(&mut self) {
         // Sound: the slice is valid for its length, the queue has its words, and they do not overlap.
         unsafe {
             bench_ready(

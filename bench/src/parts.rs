@@ -1,5 +1,5 @@
 //! Where time goes, for goals that are not met: the parts of a run of *sheet*, and the part of a core
-//! edit that does not hang on its trail.
+//! edit that does not hang on its trail. And what makes core edits ready.
 
 use crate::clashes::Edit;
 use crate::clock::timed;
@@ -17,6 +17,9 @@ pub struct Parts {
     /// A core edit of two banks that clash with no other, in a plan of 2 banks and of 1,024.
     pub edit_of_2: Vec<f64>,
     pub edit_of_most: Vec<f64>,
+    /// Making the queue ready for core edits, with all ranks 0 and with random ranks.
+    pub ready: Vec<f64>,
+    pub ready_ranked: Vec<f64>,
 }
 
 /// The calls that *sheet* makes for a list of 60,000 bytes.
@@ -36,6 +39,8 @@ pub fn measure(effort: &Effort) -> Parts {
         ranked: on_list(effort, &list_with_random_ranks()),
         edit_of_2: apart(effort, 2),
         edit_of_most: apart(effort, BANKS),
+        ready: ready(effort, &[0; BANKS]),
+        ready_ranked: ready(effort, &Depot::of(&list_with_random_ranks()).ranks),
     }
 }
 
@@ -70,6 +75,20 @@ fn apart(effort: &Effort, banks: usize) -> Vec<f64> {
             for _ in 0..effort.tests {
                 make(&mut memory, Edit::Add(0, 1), CORE);
                 make(&mut memory, Edit::Strike(0, 1), CORE);
+            }
+        }));
+    }
+    times
+}
+
+/// The times of making the queue ready for plans with these ranks.
+fn ready(effort: &Effort, ranks: &[u16]) -> Vec<f64> {
+    let mut memory = Memory::opened(ranks);
+    let mut times = Vec::new();
+    for _ in 0..effort.repeats {
+        times.push(timed(effort.tests, || {
+            for _ in 0..effort.tests {
+                memory.ready_queue();
             }
         }));
     }

@@ -26,7 +26,8 @@ time goes, in parts of it: each part was measured by itself, in the same run. Ag
 const EDITS: &str = "\
 ## Edits at 1,024 banks
 
-- *Core edit*: one add or strike that asks no question 5, as a list makes for each row.
+- *Core edit*: one add or strike that asks no question 5, as a list makes for each row. The queue that it is lent was made ready before, as a
+  list does once for all its rows.
 - *Checked edit*: `wave_plan_add` or `wave_plan_strike`, which ask all questions.
 - *Question 5*: `wave_plan_wave_of`, a test of the whole memory and one cell read.
 - *One read of all cells*: in Rust, the cells of rows, degrees, waves, Counts and ranks added up.
@@ -100,6 +101,11 @@ pub fn document(results: &Results) -> String {
         before,
         EDITS.to_string(),
         repeats,
+        format!(
+            "Making the queue ready takes {} µs with all ranks 0 and {} µs with random ranks.\n",
+            microseconds(&results.parts.ready),
+            microseconds(&results.parts.ready_ranked)
+        ),
         plan_table(plans),
         AFTER_PLANS.to_string(),
         "A core edit is so many times faster than (higher is better):\n".to_string(),
@@ -315,6 +321,10 @@ fn program_part(programs: &Programs) -> String {
 
 fn milliseconds(times: &[f64]) -> String {
     Spread::of(times.iter().map(|time| time * 1e3)).to_string()
+}
+
+fn microseconds(times: &[f64]) -> String {
+    Spread::of(times.iter().map(|time| time * 1e6)).to_string()
 }
 
 fn growth_part(results: &Results) -> String {
