@@ -10,8 +10,9 @@ tally-in-requires c κs = search needs
 
 edit-held-requires : tie.Need-edit-held-requires
 edit-held-requires c κs =
-    let read = c .before .before .before .before .before .before .before in
-    let pre = read .before .before .before .before .before .before .before .before .before .before .before .pre in
+    let read : tie.After-tally-in = search in
+    let start : tie.Start = search in
+    let pre = start .pre in
     (held _ _ (read .tally-in .ensures) (pre .1 .0), rw (read .tally-in .ensures) (pre .1 .1))
 
 slice-aggregate-put-answer : tie.Need-slice-aggregate-put-answer
@@ -19,8 +20,9 @@ slice-aggregate-put-answer c = search needs
 
 put-answer-requires : tie.Need-put-answer-requires
 put-answer-requires c κs =
-    let core = c .before .before .before .before .before .before .before .before .before .before .before .before .before .before .before in
-    omega (arith, core .before .before .before .before .before .before .before .before .before .before .before .before .before .before .before .before .before .before .before .pre .0)
+    let after-edit-held-arg6 : tie.After-edit-held-arg6 = search in
+    let start : tie.Start = search in
+    omega (arith, start .pre .0)
 
 same-length : tie.Need-same-length
 same-length c = search needs
@@ -48,9 +50,10 @@ same-length-8 c = search needs
 
 returns : tie.Need-returns
 returns c =
-    let put = c .before .before .before .before in
-    let core = put .before .before .before .before .before .before .before .before .before .before .before .before .before .before .before .before in
-    let at = core .before .before .before .before .before .before .before .before .tally-in .ensures in (
+    let put : tie.After-put-answer = search in
+    let core : tie.After-edit-held = search in
+    let after-tally-in : tie.After-tally-in = search in
+    let at = after-tally-in .tally-in .ensures in (
       λ G ready. held-done _ _ at _ G _ _ _ _ _ _ _ _ (core .edit-held .ensures .0) ready (put .put-answer .ensures .0) (put .put-answer .ensures .1),
       rw (← at) (core .edit-held .ensures .1),
     )

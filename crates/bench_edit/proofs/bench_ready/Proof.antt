@@ -7,7 +7,9 @@ reset-requires : tie.Need-reset-requires
 reset-requires c κs = search needs
 
 place-by-rank-requires : tie.Need-place-by-rank-requires
-place-by-rank-requires c κs = let p = c .before .before .before .before .before .pre in (p .1, c .before .reset .ensures .0 _ _ (p .0))
+place-by-rank-requires c κs =
+    let start : tie.Start = search in
+    let p = start .pre in (p .1, c .before .reset .ensures .0 _ _ (p .0))
 
 returns : tie.Need-returns
 returns c = search needs

@@ -29,17 +29,17 @@ returns-3 c =
 
 returns-4 : tie.Need-returns-4
 returns-4 c =
-    let passed = c .before in
-    let plan = passed .before in
-    let crew = plan .before in
+    let passed : tie.Else3 = search in
+    let plan : tie.After-check-plan = search in
+    let crew : tie.After-crew-fits = search in
     let none = sym (plan .check-plan .ensures .0) ∙ passed .if3 .left in
     (sym (crew-out _ _ _ _ (omega arith) none (sym (crew .crew-fits .ensures) ∙ not-true _ (c .if4 .taken))), λ z. absurd (omega (arith, z)))
 
 returns-5 : tie.Need-returns-5
 returns-5 c =
-    let passed = c .before in
-    let plan = passed .before in
-    let crew = plan .before in
+    let passed : tie.Else3 = search in
+    let plan : tie.After-check-plan = search in
+    let crew : tie.After-crew-fits = search in
     let none = sym (plan .check-plan .ensures .0) ∙ passed .if3 .left in
     let fits = sym (crew .crew-fits .ensures) ∙ not-false _ (c .if4 .left) in
     (sym (crew-fine _ _ _ _ (omega arith) none fits), λ z. record { plan = plan .check-plan .ensures .1 (passed .if3 .left); room = omega arith; crew = crew-of _ fits })

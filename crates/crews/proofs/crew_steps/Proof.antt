@@ -17,8 +17,9 @@ returns c = steps-refused _ _ _ _ _ (c .before .check-crew .ensures .0) (c .if1 
 
 serve-day-requires : tie.Need-serve-day-requires
 serve-day-requires c κs =
-    let test = c .before in
-    let fine = test .before .check-crew .ensures .1 (test .if1 .left) in
+    let test : tie.Else1 = search in
+    let after-check-crew : tie.After-check-crew = search in
+    let fine = after-check-crew .check-crew .ensures .1 (test .if1 .left) in
     (plan-waves (fine .plan), (fine .room, fine .crew))
 
 same-length-2 : tie.Need-same-length-2
@@ -26,9 +27,9 @@ same-length-2 c = search needs
 
 returns-2 : tie.Need-returns-2
 returns-2 c =
-    let serve = c .before .before in
-    let test = serve .before .before in
-    let check = test .before in
+    let serve : tie.After-serve-day = search in
+    let test : tie.Else1 = search in
+    let check : tie.After-check-crew = search in
     let fine = check .check-crew .ensures .1 (test .if1 .left) in
     served-is (fine .plan) _ (fine .crew .some) (serve .serve-day .ensures) ∙ steps-found _ _ _ _ (sym (test .if1 .left) ∙ check .check-crew .ensures .0)
 

@@ -15,20 +15,22 @@ returns c =
 
 returns-2 : tie.Need-returns-2
 returns-2 c =
-    let plan = c .before .before in
+    let plan : tie.After-check-plan = search in
     (sym (direct-many _ _ _ (sym (plan .check-plan .ensures .0) ∙ c .before .if1 .left) (c .if2 .taken)), λ z. absurd (omega (arith, z)))
 
 returns-3 : tie.Need-returns-3
 returns-3 c =
-    let small = c .before in
-    let plan = small .before .before in
-    (sym (direct-far _ _ _ (sym (plan .check-plan .ensures .0) ∙ small .before .if1 .left) (small .if2 .left) (c .if3 .taken)), λ z. absurd (omega (arith, z)))
+    let small : tie.Else2 = search in
+    let else1 : tie.Else1 = search in
+    let plan : tie.After-check-plan = search in
+    (sym (direct-far _ _ _ (sym (plan .check-plan .ensures .0) ∙ else1 .if1 .left) (small .if2 .left) (c .if3 .taken)), λ z. absurd (omega (arith, z)))
 
 returns-4 : tie.Need-returns-4
 returns-4 c =
-    let small = c .before in
-    let plan = small .before .before in
-    let fine = small .before .if1 .left in
+    let small : tie.Else2 = search in
+    let else1 : tie.Else1 = search in
+    let plan : tie.After-check-plan = search in
+    let fine = else1 .if1 .left in
     (sym (direct-fine _ _ _ (sym (plan .check-plan .ensures .0) ∙ fine) (small .if2 .left) (c .if3 .left)), λ z. (plan .check-plan .ensures .1 fine, c .if3 .left))
 
 pub check-small-spec : {M : Type 1} → statement M

@@ -24,30 +24,32 @@ element-copy-out-if1 c = omega (arith, c .before .pre .1, not-past (λ k. getD (
 
 add-c : tie.Need-add-c Inv-loop μ-loop
 add-c c =
-    let loop = c .before .before in
-    let entry = loop .before in
+    let loop : tie.At-loop Inv-loop μ-loop = search in
+    let entry : tie.Start Inv-loop μ-loop = search in
     omega (arith, entry .pre .1, not-past (λ k. getD (entry .args .held .now) k 0) (loop .loop .inv) (entry .pre .2))
 
 loop-less : tie.Need-loop-less Inv-loop μ-loop
 loop-less c =
-    let loop = c .before .before in
-    let entry = loop .before in
+    let loop : tie.At-loop Inv-loop μ-loop = search in
+    let entry : tie.Start Inv-loop μ-loop = search in
     omega (arith, entry .pre .1, not-past (λ k. getD (entry .args .held .now) k 0) (loop .loop .inv) (entry .pre .2))
 
 loop-again : tie.Need-loop-again Inv-loop μ-loop
 loop-again c =
-    let loop = c .before .before in
-    let entry = loop .before in
+    let loop : tie.At-loop Inv-loop μ-loop = search in
+    let entry : tie.Start Inv-loop μ-loop = search in
     met-more (λ k. getD (entry .args .held .now) k 0) (loop .loop .inv) (c .if1 .taken)
 
 cast-t8 : tie.Need-cast-t8 Inv-loop μ-loop
 cast-t8 c =
-    let loop = c .before .before in
-    let entry = loop .before in
+    let loop : tie.At-loop Inv-loop μ-loop = search in
+    let entry : tie.Start Inv-loop μ-loop = search in
     omega (arith, entry .pre .1, not-past (λ k. getD (entry .args .held .now) k 0) (loop .loop .inv) (entry .pre .2))
 
 returns : tie.Need-returns Inv-loop μ-loop
-returns c = record { below = c .before .before .loop .inv; at = c .if1 .left }
+returns c =
+    let at-loop : tie.At-loop Inv-loop μ-loop = search in
+    record { below = at-loop .loop .inv; at = c .if1 .left }
 
 pub first-free-spec : {M : Type 1} → statement M
 first-free-spec =

@@ -17,8 +17,9 @@ wave-of-bank-requires c κs = let fine = c .before .check-small .ensures .1 (c .
 
 returns-2 : tie.Need-returns-2
 returns-2 c =
-    let test = c .before in
-    let none = sym (test .if1 .left) ∙ test .before .check-small .ensures .0 in
+    let test : tie.Else1 = search in
+    let after-check-small : tie.After-check-small = search in
+    let none = sym (test .if1 .left) ∙ after-check-small .check-small .ensures .0 in
     (none, c .wave-of-bank .ensures ∙ read-wave _ _ _ ∙ wave-found _ _ _ none)
 
 pub wave-by-rule-spec : {M : Type 1} → statement M

@@ -16,15 +16,17 @@ without-banks-requires c κs = search needs
 
 returns : tie.Need-returns
 returns c =
+    let after-check-plan : tie.After-check-plan = search in
     let gave = c .without-banks .ensures in
-    answer-plan _ _ _ (gave .0) (gave .1) (gave .2) (gave .3) (c .before .before .check-plan .ensures .0) (c .before .if1 .taken) refl
+    answer-plan _ _ _ (gave .0) (gave .1) (gave .2) (gave .3) (after-check-plan .check-plan .ensures .0) (c .before .if1 .taken) refl
 
 slice-aggregate-read-sheet : tie.Need-slice-aggregate-read-sheet
 slice-aggregate-read-sheet c = search needs
 
 read-sheet-requires : tie.Need-read-sheet-requires
 read-sheet-requires c κs =
-    let plan = c .before .before .check-plan .ensures .1 (c .before .if1 .left) in
+    let after-check-plan : tie.After-check-plan = search in
+    let plan = after-check-plan .check-plan .ensures .1 (c .before .if1 .left) in
     let most = plan-most _ _ _ plan in
     (cells-enough _ most, cells-free _ most)
 
@@ -33,9 +35,12 @@ without-banks-requires-2 c κs = search needs
 
 returns-2 : tie.Need-returns-2
 returns-2 c =
+    let after-read-sheet : tie.After-read-sheet = search in
+    let else1 : tie.Else1 = search in
+    let after-check-plan : tie.After-check-plan = search in
     let gave = c .without-banks2 .ensures in
-    let none = sym (c .before .before .before .before .before .before .if1 .left) ∙ c .before .before .before .before .before .before .before .check-plan .ensures .0 in
-    let read = c .before .before .before .before .read-sheet .ensures in
+    let none = sym (else1 .if1 .left) ∙ after-check-plan .check-plan .ensures .0 in
+    let read = after-read-sheet .read-sheet .ensures in
     let no-sheet = not-true _ (c .before .if2 .taken) in
     answer-sheet _ _ _ (gave .0) (gave .1) (gave .2) (gave .3) none refl (read .none no-sheet) (read .fault no-sheet)
 
@@ -44,13 +49,19 @@ slice-aggregate-judge c = search needs
 
 judge-requires : tie.Need-judge-requires
 judge-requires c κs =
-    let plan = c .before .before .before .before .before .before .before .check-plan .ensures .1 (c .before .before .before .before .before .before .if1 .left) in
+    let else1 : tie.Else1 = search in
+    let after-check-plan : tie.After-check-plan = search in
+    let plan = after-check-plan .check-plan .ensures .1 (else1 .if1 .left) in
     (rows-of _ _ plan, omega (arith, plan-most _ _ _ plan))
 
 returns-3 : tie.Need-returns-3
 returns-3 c =
-    let none = sym (c .before .before .before .before .before .before .before .if1 .left) ∙ c .before .before .before .before .before .before .before .before .check-plan .ensures .0 in
-    answer-judged _ _ _ none (c .before .before .before .before .before .read-sheet .ensures .some (not-false _ (c .before .before .if2 .left))) (c .judge .ensures)
+    let else2 : tie.Else2 = search in
+    let after-read-sheet : tie.After-read-sheet = search in
+    let else1 : tie.Else1 = search in
+    let after-check-plan : tie.After-check-plan = search in
+    let none = sym (else1 .if1 .left) ∙ after-check-plan .check-plan .ensures .0 in
+    answer-judged _ _ _ none (after-read-sheet .read-sheet .ensures .some (not-false _ (else2 .if2 .left))) (c .judge .ensures)
 
 pub check-sheet-spec : {M : Type 1} → statement M
 check-sheet-spec =

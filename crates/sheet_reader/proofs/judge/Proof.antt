@@ -7,7 +7,9 @@ use Rattle.sheet_reader.proofs.judge.Statement.{statement}
 use Rattle.sheet_reader.proofs.judge.Tie as tie
 
 find-clash-requires : tie.Need-find-clash-requires
-find-clash-requires c κs = (c .before .before .before .pre .0, c .before .before .before .pre .1)
+find-clash-requires c κs =
+    let start : tie.Start = search in
+    (start .pre .0, start .pre .1)
 
 returns : tie.Need-returns
 returns c =
@@ -24,13 +26,15 @@ without-banks-requires c κs = search needs
 
 returns-2 : tie.Need-returns-2
 returns-2 c =
-    let pair = c .before .before .before .before .find-clash .ensures in
+    let else1 : tie.Else1 = search in
+    let after-find-clash : tie.After-find-clash = search in
+    let pair = after-find-clash .find-clash .ensures in
     let gave = c .without-banks .ensures in
     record {
-      number = gave .0 ∙ many-waves _ _ _ _ (sym (pair .found-is) ∙ c .before .before .before .if1 .left) (c .before .if2 .taken);
+      number = gave .0 ∙ many-waves _ _ _ _ (sym (pair .found-is) ∙ else1 .if1 .left) (c .before .if2 .taken);
       line = gave .1;
-      first = gave .2 ∙ none-first _ _ (sym (pair .found-is) ∙ c .before .before .before .if1 .left);
-      second = gave .3 ∙ none-second _ _ (sym (pair .found-is) ∙ c .before .before .before .if1 .left);
+      first = gave .2 ∙ none-first _ _ (sym (pair .found-is) ∙ else1 .if1 .left);
+      second = gave .3 ∙ none-second _ _ (sym (pair .found-is) ∙ else1 .if1 .left);
     }
 
 without-banks-requires-2 : tie.Need-without-banks-requires-2
@@ -38,13 +42,15 @@ without-banks-requires-2 c κs = search needs
 
 returns-3 : tie.Need-returns-3
 returns-3 c =
-    let pair = c .before .before .before .before .find-clash .ensures in
+    let else1 : tie.Else1 = search in
+    let after-find-clash : tie.After-find-clash = search in
+    let pair = after-find-clash .find-clash .ensures in
     let gave = c .without-banks2 .ensures in
     record {
-      number = gave .0 ∙ kept-apart _ _ _ _ (sym (pair .found-is) ∙ c .before .before .before .if1 .left) (c .before .if2 .left);
+      number = gave .0 ∙ kept-apart _ _ _ _ (sym (pair .found-is) ∙ else1 .if1 .left) (c .before .if2 .left);
       line = gave .1;
-      first = gave .2 ∙ none-first _ _ (sym (pair .found-is) ∙ c .before .before .before .if1 .left);
-      second = gave .3 ∙ none-second _ _ (sym (pair .found-is) ∙ c .before .before .before .if1 .left);
+      first = gave .2 ∙ none-first _ _ (sym (pair .found-is) ∙ else1 .if1 .left);
+      second = gave .3 ∙ none-second _ _ (sym (pair .found-is) ∙ else1 .if1 .left);
     }
 
 pub judge-spec : {M : Type 1} → statement M

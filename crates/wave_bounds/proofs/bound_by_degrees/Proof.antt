@@ -17,7 +17,9 @@ count-cells-requires : tie.Need-count-cells-requires Inv-loop μ-loop
 count-cells-requires c κs = search needs
 
 loop-holds : tie.Need-loop-holds Inv-loop μ-loop
-loop-holds c = (search needs, none-looked _ _ (c .before .before .pre))
+loop-holds c =
+    let start : tie.Start Inv-loop μ-loop = search in
+    (search needs, none-looked _ _ (start .pre))
 
 sub-d : tie.Need-sub-d Inv-loop μ-loop
 sub-d c = search needs
@@ -30,9 +32,10 @@ array-read-high c = search needs
 
 add-high : tie.Need-add-high Inv-loop μ-loop
 add-high c =
-    let loop = c .before in
-    let count = loop .before in
-    record { fits = sum-fits _ (count .before .before .pre) (loop .loop .inv .1) (count .count-cells .ensures) _ (omega arith) }
+    let loop : tie.At-loop Inv-loop μ-loop = search in
+    let count : tie.After-count-cells Inv-loop μ-loop = search in
+    let start : tie.Start Inv-loop μ-loop = search in
+    record { fits = sum-fits _ (start .pre) (loop .loop .inv .1) (count .count-cells .ensures) _ (omega arith) }
 
 add-most : tie.Need-add-most Inv-loop μ-loop
 add-most c = search needs
@@ -45,8 +48,8 @@ cast-result c = search needs
 
 returns : tie.Need-returns Inv-loop μ-loop
 returns c =
-    let loop = c .before .before .before in
-    let count = loop .before in
+    let loop : tie.At-loop Inv-loop μ-loop = search in
+    let count : tie.After-count-cells Inv-loop μ-loop = search in
     found _ _ (loop .loop .inv .1) (omega arith) (count .count-cells .ensures) (omega (arith, c .before .wide .ensures, c .if1 .taken))
 
 add-seen : tie.Need-add-seen Inv-loop μ-loop
@@ -57,8 +60,8 @@ loop-less c = search needs
 
 loop-again : tie.Need-loop-again Inv-loop μ-loop
 loop-again c =
-    let loop = c .before .before .before in
-    let count = loop .before in
+    let loop : tie.At-loop Inv-loop μ-loop = search in
+    let count : tie.After-count-cells Inv-loop μ-loop = search in
     (search needs, passed _ _ (loop .loop .inv .1) (omega arith) (count .count-cells .ensures) (omega (arith, c .before .wide .ensures, c .if1 .left)))
 
 returns-2 : tie.Need-returns-2 Inv-loop μ-loop

@@ -16,9 +16,10 @@ bound-by-degrees-requires c κs = plan-degrees (c .before .check-plan .ensures .
 
 returns-2 : tie.Need-returns-2
 returns-2 c =
-    let test = c .before in
-    let plan = test .before .check-plan .ensures .1 (test .if1 .left) in
-    let none = sym (test .if1 .left) ∙ test .before .check-plan .ensures .0 in
+    let test : tie.Else1 = search in
+    let after-check-plan : tie.After-check-plan = search in
+    let plan = after-check-plan .check-plan .ensures .1 (test .if1 .left) in
+    let none = sym (test .if1 .left) ∙ after-check-plan .check-plan .ensures .0 in
     (none, plan-bound plan (c .bound-by-degrees .ensures) ∙ bound-found _ _ none)
 
 pub wave-bound-spec : {M : Type 1} → statement M

@@ -17,8 +17,10 @@ same-length c = search needs
 returns : tie.Need-returns
 unfolding acceptedText
 returns c =
-    let put = c .before .before .put-text .ensures in
-    (rw (c .before .before .before .before .before .if1 .taken) put, omega (arith, put .next))
+    let after-put-text : tie.After-put-text = search in
+    let then1 : tie.Then1 = search in
+    let put = after-put-text .put-text .ensures in
+    (rw (then1 .if1 .taken) put, omega (arith, put .next))
 
 slice-aggregate-put-text-2 : tie.Need-slice-aggregate-put-text-2
 slice-aggregate-put-text-2 c = search needs
@@ -32,8 +34,10 @@ same-length-2 c = search needs
 returns-2 : tie.Need-returns-2
 unfolding acceptedText
 returns-2 c =
-    let put = c .before .before .put-text2 .ensures in
-    (rw (c .before .before .before .before .before .if1 .left) put, omega (arith, put .next))
+    let after-put-text2 : tie.After-put-text2 = search in
+    let else1 : tie.Else1 = search in
+    let put = after-put-text2 .put-text2 .ensures in
+    (rw (else1 .if1 .left) put, omega (arith, put .next))
 
 pub put-accepted-spec : {M : Type 1} → statement M
 put-accepted-spec =

@@ -42,11 +42,15 @@ same-length c = search needs
 returns : tie.Need-returns
 unfolding clashText
 returns c =
-    let start = c .before .before .before .before .before .before .before .before .before .before .before .before .before .before .before .before .before .before .before in
+    let after-put-text : tie.After-put-text = search in
+    let after-letter : tie.After-letter = search in
+    let after-put-numbered2 : tie.After-put-numbered2 = search in
+    let after-put-numbered : tie.After-put-numbered = search in
+    let start : tie.Start = search in
     let a = start .args in
-    let p = c .before .before .before .before .before .before .before .before .before .before .before .before .before .before .put-numbered in
-    let q = c .before .before .before .before .before .before .before .before .put-numbered2 in
-    let r = rw (c .before .before .before .before .letter .ensures) at (c .before .before .put-text .ensures) in
+    let p = after-put-numbered .put-numbered in
+    let q = after-put-numbered2 .put-numbered2 in
+    let r = rw (after-letter .letter .ensures) at (after-put-text .put-text .ensures) in
     let room = start .pre .1 in
     let n₁ = p .ensures .0 .next in
     let n₂ = q .ensures .0 .next in

@@ -13,8 +13,9 @@ put-named-requires c κs = search needs
 
 put-text-requires : tie.Need-put-text-requires
 put-text-requires c κs =
-    let start = c .before .before .before .before .before .before .before .before in
-    let p = c .before .before .before .put-named in
+    let after-put-named : tie.After-put-named = search in
+    let start : tie.Start = search in
+    let p = after-put-named .put-named in
     omega (arith, length-named (start .args .text .now) (start .args .x) (omega (arith, start .fits .x)), start .pre, p .ensures .next, p .kept .0)
 
 same-length : tie.Need-same-length
@@ -23,10 +24,12 @@ same-length c = search needs
 returns : tie.Need-returns
 unfolding numbered
 returns c =
-    let start = c .before .before .before .before .before .before .before .before .before .before .before in
+    let after-put-text : tie.After-put-text = search in
+    let after-put-named : tie.After-put-named = search in
+    let start : tie.Start = search in
     let a = start .args in
-    let p = c .before .before .before .before .before .before .put-named in
-    let q = c .before .before .put-text in
+    let p = after-put-named .put-named in
+    let q = after-put-text .put-text in
     let short = length-named (a .text .now) (a .x) (omega (arith, start .fits .x)) in
     let room = start .pre in
     let all = puts-then (named (a .text .now) (a .x)) (a .after .now) (a .at) (a .out .now) (omega arith) _ _ _ _ (p .ensures) (q .ensures) in

@@ -19,8 +19,10 @@ write-sheet-requires c κs = search needs
 
 returns : tie.Need-returns
 returns c =
-    let held = c .before .before .before .before .before .before .before .before .before .before .pre in
-    let wrote = c .before .before .write-sheet .ensures in
+    let after-write-sheet : tie.After-write-sheet = search in
+    let start : tie.Start = search in
+    let held = start .pre in
+    let wrote = after-write-sheet .write-sheet .ensures in
     own-long _ _ held _ (own-length _ _ held _ room wrote) (c .if1 .taken)
 
 sub-text-at : tie.Need-sub-text-at
@@ -31,8 +33,10 @@ part-text-at-start c = search needs
 
 part-text-at-end : tie.Need-part-text-at-end
 part-text-at-end c =
-    let held = c .before .before .before .before .before .before .before .before .before .before .before .pre in
-    let wrote = c .before .before .before .write-sheet .ensures in
+    let after-write-sheet : tie.After-write-sheet = search in
+    let start : tie.Start = search in
+    let held = start .pre in
+    let wrote = after-write-sheet .write-sheet .ensures in
     omega (arith, own-inside _ _ held _ room wrote)
 
 text-at-requires : tie.Need-text-at-requires
@@ -40,10 +44,13 @@ text-at-requires c κs = search needs
 
 returns-2 : tie.Need-returns-2
 returns-2 c =
-    let held = c .before .before .before .before .before .before .before .before .before .before .before .before .before .pre in
-    let wrote = c .before .before .before .before .before .write-sheet .ensures in
+    let else1 : tie.Else1 = search in
+    let after-write-sheet : tie.After-write-sheet = search in
+    let start : tie.Start = search in
+    let held = start .pre in
+    let wrote = after-write-sheet .write-sheet .ensures in
     let long = own-length _ _ held _ room wrote in
-    own-text _ _ held _ (own-bytes _ _ held _ room wrote) (omega (arith, long, c .before .before .before .if1 .left)) _ (c .text-at .ensures)
+    own-text _ _ held _ (own-bytes _ _ held _ room wrote) (omega (arith, long, else1 .if1 .left)) _ (c .text-at .ensures)
 
 pub is-own-spec : {M : Type 1} → statement M
 is-own-spec =

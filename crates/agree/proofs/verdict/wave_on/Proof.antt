@@ -10,7 +10,9 @@ slice-aggregate-read-sheet : tie.Need-slice-aggregate-read-sheet
 slice-aggregate-read-sheet c = search needs
 
 read-sheet-requires : tie.Need-read-sheet-requires
-read-sheet-requires c κs = let most = c .before .before .pre .2 in (cells-enough _ most, cells-free _ most)
+read-sheet-requires c κs =
+    let start : tie.Start = search in
+    let most = start .pre .2 in (cells-enough _ most, cells-free _ most)
 
 wide-requires : tie.Need-wide-requires
 wide-requires c κs = search needs
@@ -23,8 +25,10 @@ array-read-t12 c = search needs
 
 returns : tie.Need-returns
 returns c =
-    let pre = c .before .before .before .before .before .pre in
-    rw (c .wide .ensures) (read-ok (pre .0) _ (c .before .before .read-sheet .ensures) _ (pre .1))
+    let after-read-sheet : tie.After-read-sheet = search in
+    let start : tie.Start = search in
+    let pre = start .pre in
+    rw (c .wide .ensures) (read-ok (pre .0) _ (after-read-sheet .read-sheet .ensures) _ (pre .1))
 
 pub wave-on-spec : {M : Type 1} → statement M
 wave-on-spec =

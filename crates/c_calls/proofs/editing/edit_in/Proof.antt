@@ -25,7 +25,9 @@ slice-aggregate-put-answer : tie.Need-slice-aggregate-put-answer
 slice-aggregate-put-answer c = search needs
 
 put-answer-requires : tie.Need-put-answer-requires
-put-answer-requires c κs = omega (arith, c .before .before .before .before .before .before .before .before .before .before .before .before .before .before .before .before)
+put-answer-requires c κs =
+    let after-edit-core-arg6 : tie.After-edit-core-arg6 = search in
+    omega (arith, after-edit-core-arg6)
 
 same-length : tie.Need-same-length
 same-length c = search needs
@@ -54,11 +56,12 @@ same-length-8 c = search needs
 returns-2 : tie.Need-returns-2
 unfolding editCall
 returns-2 c =
-    let put = c .before .before .before .before in
-    let core = put .before .before .before .before .before .before .before .before .before .before .before .before .before .before .before .before in
-    let read = core .before .before .before .before .before .before .before in
-    let test = read .before .before in
-    called _ 2 _ _ (test .before .room .ensures .0) _ _ _ _ (test .if1 .left) (read .tally-in .ensures) (ap editOutcome (core .edit-core .ensures))
+    let put : tie.After-put-answer = search in
+    let core : tie.After-edit-core = search in
+    let read : tie.After-tally-in = search in
+    let test : tie.Else1 = search in
+    let after-room : tie.After-room = search in
+    called _ 2 _ _ (after-room .room .ensures .0) _ _ _ _ (test .if1 .left) (read .tally-in .ensures) (ap editOutcome (core .edit-core .ensures))
     (put .put-answer .ensures .0) (put .put-answer .ensures .1)
 
 pub edit-in-spec : {M : Type 1} → statement M

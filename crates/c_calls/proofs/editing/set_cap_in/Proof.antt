@@ -27,11 +27,12 @@ same-length c = search needs
 
 returns-2 : tie.Need-returns-2
 returns-2 c =
-    let put = c .before .before in
-    let core = put .before .before in
-    let read = core .before in
-    let test = read .before .before in
-    cap-done _ _ _ (test .before .room .ensures .0) _ _ _ _ (test .if1 .left) (read .tally-in .ensures) (core .set-cap-core .ensures) (put .put-tally .ensures)
+    let put : tie.After-put-tally = search in
+    let core : tie.After-set-cap-core = search in
+    let read : tie.After-tally-in = search in
+    let test : tie.Else1 = search in
+    let after-room : tie.After-room = search in
+    cap-done _ _ _ (after-room .room .ensures .0) _ _ _ _ (test .if1 .left) (read .tally-in .ensures) (core .set-cap-core .ensures) (put .put-tally .ensures)
 
 pub set-cap-in-spec : {M : Type 1} → statement M
 set-cap-in-spec =

@@ -42,11 +42,12 @@ same-length-6 c = search needs
 
 returns-2 : tie.Need-returns-2
 returns-2 c =
-    let put = c .before .before in
-    let core = put .before .before .before .before .before .before .before .before .before .before .before .before in
-    let read = core .before .before .before .before .before .before in
-    let test = read .before .before in
-    open-done _ _ _ (test .before .room .ensures .0) _ _ _ _ (test .if1 .left) (read .tally-in .ensures) (core .open-core .ensures) (put .put-tally .ensures)
+    let put : tie.After-put-tally = search in
+    let core : tie.After-open-core = search in
+    let read : tie.After-tally-in = search in
+    let test : tie.Else1 = search in
+    let after-room : tie.After-room = search in
+    open-done _ _ _ (after-room .room .ensures .0) _ _ _ _ (test .if1 .left) (read .tally-in .ensures) (core .open-core .ensures) (put .put-tally .ensures)
 
 pub open-in-spec : {M : Type 1} → statement M
 open-in-spec =

@@ -24,7 +24,9 @@ slice-aggregate-put-answer : tie.Need-slice-aggregate-put-answer
 slice-aggregate-put-answer c = search needs
 
 put-answer-requires : tie.Need-put-answer-requires
-put-answer-requires c κs = omega (arith, c .before .before .before .before .before .before .before .before .before .before .before .before .before .before .before .before .before .before)
+put-answer-requires c κs =
+    let after-record-core-arg7 : tie.After-record-core-arg7 = search in
+    omega (arith, after-record-core-arg7)
 
 same-length : tie.Need-same-length
 same-length c = search needs
@@ -55,11 +57,12 @@ same-length-9 c = search needs
 
 returns-2 : tie.Need-returns-2
 returns-2 c =
-    let put = c .before .before .before .before in
-    let core = put .before .before .before .before .before .before .before .before .before .before .before .before .before .before .before .before .before .before in
-    let read = core .before .before .before .before .before .before .before .before in
-    let test = read .before .before in
-    record-done _ _ _ _ _ _ _ _ _ _ _ (test .before .room .ensures .0) (test .if1 .left) (read .tally-in .ensures) (core .record-core .ensures)
+    let put : tie.After-put-answer = search in
+    let core : tie.After-record-core = search in
+    let read : tie.After-tally-in = search in
+    let test : tie.Else1 = search in
+    let after-room : tie.After-room = search in
+    record-done _ _ _ _ _ _ _ _ _ _ _ (after-room .room .ensures .0) (test .if1 .left) (read .tally-in .ensures) (core .record-core .ensures)
     (put .put-answer .ensures .0) (put .put-answer .ensures .1)
 
 pub record-in-spec : {M : Type 1} → statement M

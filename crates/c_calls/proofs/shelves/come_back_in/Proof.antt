@@ -25,8 +25,8 @@ slice-aggregate-put-answer c = search needs
 
 put-answer-requires : tie.Need-put-answer-requires
 put-answer-requires c κs =
-    let core = c .before .before .before .before .before .before .before .before .before .before .before .before .before .before .before in
-    omega (arith, core .before .before .before .before .before .before .before .before .before)
+    let else1 : tie.Else1 = search in
+    omega (arith, else1)
 
 same-length : tie.Need-same-length
 same-length c = search needs
@@ -54,11 +54,12 @@ same-length-8 c = search needs
 
 returns-2 : tie.Need-returns-2
 returns-2 c =
-    let put = c .before .before .before .before in
-    let core = put .before .before .before .before .before .before .before .before .before .before .before .before .before .before .before .before in
-    let read = core .before .before .before .before .before .before .before in
-    let test = read .before .before in
-    back-done _ _ _ _ _ _ (read .tally-in .ensures) (test .if1 .left) _ _ _ _ _ (test .before .room .ensures .0) (core .come-back-core .ensures)
+    let put : tie.After-put-answer = search in
+    let core : tie.After-come-back-core = search in
+    let read : tie.After-tally-in = search in
+    let test : tie.Else1 = search in
+    let after-room : tie.After-room = search in
+    back-done _ _ _ _ _ _ (read .tally-in .ensures) (test .if1 .left) _ _ _ _ _ (after-room .room .ensures .0) (core .come-back-core .ensures)
     (put .put-answer .ensures .0) (put .put-answer .ensures .1)
 
 pub come-back-in-spec : {M : Type 1} → statement M

@@ -24,10 +24,11 @@ same-length c = search needs
 
 returns-2 : tie.Need-returns-2
 returns-2 c =
-    let core = c .before .before in
-    let read = core .before .before in
-    let test = read .before in
-    keep-done _ _ _ _ _ _ (read .tally-in .ensures) (test .if1 .left) _ (test .before .room .ensures .0) (core .keep .ensures)
+    let core : tie.After-keep = search in
+    let read : tie.After-tally-in = search in
+    let test : tie.Else1 = search in
+    let after-room : tie.After-room = search in
+    keep-done _ _ _ _ _ _ (read .tally-in .ensures) (test .if1 .left) _ (after-room .room .ensures .0) (core .keep .ensures)
 
 pub keep-in-spec : {M : Type 1} → statement M
 keep-in-spec =

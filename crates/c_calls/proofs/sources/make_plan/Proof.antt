@@ -38,8 +38,9 @@ same-length-7 c = search needs
 
 returns : tie.Need-returns
 returns c =
-    let core = c .before .before .before .before .before .before .before .before .before .before .before .before .before .before .before in
-    rw (core .before .before .before .before .before .before .before .before .enum-told .given .1) (core .read-list-core .ensures)
+    let core : tie.After-read-list-core = search in
+    let after-enum-told : tie.After-enum-told = search in
+    rw (after-enum-told .enum-told .given .1) (core .read-list-core .ensures)
 
 same-length-8 : tie.Need-same-length-8
 same-length-8 c = search needs
@@ -64,8 +65,9 @@ same-length-14 c = search needs
 
 returns-2 : tie.Need-returns-2
 returns-2 c =
-    let core = c .before .before .before .before .before .before .before .before .before .before .before .before .before .before .before in
-    rw (core .before .before .before .before .before .before .before .before .enum-told2 .given .1) (core .replay-core .ensures)
+    let core : tie.After-replay-core = search in
+    let after-enum-told2 : tie.After-enum-told2 = search in
+    rw (after-enum-told2 .enum-told2 .given .1) (core .replay-core .ensures)
 
 pub make-plan-spec : {M : Type 1} → statement M
 make-plan-spec =

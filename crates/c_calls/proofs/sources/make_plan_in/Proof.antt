@@ -16,8 +16,9 @@ room-requires c κs = search needs
 
 returns : tie.Need-returns
 returns c =
-    let room = c .before in
-    source-refused _ _ _ _ _ (room .before .results-of .ensures .0) (room .room .ensures .0) (c .if1 .taken)
+    let room : tie.After-room = search in
+    let after-results-of : tie.After-results-of = search in
+    source-refused _ _ _ _ _ (after-results-of .results-of .ensures .0) (room .room .ensures .0) (c .if1 .taken)
 
 tally-in-requires : tie.Need-tally-in-requires
 tally-in-requires c κs = search needs
@@ -33,14 +34,15 @@ part-put-answer-start c = search needs
 
 part-put-answer-end : tie.Need-part-put-answer-end
 part-put-answer-end c =
-    let core = c .before .before .before .before .before .before .before .before .before .before .before .before .before .before .before .before .before in
-    let test = core .before .before .before .before .before .before .before .before .before .before in
-    let long = long-result _ _ _ _ (test .before .room .ensures .0) (test .if1 .left) in
+    let test : tie.Else1 = search in
+    let after-room : tie.After-room = search in
+    let long = long-result _ _ _ _ (after-room .room .ensures .0) (test .if1 .left) in
     omega (arith, long)
 
 put-answer-requires : tie.Need-put-answer-requires
 put-answer-requires c κs =
-    let test = c .before .before .before .before .before .before .before .before .before .before .before .before .before .before .before .before .before .before .before .before .before .before .before
+    let after-make-plan-arg3 : tie.After-make-plan-arg3 = search in
+    let test = after-make-plan-arg3
     .before .before .before .before .before in
     let room = test .before .room in
     let long = long-result _ _ _ _ (room .ensures .0) (test .if1 .left) in
@@ -75,12 +77,13 @@ same-length-9 c = search needs
 
 returns-2 : tie.Need-returns-2
 returns-2 c =
-    let put = c .before .before .before .before in
-    let core = put .before .before .before .before .before .before .before .before .before .before .before .before .before .before .before .before .before .before .before in
-    let read = core .before .before .before .before .before .before .before .before in
-    let test = read .before .before in
-    let room = test .before in
-    source-done _ _ _ _ _ (room .before .results-of .ensures .0) (room .room .ensures .0) _ _ _ _ _ _ _
+    let put : tie.After-put-answer = search in
+    let core : tie.After-make-plan = search in
+    let read : tie.After-tally-in = search in
+    let test : tie.Else1 = search in
+    let room : tie.After-room = search in
+    let after-results-of : tie.After-results-of = search in
+    source-done _ _ _ _ _ (after-results-of .results-of .ensures .0) (room .room .ensures .0) _ _ _ _ _ _ _
     (test .if1 .left) (read .tally-in .ensures) (core .make-plan .ensures) (put .put-answer .ensures .0) (rw sub-zero at (put .put-answer .ensures .1))
 
 pub make-plan-in-spec : {M : Type 1} → statement M

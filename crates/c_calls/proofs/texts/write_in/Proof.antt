@@ -33,11 +33,12 @@ same-length-2 c = search needs
 
 returns-2 : tie.Need-returns-2
 returns-2 c =
-    let put = c .before .before in
-    let core = put .before .before .before .before .before in
-    let read = core .before .before in
-    let test = read .before in
-    text-done _ _ _ _ _ _ _ _ _ (test .before .room .ensures .0) (test .if1 .left) (read .tally-in .ensures) (core .write-text .ensures) (put .put-front .ensures)
+    let put : tie.After-put-front = search in
+    let core : tie.After-write-text = search in
+    let read : tie.After-tally-in = search in
+    let test : tie.Else1 = search in
+    let after-room : tie.After-room = search in
+    text-done _ _ _ _ _ _ _ _ _ (after-room .room .ensures .0) (test .if1 .left) (read .tally-in .ensures) (core .write-text .ensures) (put .put-front .ensures)
 
 pub write-in-spec : {M : Type 1} → statement M
 write-in-spec =

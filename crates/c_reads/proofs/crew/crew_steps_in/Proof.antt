@@ -33,11 +33,12 @@ same-length-2 c = search needs
 
 returns-2 : tie.Need-returns-2
 returns-2 c =
-    let put = c .before .before in
-    let core = put .before .before .before .before .before in
-    let read = core .before .before in
-    let test = read .before in
-    crew-done _ _ _ _ _ (read .tally-in .ensures) (test .if1 .left) (test .before .room .ensures .0) _ _ _ _ _ (core .crew-steps .ensures) (put .put-front .ensures)
+    let put : tie.After-put-front = search in
+    let core : tie.After-crew-steps = search in
+    let read : tie.After-tally-in = search in
+    let test : tie.Else1 = search in
+    let after-room : tie.After-room = search in
+    crew-done _ _ _ _ _ (read .tally-in .ensures) (test .if1 .left) (after-room .room .ensures .0) _ _ _ _ _ (core .crew-steps .ensures) (put .put-front .ensures)
 
 pub crew-steps-in-spec : {M : Type 1} → statement M
 crew-steps-in-spec =

@@ -30,11 +30,12 @@ same-length c = search needs
 
 returns-2 : tie.Need-returns-2
 returns-2 c =
-    let put = c .before .before in
-    let core = put .before .before .before in
-    let read = core .before in
-    let test = read .before in
-    least-done _ _ _ _ _ (read .tally-in .ensures) (test .if1 .left) (test .before .room .ensures .0) _ _ _ (core .least-crew .ensures) (put .put-front .ensures)
+    let put : tie.After-put-front = search in
+    let core : tie.After-least-crew = search in
+    let read : tie.After-tally-in = search in
+    let test : tie.Else1 = search in
+    let after-room : tie.After-room = search in
+    least-done _ _ _ _ _ (read .tally-in .ensures) (test .if1 .left) (after-room .room .ensures .0) _ _ _ (core .least-crew .ensures) (put .put-front .ensures)
 
 pub least-crew-in-spec : {M : Type 1} → statement M
 least-crew-in-spec =

@@ -29,7 +29,9 @@ row-start-requires : tie.Need-row-start-requires
 row-start-requires c κs = λ none. bank-small _ _ _ (sym (c .before .wave-of .ensures .0) ∙ none)
 
 cast-t22 : tie.Need-cast-t22
-cast-t22 c = omega (arith, few-clashes _ _ _ _ (c .before .before .clashes-of .ensures))
+cast-t22 c =
+    let after-clashes-of : tie.After-clashes-of = search in
+    omega (arith, few-clashes _ _ _ _ (after-clashes-of .clashes-of .ensures))
 
 slice-aggregate-put-front : tie.Need-slice-aggregate-put-front
 slice-aggregate-put-front c = search needs
@@ -42,13 +44,14 @@ same-length c = search needs
 
 returns-2 : tie.Need-returns-2
 returns-2 c =
-    let put = c .before .before in
-    let start = put .before .before .before in
-    let part = start .before in
-    let core = part .before in
-    let read = core .before in
-    let test = read .before in
-    clashes-done _ _ _ _ _ _ (read .tally-in .ensures) (test .if1 .left) _ _ _ _ (test .before .room .ensures .0) (core .wave-of .ensures .0) (start .row-start .ensures) (part .clashes-of .ensures)
+    let put : tie.After-put-front = search in
+    let start : tie.After-row-start = search in
+    let part : tie.After-clashes-of = search in
+    let core : tie.After-wave-of = search in
+    let read : tie.After-tally-in = search in
+    let test : tie.Else1 = search in
+    let after-room : tie.After-room = search in
+    clashes-done _ _ _ _ _ _ (read .tally-in .ensures) (test .if1 .left) _ _ _ _ (after-room .room .ensures .0) (core .wave-of .ensures .0) (start .row-start .ensures) (part .clashes-of .ensures)
     (put .put-front .ensures)
 
 pub clashes-of-in-spec : {M : Type 1} → statement M

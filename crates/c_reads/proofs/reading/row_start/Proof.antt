@@ -17,7 +17,9 @@ mul-result : tie.Need-mul-result
 mul-result c = search needs
 
 cast-result : tie.Need-cast-result
-cast-result c = omega (arith, c .before .before .pre (c .before .if1 .left))
+cast-result c =
+    let start : tie.Start = search in
+    omega (arith, start .pre (c .before .if1 .left))
 
 returns-2 : tie.Need-returns-2
 returns-2 c = ap (λ (x : ℕ). 23 * x) (c .wide .ensures) ∙ row-start-none _ _ (c .before .if1 .left)

@@ -30,11 +30,12 @@ same-length c = search needs
 
 returns-2 : tie.Need-returns-2
 returns-2 c =
-    let put = c .before .before in
-    let core = put .before .before .before in
-    let read = core .before in
-    let test = read .before in
-    wave-done _ _ _ _ _ _ (read .tally-in .ensures) (test .if1 .left) _ _ _ (test .before .room .ensures .0) (core .wave-of .ensures .0) (core .wave-of .ensures .1) (put .put-front .ensures)
+    let put : tie.After-put-front = search in
+    let core : tie.After-wave-of = search in
+    let read : tie.After-tally-in = search in
+    let test : tie.Else1 = search in
+    let after-room : tie.After-room = search in
+    wave-done _ _ _ _ _ _ (read .tally-in .ensures) (test .if1 .left) _ _ _ (after-room .room .ensures .0) (core .wave-of .ensures .0) (core .wave-of .ensures .1) (put .put-front .ensures)
 
 pub wave-of-in-spec : {M : Type 1} → statement M
 wave-of-in-spec =

@@ -27,11 +27,12 @@ same-length c = search needs
 
 returns-2 : tie.Need-returns-2
 returns-2 c =
-    let put = c .before .before in
-    let core = put .before .before .before in
-    let read = core .before in
-    let test = read .before in
-    sheet-done _ _ _ _ _ (test .before .room .ensures .0) _ (read .tally-in .ensures) (test .if1 .left) (core .check-sheet .ensures) (put .put-front .ensures)
+    let put : tie.After-put-front = search in
+    let core : tie.After-check-sheet = search in
+    let read : tie.After-tally-in = search in
+    let test : tie.Else1 = search in
+    let after-room : tie.After-room = search in
+    sheet-done _ _ _ _ _ (after-room .room .ensures .0) _ (read .tally-in .ensures) (test .if1 .left) (core .check-sheet .ensures) (put .put-front .ensures)
 
 pub check-sheet-in-spec : {M : Type 1} → statement M
 check-sheet-in-spec =

@@ -13,38 +13,41 @@ slice-aggregate-try-edit-2 : tie.Need-slice-aggregate-try-edit-2
 slice-aggregate-try-edit-2 c = search needs
 
 try-edit-requires : tie.Need-try-edit-requires
-try-edit-requires c κs = let p = c .before .before .before .before .before .before .before .before .before .before .before .before .before .pre in (_, own-ready (p .1))
+try-edit-requires c κs =
+    let start : tie.Start = search in
+    let p = start .pre in (_, own-ready (p .1))
 
 slice-aggregate-put-kept : tie.Need-slice-aggregate-put-kept
 slice-aggregate-put-kept c = search needs
 
 put-kept-requires : tie.Need-put-kept-requires
 put-kept-requires c κs =
-    let at1 = c .before .before .before .before .before .before .before .before .before .before in
-    let at2 = at1 .before .before .before .before .before .before .before .before .before .before in
-    let start = at2 .before .before .before .before .before .before .before in
+    let after-own-trail2 : tie.After-own-trail2 = search in
+    let after-try-edit : tie.After-try-edit = search in
+    let after-try-edit-arg : tie.After-try-edit-arg = search in
+    let start : tie.Start = search in
     let a = start .args in
     let m = given (a .neighbours) (a .degrees) (a .waves) (a .counts) (a .ranks) (a .trail) (a .moved) (a .tally) in
     let p = start .pre in
     λ z.
-    let few = trail-few m (at1 .before .before .before .try-edit .ensures (p .0) (own-ready (p .1))) z in
-    (omega (arith, few, p .1 .plan .clashes .most, c .before .before .before .before .own-trail2 .given), omega (arith, few, p .1 .trailRoom))
+    let few = trail-few m (after-try-edit .try-edit .ensures (p .0) (own-ready (p .1))) z in
+    (omega (arith, few, p .1 .plan .clashes .most, after-own-trail2 .own-trail2 .given), omega (arith, few, p .1 .trailRoom))
 
 slice-aggregate-put-kept-2 : tie.Need-slice-aggregate-put-kept-2
 slice-aggregate-put-kept-2 c = search needs
 
 put-kept-requires-2 : tie.Need-put-kept-requires-2
 put-kept-requires-2 c κs =
-    let at1 = c .before .before .before .before .before .before .before .before .before .before in
-    let at2 = at1 .before .before .before .before .before .before .before .before .before .before in
-    let at3 = at2 .before .before .before .before .before .before .before .before .before .before in
-    let start = at3 .before .before in
+    let after-own-moved2 : tie.After-own-moved2 = search in
+    let after-try-edit : tie.After-try-edit = search in
+    let after-try-edit-arg : tie.After-try-edit-arg = search in
+    let start : tie.Start = search in
     let a = start .args in
     let m = given (a .neighbours) (a .degrees) (a .waves) (a .counts) (a .ranks) (a .trail) (a .moved) (a .tally) in
     let p = start .pre in
     λ z.
-    let few = moved-few m (at1 .before .before .before .before .before .before .before .before .try-edit .ensures (p .0) (own-ready (p .1))) z in
-    (omega (arith, few, p .1 .plan .clashes .most, c .before .before .before .before .before .before .before .before .own-moved2 .given), omega (arith, few, p .1 .movedRoom))
+    let few = moved-few m (after-try-edit .try-edit .ensures (p .0) (own-ready (p .1))) z in
+    (omega (arith, few, p .1 .plan .clashes .most, after-own-moved2 .own-moved2 .given), omega (arith, few, p .1 .movedRoom))
 
 same-length : tie.Need-same-length
 same-length c = search needs
@@ -66,13 +69,17 @@ same-length-6 c = search needs
 
 returns : tie.Need-returns
 returns c =
-    let at1 = c .before .before .before .before .before .before .before .before .before .before in
-    let at2 = at1 .before .before .before .before .before .before .before .before .before .before in
-    let at3 = at2 .before .before .before .before .before .before .before .before .before .before in
-    let a = at3 .before .before .before .before .before .args in
+    let after-put-kept2 : tie.After-put-kept2 = search in
+    let after-put-kept : tie.After-put-kept = search in
+    let after-own-trail2 : tie.After-own-trail2 = search in
+    let after-try-edit : tie.After-try-edit = search in
+    let after-try-edit-arg : tie.After-try-edit-arg = search in
+    let after-slice-known4 : tie.After-slice-known4 = search in
+    let start : tie.Start = search in
+    let a = start .args in
     let m = given (a .neighbours) (a .degrees) (a .waves) (a .counts) (a .ranks) (a .trail) (a .moved) (a .tally) in
     λ G ready.
-    apart m (at2 .before .try-edit .ensures G (own-ready ready)) (c .before .before .before .before .before .before .before .put-kept .ensures) (c .before .before .put-kept2 .ensures)
+    apart m (after-try-edit .try-edit .ensures G (own-ready ready)) (after-put-kept .put-kept .ensures) (after-put-kept2 .put-kept2 .ensures)
 
 pub edit-apart-spec : {M : Type 1} → statement M
 edit-apart-spec =

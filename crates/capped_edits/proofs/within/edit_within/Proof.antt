@@ -8,7 +8,9 @@ unlimited-requires : tie.Need-unlimited-requires
 unlimited-requires c κs = search needs
 
 edit-alone-requires : tie.Need-edit-alone-requires
-edit-alone-requires c κs = c .before .before .before .before .before .before .before .before .before .before .before .before .before .before .before .pre
+edit-alone-requires c κs =
+    let start : tie.Start = search in
+    start .pre
 
 same-length : tie.Need-same-length
 same-length c = search needs
@@ -30,12 +32,15 @@ same-length-6 c = search needs
 
 returns : tie.Need-returns
 returns c =
-    let at1 = c .before .before .before .before .before .before .before .before .before .before in
-    let free = at1 .before .before .before .before .before .before .before .before .before in
-    λ G ready. wide-within ready (free .before .unlimited .ensures (free .if1 .taken) .0) (free .before .unlimited .ensures (free .if1 .taken) .1) (at1 .before .before .edit-alone .ensures G ready)
+    let after-edit-alone : tie.After-edit-alone = search in
+    let free : tie.Then1 = search in
+    let after-unlimited : tie.After-unlimited = search in
+    λ G ready. wide-within ready (after-unlimited .unlimited .ensures (free .if1 .taken) .0) (after-unlimited .unlimited .ensures (free .if1 .taken) .1) (after-edit-alone .edit-alone .ensures G ready)
 
 edit-apart-requires : tie.Need-edit-apart-requires
-edit-apart-requires c κs = c .before .before .before .before .before .before .before .before .before .before .before .before .before .before .before .pre
+edit-apart-requires c κs =
+    let start : tie.Start = search in
+    start .pre
 
 same-length-7 : tie.Need-same-length-7
 same-length-7 c = search needs
@@ -56,7 +61,9 @@ same-length-12 : tie.Need-same-length-12
 same-length-12 c = search needs
 
 returns-2 : tie.Need-returns-2
-returns-2 c = c .before .before .before .before .before .before .before .before .before .before .before .before .edit-apart .ensures
+returns-2 c =
+    let after-edit-apart : tie.After-edit-apart = search in
+    after-edit-apart .edit-apart .ensures
 
 pub edit-within-spec : {M : Type 1} → statement M
 edit-within-spec =

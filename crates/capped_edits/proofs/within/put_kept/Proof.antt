@@ -21,13 +21,17 @@ part-put-front-start : tie.Need-part-put-front-start
 part-put-front-start c = search needs
 
 part-put-front-end : tie.Need-part-put-front-end
-part-put-front-end c = let n = c .before .before in search (needs, n .before .before .before .pre (n .if1 .left) .0)
+part-put-front-end c =
+    let n : tie.Else1 = search in
+    let start : tie.Start = search in
+    search (needs, start .pre (n .if1 .left) .0)
 
 put-front-requires : tie.Need-put-front-requires
 put-front-requires c κs =
-    let w = c .before .before .wide in
-    let n = c .before .before .before in
-    let s = n .before .before .before in
+    let after-wide : tie.After-wide = search in
+    let n : tie.Else1 = search in
+    let s : tie.Start = search in
+    let w = after-wide .wide in
     let fits = s .pre (n .if1 .left) in
     omega (arith, length-take (w .result - 0) (s .args .cells .now), w .ensures, fits .1)
 
@@ -36,12 +40,14 @@ same-length c = search needs
 
 returns-2 : tie.Need-returns-2
 returns-2 c =
-    let w = c .before .before .before .before .before in
-    let n = w .before in
-    let s = n .before .before .before .args in
+    let after-put-front : tie.After-put-front = search in
+    let w : tie.After-wide = search in
+    let n : tie.Else1 = search in
+    let start : tie.Start = search in
+    let s = start .args in
     let same : w .wide .result - 0 ≡ s .k = omega (arith, w .wide .ensures) in
     record {
-      some = λ z. (refl, c .before .before .put-front .ensures ∙ ap (λ (x : ℕ). over (take x (s .cells .now)) (s .slice .now)) same);
+      some = λ z. (refl, after-put-front .put-front .ensures ∙ ap (λ (x : ℕ). over (take x (s .cells .now)) (s .slice .now)) same);
       none = λ z. absurd (z (n .if1 .left));
     }
 

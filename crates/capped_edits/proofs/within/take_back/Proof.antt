@@ -29,8 +29,9 @@ same-length-6 c = search needs
 
 returns : tie.Need-returns
 returns c =
-    let e = c .before .before .before .before .before .before .before .before .before .before .before .before in
-    λ G ready. rw (e .before .before .before .before .before .before .before .opposite .ensures) at (e .edit-alone .ensures G ready)
+    let e : tie.After-edit-alone = search in
+    let after-opposite : tie.After-opposite = search in
+    λ G ready. rw (after-opposite .opposite .ensures) at (e .edit-alone .ensures G ready)
 
 pub take-back-spec : {M : Type 1} → statement M
 take-back-spec =

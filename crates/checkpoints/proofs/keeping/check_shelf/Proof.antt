@@ -10,7 +10,9 @@ wide-requires : tie.Need-wide-requires
 wide-requires c κs = search needs
 
 returns : tie.Need-returns
-returns c = let at1 = c .before .before .before in sym (shelf-many (at1 .args .banks) (at1 .args .shelf .now) (omega arith))
+returns c =
+    let start : tie.Start = search in
+    sym (shelf-many (start .args .banks) (start .args .shelf .now) (omega arith))
 
 place-size-requires : tie.Need-place-size-requires
 place-size-requires c κs = search needs
@@ -20,13 +22,13 @@ mul-if2 c = search needs
 
 returns-2 : tie.Need-returns-2
 returns-2 c =
-    let at1 = c .before .before .before .before .before in
-    sym (shelf-short (at1 .args .banks) (at1 .args .shelf .now) (omega arith) (omega arith))
+    let start : tie.Start = search in
+    sym (shelf-short (start .args .banks) (start .args .shelf .now) (omega arith) (omega arith))
 
 returns-3 : tie.Need-returns-3
 returns-3 c =
-    let at1 = c .before .before .before .before .before in
-    sym (shelf-fine (at1 .args .banks) (at1 .args .shelf .now) (omega arith) (omega arith))
+    let start : tie.Start = search in
+    sym (shelf-fine (start .args .banks) (start .args .shelf .now) (omega arith) (omega arith))
 
 pub check-shelf-spec : {M : Type 1} → statement M
 check-shelf-spec =

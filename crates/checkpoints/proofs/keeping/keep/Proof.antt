@@ -27,23 +27,25 @@ place-size-requires c κs = search needs
 
 mul-at : tie.Need-mul-at
 mul-at c =
-    let p1 = c .before .before .before in
-    let p2 = p1 .before in
-    let ready = p2 .check-keep .ensures .1 (p1 .if1 .left) in
+    let after-place-of : tie.After-place-of = search in
+    let else1 : tie.Else1 = search in
+    let after-check-keep : tie.After-check-keep = search in
+    let ready = after-check-keep .check-keep .ensures .1 (else1 .if1 .left) in
     let i = c .before .wide .result in
     let size = c .place-size .result in
-    let room = place-room i size (omega (arith, ready .known, c .before .before .place-of .ensures, c .before .wide .ensures)) in
+    let room = place-room i size (omega (arith, ready .known, after-place-of .place-of .ensures, c .before .wide .ensures)) in
     omega (arith, room, ready .few, c .place-size .ensures)
 
 put-plan-requires : tie.Need-put-plan-requires
 put-plan-requires c κs =
-    let p1 = c .before .before .before in
-    let p2 = p1 .before in
-    let p3 = p2 .before in
-    let ready = p3 .check-keep .ensures .1 (p2 .if1 .left) in
-    let i = c .before .before .wide .result in
+    let after-wide : tie.After-wide = search in
+    let after-place-of : tie.After-place-of = search in
+    let else1 : tie.Else1 = search in
+    let after-check-keep : tie.After-check-keep = search in
+    let ready = after-check-keep .check-keep .ensures .1 (else1 .if1 .left) in
+    let i = after-wide .wide .result in
     let size = c .before .place-size .result in
-    let room = place-room i size (omega (arith, ready .known, p1 .place-of .ensures, c .before .before .wide .ensures)) in
+    let room = place-room i size (omega (arith, ready .known, after-place-of .place-of .ensures, after-wide .wide .ensures)) in
     (omega (arith, room, ready .room, c .before .place-size .ensures), ready .long)
 
 same-length-2 : tie.Need-same-length-2
@@ -51,14 +53,15 @@ same-length-2 c = search needs
 
 returns-2 : tie.Need-returns-2
 returns-2 c =
-    let p1 = c .before .before .before .before in
-    let p2 = p1 .before in
-    let p3 = p2 .before in
-    let p4 = p3 .before in
-    let p5 = p4 .before in
-    keep-done _ _ _ _ _ _ (sym (p4 .if1 .left) ∙ p5 .check-keep .ensures .0)
-    (rw (p2 .wide .ensures ∙ p3 .place-of .ensures, p1 .place-size .ensures) refl)
-    (c .before .before .put-plan .ensures)
+    let after-put-plan : tie.After-put-plan = search in
+    let after-place-size : tie.After-place-size = search in
+    let after-wide : tie.After-wide = search in
+    let after-place-of : tie.After-place-of = search in
+    let else1 : tie.Else1 = search in
+    let after-check-keep : tie.After-check-keep = search in
+    keep-done _ _ _ _ _ _ (sym (else1 .if1 .left) ∙ after-check-keep .check-keep .ensures .0)
+    (rw (after-wide .wide .ensures ∙ after-place-of .place-of .ensures, after-place-size .place-size .ensures) refl)
+    (after-put-plan .put-plan .ensures)
 
 pub keep-spec : {M : Type 1} → statement M
 keep-spec =

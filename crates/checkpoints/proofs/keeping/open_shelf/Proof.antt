@@ -25,9 +25,10 @@ add-close c = search needs
 
 slice-write-shelf : tie.Need-slice-write-shelf
 slice-write-shelf c =
-    let at1 = c .before .before .before .before .before in
-    let shelf = at1 .args .shelf .now in
-    let passed = shelf-passed (at1 .args .banks) shelf (sym (c .before .before .check-shelf .ensures) ∙ c .before .if1 .left) in
+    let after-check-shelf : tie.After-check-shelf = search in
+    let start : tie.Start = search in
+    let shelf = start .args .shelf .now in
+    let passed = shelf-passed (start .args .banks) shelf (sym (after-check-shelf .check-shelf .ensures) ∙ c .before .if1 .left) in
     omega (arith, passed .0, passed .1)
 
 mul-shelf : tie.Need-mul-shelf
@@ -35,9 +36,10 @@ mul-shelf c = search needs
 
 slice-write-shelf-2 : tie.Need-slice-write-shelf-2
 slice-write-shelf-2 c =
-    let at1 = c .before .before .before .before .before in
-    let shelf = at1 .args .shelf .now in
-    let passed = shelf-passed (at1 .args .banks) shelf (sym (c .before .before .check-shelf .ensures) ∙ c .before .if1 .left) in
+    let after-check-shelf : tie.After-check-shelf = search in
+    let start : tie.Start = search in
+    let shelf = start .args .shelf .now in
+    let passed = shelf-passed (start .args .banks) shelf (sym (after-check-shelf .check-shelf .ensures) ∙ c .before .if1 .left) in
     omega (arith, passed .0, passed .1, length-set shelf 0 0)
 
 mul-shelf-2 : tie.Need-mul-shelf-2
@@ -45,9 +47,10 @@ mul-shelf-2 c = search needs
 
 slice-write-shelf-3 : tie.Need-slice-write-shelf-3
 slice-write-shelf-3 c =
-    let at1 = c .before .before .before .before .before in
-    let shelf = at1 .args .shelf .now in
-    let passed = shelf-passed (at1 .args .banks) shelf (sym (c .before .before .check-shelf .ensures) ∙ c .before .if1 .left) in
+    let after-check-shelf : tie.After-check-shelf = search in
+    let start : tie.Start = search in
+    let shelf = start .args .shelf .now in
+    let passed = shelf-passed (start .args .banks) shelf (sym (after-check-shelf .check-shelf .ensures) ∙ c .before .if1 .left) in
     let noon = c .place-size .result in
     omega (arith, passed .0, passed .1, length-set shelf 0 0, length-set (set shelf 0 0) noon 0)
 
@@ -56,10 +59,11 @@ same-length-2 c = search needs
 
 returns-2 : tie.Need-returns-2
 returns-2 c =
-    let at1 = c .before .before .before .before .before in
-    let shelf = at1 .args .shelf .now in
-    let passed = shelf-passed (at1 .args .banks) shelf (sym (c .before .before .check-shelf .ensures) ∙ c .before .if1 .left) in
-    shelf-opened (at1 .args .banks) shelf _ _ (sym (c .before .if1 .left) ∙ c .before .before .check-shelf .ensures) (passed .1) (omega arith) (omega arith)
+    let after-check-shelf : tie.After-check-shelf = search in
+    let start : tie.Start = search in
+    let shelf = start .args .shelf .now in
+    let passed = shelf-passed (start .args .banks) shelf (sym (after-check-shelf .check-shelf .ensures) ∙ c .before .if1 .left) in
+    shelf-opened (start .args .banks) shelf _ _ (sym (c .before .if1 .left) ∙ after-check-shelf .check-shelf .ensures) (passed .1) (omega arith) (omega arith)
 
 pub open-shelf-spec : {M : Type 1} → statement M
 open-shelf-spec =

@@ -34,37 +34,36 @@ mul-put-part c = search needs
 
 put-part-requires : tie.Need-put-part-requires
 put-part-requires c κs =
-    let at1 = c .before .before .before .before .before .before .before in
-    let l = long (at1 .args .n) _ (at1 .pre .1 .1) in
-    (omega (arith, l .neighbours), omega (arith, at1 .pre .0))
+    let start : tie.Start = search in
+    let l = long (start .args .n) _ (start .pre .1 .1) in
+    (omega (arith, l .neighbours), omega (arith, start .pre .0))
 
 put-part-requires-2 : tie.Need-put-part-requires-2
 put-part-requires-2 c κs =
-    let at1 = c .before .before .before .before .before .before .before .before .before .before .before in
-    let l = long (at1 .args .n) _ (at1 .pre .1 .1) in
-    (omega (arith, l .degrees), omega (arith, at1 .pre .0))
+    let start : tie.Start = search in
+    let l = long (start .args .n) _ (start .pre .1 .1) in
+    (omega (arith, l .degrees), omega (arith, start .pre .0))
 
 put-part-requires-3 : tie.Need-put-part-requires-3
 put-part-requires-3 c κs =
-    let at1 = c .before .before .before .before .before .before .before .before .before .before .before .before .before .before .before in
-    let l = long (at1 .args .n) _ (at1 .pre .1 .1) in
-    (omega (arith, l .waves), omega (arith, at1 .pre .0))
+    let start : tie.Start = search in
+    let l = long (start .args .n) _ (start .pre .1 .1) in
+    (omega (arith, l .waves), omega (arith, start .pre .0))
 
 mul-put-part-2 : tie.Need-mul-put-part-2
 mul-put-part-2 c = search needs
 
 put-part-requires-4 : tie.Need-put-part-requires-4
 put-part-requires-4 c κs =
-    let at1 = c .before .before .before .before .before .before .before .before .before .before .before .before .before .before .before .before .before .before .before in
-    let l = long (at1 .args .n) _ (at1 .pre .1 .1) in
-    (omega (arith, l .counts), omega (arith, at1 .pre .0))
+    let start : tie.Start = search in
+    let l = long (start .args .n) _ (start .pre .1 .1) in
+    (omega (arith, l .counts), omega (arith, start .pre .0))
 
 put-part-requires-5 : tie.Need-put-part-requires-5
 put-part-requires-5 c κs =
-    let counts = c .before .before .before in
-    let at1 = counts .before .before .before .before .before .before .before .before .before .before .before .before .before .before .before .before .before .before .before .before in
-    let l = long (at1 .args .n) _ (at1 .pre .1 .1) in
-    (omega (arith, l .ranks), omega (arith, at1 .pre .0))
+    let start : tie.Start = search in
+    let l = long (start .args .n) _ (start .pre .1 .1) in
+    (omega (arith, l .ranks), omega (arith, start .pre .0))
 
 same-length : tie.Need-same-length
 same-length c = search needs
@@ -83,19 +82,21 @@ same-length-5 c = search needs
 
 returns : tie.Need-returns
 returns c =
-    let counts = c .before .before .before .before .before .before in
-    let waves = counts .before .before .before .before in
-    let degrees = waves .before .before .before .before in
-    let rows = degrees .before .before .before .before in
-    let at1 = rows .before .before .before .before .before .before .before .before in
-    let n = at1 .args .n in
+    let after-put-part5 : tie.After-put-part5 = search in
+    let counts : tie.After-put-part4 = search in
+    let waves : tie.After-put-part3 = search in
+    let degrees : tie.After-put-part2 = search in
+    let rows : tie.After-put-part = search in
+    let after-slice-known4 : tie.After-slice-known4 = search in
+    let start : tie.Start = search in
+    let n = start .args .n in
     let wave = 1 + n * 23 + n in
     let count = wave + n in
-    let s = slicesGiven (at1 .args .neighbours) (at1 .args .degrees) (at1 .args .waves) (at1 .args .counts) (at1 .args .ranks) in
-    brought n (at1 .args .place .now) s (n * 23) (n * 24) (1 + n * 23) wave count (count + n * 24 + 3) _ _ _ _ _
+    let s = slicesGiven (start .args .neighbours) (start .args .degrees) (start .args .waves) (start .args .counts) (start .args .ranks) in
+    brought n (start .args .place .now) s (n * 23) (n * 24) (1 + n * 23) wave count (count + n * 24 + 3) _ _ _ _ _
     (omega arith) (omega arith) (omega arith) (omega arith) (omega arith) (omega arith)
     (rows .put-part .ensures) (degrees .put-part2 .ensures) (waves .put-part3 .ensures) (counts .put-part4 .ensures)
-    (c .before .before .put-part5 .ensures)
+    (after-put-part5 .put-part5 .ensures)
 
 pub bring-back-spec : {M : Type 1} → statement M
 bring-back-spec =

@@ -46,36 +46,38 @@ wide-requires c κs = search needs
 
 mul-at : tie.Need-mul-at
 mul-at c =
-    let p1 = c .before .before .before in
-    let p2 = p1 .before in
-    let ready = p2 .check-back .ensures .1 (p1 .if1 .left) .0 in
+    let after-place-size : tie.After-place-size = search in
+    let else1 : tie.Else1 = search in
+    let after-check-back : tie.After-check-back = search in
+    let ready = after-check-back .check-back .ensures .1 (else1 .if1 .left) .0 in
     let i = c .wide .result in
-    let size = c .before .before .place-size .result in
+    let size = after-place-size .place-size .result in
     let room = place-room i size (omega (arith, ready .known, c .before .place-of .ensures, c .wide .ensures)) in
-    omega (arith, room, ready .few, c .before .before .place-size .ensures)
+    omega (arith, room, ready .few, after-place-size .place-size .ensures)
 
 add-end : tie.Need-add-end
 add-end c =
-    let p1 = c .before .before .before in
-    let p2 = p1 .before in
-    let ready = p2 .check-back .ensures .1 (p1 .if1 .left) .0 in
+    let after-place-size : tie.After-place-size = search in
+    let else1 : tie.Else1 = search in
+    let after-check-back : tie.After-check-back = search in
+    let ready = after-check-back .check-back .ensures .1 (else1 .if1 .left) .0 in
     let i = c .wide .result in
-    let size = c .before .before .place-size .result in
+    let size = after-place-size .place-size .result in
     let room = place-room i size (omega (arith, ready .known, c .before .place-of .ensures, c .wide .ensures)) in
-    omega (arith, room, ready .few, c .before .before .place-size .ensures)
+    omega (arith, room, ready .few, after-place-size .place-size .ensures)
 
 mul-return-to : tie.Need-mul-return-to
 mul-return-to c =
-    let p1 = c .before .before .before .before .before .before in
-    let p2 = p1 .before in
-    let p3 = p2 .before in
-    let p4 = p3 .before in
-    let p5 = p4 .before in
-    let ready = p5 .check-back .ensures .1 (p4 .if1 .left) .0 in
-    let i = p1 .wide .result in
-    let size = p3 .place-size .result in
-    let room = place-room i size (omega (arith, ready .known, p2 .place-of .ensures, p1 .wide .ensures)) in
-    omega (arith, room, ready .few, p3 .place-size .ensures)
+    let after-wide : tie.After-wide = search in
+    let after-place-of : tie.After-place-of = search in
+    let after-place-size : tie.After-place-size = search in
+    let else1 : tie.Else1 = search in
+    let after-check-back : tie.After-check-back = search in
+    let ready = after-check-back .check-back .ensures .1 (else1 .if1 .left) .0 in
+    let i = after-wide .wide .result in
+    let size = after-place-size .place-size .result in
+    let room = place-room i size (omega (arith, ready .known, after-place-of .place-of .ensures, after-wide .wide .ensures)) in
+    omega (arith, room, ready .few, after-place-size .place-size .ensures)
 
 sub-return-to : tie.Need-sub-return-to
 sub-return-to c = search needs
@@ -85,34 +87,36 @@ part-return-to-start c = search needs
 
 part-return-to-end : tie.Need-part-return-to-end
 part-return-to-end c =
-    let p1 = c .before .before .before .before .before .before in
-    let p2 = p1 .before in
-    let p3 = p2 .before in
-    let p4 = p3 .before in
-    let p5 = p4 .before in
-    let ready = p5 .check-back .ensures .1 (p4 .if1 .left) .0 in
-    let i = p1 .wide .result in
-    let size = p3 .place-size .result in
-    let room = place-room i size (omega (arith, ready .known, p2 .place-of .ensures, p1 .wide .ensures)) in
-    omega (arith, room, ready .room, p3 .place-size .ensures)
+    let after-wide : tie.After-wide = search in
+    let after-place-of : tie.After-place-of = search in
+    let after-place-size : tie.After-place-size = search in
+    let else1 : tie.Else1 = search in
+    let after-check-back : tie.After-check-back = search in
+    let ready = after-check-back .check-back .ensures .1 (else1 .if1 .left) .0 in
+    let i = after-wide .wide .result in
+    let size = after-place-size .place-size .result in
+    let room = place-room i size (omega (arith, ready .known, after-place-of .place-of .ensures, after-wide .wide .ensures)) in
+    omega (arith, room, ready .room, after-place-size .place-size .ensures)
 
 return-to-requires : tie.Need-return-to-requires
 return-to-requires c κs =
-    let p1 = c .before .before .before .before .before .before .before in
-    let p2 = p1 .before in
-    let p3 = p2 .before in
-    let p4 = p3 .before in
-    let p5 = p4 .before in
-    let p6 = p5 .before .before .before .before .before .before .before .before .before .before .before .before .before .before .before in
-    let ready = p5 .check-back .ensures .1 (p4 .if1 .left) .0 in
-    let i = p1 .wide .result in
-    let size = p3 .place-size .result in
-    let room = place-room i size (omega (arith, ready .known, p2 .place-of .ensures, p1 .wide .ensures)) in
-    let all = p5 .check-back .ensures .1 (p4 .if1 .left) in
+    let after-wide : tie.After-wide = search in
+    let after-place-of : tie.After-place-of = search in
+    let after-place-size : tie.After-place-size = search in
+    let else1 : tie.Else1 = search in
+    let after-check-back : tie.After-check-back = search in
+    let after-check-back-arg : tie.After-check-back-arg = search in
+    let after-slice-known5 : tie.After-slice-known5 = search in
+    let start : tie.Start = search in
+    let ready = after-check-back .check-back .ensures .1 (else1 .if1 .left) .0 in
+    let i = after-wide .wide .result in
+    let size = after-place-size .place-size .result in
+    let room = place-room i size (omega (arith, ready .known, after-place-of .place-of .ensures, after-wide .wide .ensures)) in
+    let all = after-check-back .check-back .ensures .1 (else1 .if1 .left) in
     let part =
-    length-lent (i * size) (i * size + size) size (p6 .args .shelf .now) refl
-    (omega (arith, room, ready .room, p3 .place-size .ensures)) in
-    ((ready .few, part ∙ p3 .place-size .ensures, all .1), ready .long)
+    length-lent (i * size) (i * size + size) size (start .args .shelf .now) refl
+    (omega (arith, room, ready .room, after-place-size .place-size .ensures)) in
+    ((ready .few, part ∙ after-place-size .place-size .ensures, all .1), ready .long)
 
 same-length-7 : tie.Need-same-length-7
 same-length-7 c = search needs
@@ -134,24 +138,26 @@ same-length-12 c = search needs
 
 returns-2 : tie.Need-returns-2
 returns-2 c =
-    let p1 = c .before .before .before .before .before .before .before .before .before .before .before .before in
-    let p2 = p1 .before .before .before .before .before .before .before .before in
-    let p3 = p2 .before in
-    let p4 = p3 .before in
-    let p5 = p4 .before in
-    let p6 = p5 .before in
-    let at1 = p6 .before .before .before .before .before .before .before .before .before .before .before .before .before .before .before in
-    let s = slicesGiven (at1 .args .neighbours) (at1 .args .degrees) (at1 .args .waves) (at1 .args .counts) (at1 .args .ranks) in
-    let t = at1 .args .tally in
-    let moved = at1 .args .moved .now in
-    let name = at1 .args .name .now in
-    let shelf = at1 .args .shelf .now in
-    let i = p2 .wide .result in
-    let size = p4 .place-size .result in
-    let is-size = p4 .place-size .ensures in
+    let after-return-to : tie.After-return-to = search in
+    let after-wide : tie.After-wide = search in
+    let after-place-of : tie.After-place-of = search in
+    let after-place-size : tie.After-place-size = search in
+    let else1 : tie.Else1 = search in
+    let after-check-back : tie.After-check-back = search in
+    let after-check-back-arg : tie.After-check-back-arg = search in
+    let after-slice-known5 : tie.After-slice-known5 = search in
+    let start : tie.Start = search in
+    let s = slicesGiven (start .args .neighbours) (start .args .degrees) (start .args .waves) (start .args .counts) (start .args .ranks) in
+    let t = start .args .tally in
+    let moved = start .args .moved .now in
+    let name = start .args .name .now in
+    let shelf = start .args .shelf .now in
+    let i = after-wide .wide .result in
+    let size = after-place-size .place-size .result in
+    let is-size = after-place-size .place-size .ensures in
     let lent = lent-place (t .banks) shelf (placeOf name) (i * size) (i * size + size)
-    (rw (p2 .wide .ensures ∙ p3 .place-of .ensures, p4 .place-size .ensures) refl) (omega (arith, is-size)) in
-    rw lent at (p1 .return-to .ensures) ∙ back-done name s t moved shelf (sym (p5 .if1 .left) ∙ p6 .check-back .ensures .0)
+    (rw (after-wide .wide .ensures ∙ after-place-of .place-of .ensures, after-place-size .place-size .ensures) refl) (omega (arith, is-size)) in
+    rw lent at (after-return-to .return-to .ensures) ∙ back-done name s t moved shelf (sym (else1 .if1 .left) ∙ after-check-back .check-back .ensures .0)
 
 pub come-back-core-spec : {M : Type 1} → statement M
 come-back-core-spec =

@@ -21,7 +21,9 @@ shared-slice-read-if1-2 : tie.Need-shared-slice-read-if1-2
 shared-slice-read-if1-2 c = search needs
 
 returns : tie.Need-returns
-returns c = λ was h. listed-same _ _ _ was _ _ h (rw (c .before .before .before .wide .ensures) at (c .if1 .taken))
+returns c =
+    let after-wide : tie.After-wide = search in
+    λ was h. listed-same _ _ _ was _ _ h (rw (after-wide .wide .ensures) at (c .if1 .taken))
 
 wide-requires-2 : tie.Need-wide-requires-2
 wide-requires-2 c κs = search needs
@@ -40,9 +42,10 @@ same-length c = search needs
 
 returns-2 : tie.Need-returns-2
 returns-2 c =
-    let at1 = c .before .before .before .before .before .before .before .before in
-    let differs = rw (c .before .before .before .before .wide .ensures) at (c .before .if1 .left) in
-    λ was h. rw (c .wide2 .ensures) (listed-other _ _ _ was _ _ h differs (at1 .pre .1 .0))
+    let after-wide : tie.After-wide = search in
+    let start : tie.Start = search in
+    let differs = rw (after-wide .wide .ensures) at (c .before .if1 .left) in
+    λ was h. rw (c .wide2 .ensures) (listed-other _ _ _ was _ _ h differs (start .pre .1 .0))
 
 pub list-bank-spec : {M : Type 1} → statement M
 list-bank-spec =

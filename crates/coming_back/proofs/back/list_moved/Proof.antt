@@ -21,11 +21,12 @@ loop-holds c = (listed-none _ _ _, omega arith, refl)
 
 list-bank-requires : tie.Need-list-bank-requires Inv-loop μ-loop
 list-bank-requires c κs =
-    let w = c .before .before .loop in
-    let at1 = c .before .before .before .before .before .before in
-    let few = length-differing (w .b) (at1 .args .old .now) (at1 .args .new .now) in
+    let at-loop : tie.At-loop Inv-loop μ-loop = search in
+    let start : tie.Start Inv-loop μ-loop = search in
+    let w = at-loop .loop in
+    let few = length-differing (w .b) (start .args .old .now) (start .args .new .now) in
     let count = w .inv .0 .count in
-    ((omega (arith, at1 .pre), omega (arith, at1 .pre)), (omega (arith, count, w .inv .2, at1 .pre), omega (arith, count, at1 .pre)))
+    ((omega (arith, start .pre), omega (arith, start .pre)), (omega (arith, count, w .inv .2, start .pre), omega (arith, count, start .pre)))
 
 add-b : tie.Need-add-b Inv-loop μ-loop
 add-b c = search needs
@@ -35,16 +36,19 @@ loop-less c = search needs
 
 loop-again : tie.Need-loop-again Inv-loop μ-loop
 loop-again c =
-    let w = c .before .before .before .before .before .loop in
-    (c .before .before .list-bank .ensures _ (w .inv .0), omega arith, c .before .before .list-bank .kept .1 .1 .0 ∙ w .inv .2)
+    let after-list-bank : tie.After-list-bank Inv-loop μ-loop = search in
+    let at-loop : tie.At-loop Inv-loop μ-loop = search in
+    let w = at-loop .loop in
+    (after-list-bank .list-bank .ensures _ (w .inv .0), omega arith, after-list-bank .list-bank .kept .1 .1 .0 ∙ w .inv .2)
 
 same-length : tie.Need-same-length Inv-loop μ-loop
 same-length c = search needs
 
 returns : tie.Need-returns Inv-loop μ-loop
 returns c =
+    let start : tie.Start Inv-loop μ-loop = search in
     let w = c .before .loop in
-    let e : w .b ≡ c .before .before .before .before .before .args .banks = omega arith in
+    let e : w .b ≡ start .args .banks = omega arith in
     rw e at (w .inv .0)
 
 pub list-moved-spec : {M : Type 1} → statement M

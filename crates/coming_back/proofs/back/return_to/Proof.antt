@@ -38,20 +38,20 @@ part-list-moved-end c = search needs
 
 list-moved-requires : tie.Need-list-moved-requires
 list-moved-requires c κs =
-    let p1 = c .before .before .before in
-    let at1 = p1 .before .before .before .before .before .before .before .before in
-    let n = p1 .wide .result in
-    let is-n = p1 .wide .ensures in
-    let l = long (at1 .args .tally .banks) _ (at1 .pre .1) in
-    let part = length-lent (1 + n * 24) (1 + n * 24 + n) n (at1 .args .place .now) (omega arith) (omega (arith, at1 .pre .0 .1, is-n)) in
-    (omega (arith, at1 .pre .0 .0), omega (arith, l .waves), omega (arith, part, is-n), omega (arith, at1 .pre .0 .2))
+    let after-wide : tie.After-wide = search in
+    let start : tie.Start = search in
+    let n = after-wide .wide .result in
+    let is-n = after-wide .wide .ensures in
+    let l = long (start .args .tally .banks) _ (start .pre .1) in
+    let part = length-lent (1 + n * 24) (1 + n * 24 + n) n (start .args .place .now) (omega arith) (omega (arith, start .pre .0 .1, is-n)) in
+    (omega (arith, start .pre .0 .0), omega (arith, l .waves), omega (arith, part, is-n), omega (arith, start .pre .0 .2))
 
 bring-back-requires : tie.Need-bring-back-requires
 bring-back-requires c κs =
-    let p1 = c .before .before .before .before .before .before .before .before .before .before .before in
-    let at1 = p1 .before .before .before .before .before .before .before .before in
-    let is-n = p1 .wide .ensures in
-    (omega (arith, at1 .pre .0 .1, is-n), (omega (arith, at1 .pre .0 .0, is-n), rw is-n (at1 .pre .1)))
+    let after-wide : tie.After-wide = search in
+    let start : tie.Start = search in
+    let is-n = after-wide .wide .ensures in
+    (omega (arith, start .pre .0 .1, is-n), (omega (arith, start .pre .0 .0, is-n), rw is-n (start .pre .1)))
 
 tally-in-requires : tie.Need-tally-in-requires
 tally-in-requires c κs = search needs
@@ -76,17 +76,17 @@ same-length-6 c = search needs
 
 returns : tie.Need-returns
 returns c =
-    let p1 = c .before .before .before .before .before .before .before .before .before .before .before in
-    let p2 = p1 .before .before .before .before .before .before .before .before in
-    let p3 = p2 .before .before .before .before in
-    let at1 = p3 .before .before .before .before .before .before .before .before in
-    let n = p3 .wide .result in
-    let is-n = p3 .wide .ensures in
-    let banks = at1 .args .tally .banks in
-    let cells = at1 .args .place .now in
-    let s = slicesGiven (at1 .args .neighbours) (at1 .args .degrees) (at1 .args .waves) (at1 .args .counts) (at1 .args .ranks) in
+    let after-bring-back : tie.After-bring-back = search in
+    let after-list-moved : tie.After-list-moved = search in
+    let after-wide : tie.After-wide = search in
+    let start : tie.Start = search in
+    let n = after-wide .wide .result in
+    let is-n = after-wide .wide .ensures in
+    let banks = start .args .tally .banks in
+    let cells = start .args .place .now in
+    let s = slicesGiven (start .args .neighbours) (start .args .degrees) (start .args .waves) (start .args .counts) (start .args .ranks) in
     let waves = lent-waves banks cells s n (1 + n * 24) (1 + n * 24 + n) is-n (omega arith) (omega arith) in
-    came banks cells s (at1 .args .moved .now) _ _ _ _ (rw waves at (p2 .list-moved .ensures)) (rw is-n at (p1 .bring-back .ensures))
+    came banks cells s (start .args .moved .now) _ _ _ _ (rw waves at (after-list-moved .list-moved .ensures)) (rw is-n at (after-bring-back .bring-back .ensures))
     (rw is-n at (c .tally-in .ensures))
 
 pub return-to-spec : {M : Type 1} → statement M

@@ -36,10 +36,13 @@ same-length c = search needs
 
 returns : tie.Need-returns
 returns c =
-    let put = c .before .before .put-refusal in
-    let test = c .before .before .before .before in
-    let read = test .before .before .before .before .before .before .before .before .before .before in
-    let is = answer-refused (read .before .before .before .before .before .before .before .before .before .before .args .question) _ _ (read .read-list-core .ensures) (test .if1 .taken) in
+    let after-put-refusal : tie.After-put-refusal = search in
+    let test : tie.Then1 = search in
+    let read : tie.After-read-list-core = search in
+    let after-waves : tie.After-waves = search in
+    let start : tie.Start = search in
+    let put = after-put-refusal .put-refusal in
+    let is = answer-refused (start .args .question) _ _ (read .read-list-core .ensures) (test .if1 .taken) in
     (rw is at (put .ensures .0), put .ensures .1)
 
 slice-aggregate-put-plan : tie.Need-slice-aggregate-put-plan
@@ -65,10 +68,13 @@ same-length-2 c = search needs
 
 returns-2 : tie.Need-returns-2
 returns-2 c =
-    let put = c .before .before .put-plan in
-    let test = c .before .before .before .before .before .before .before .before .before in
-    let read = test .before .before .before .before .before .before .before .before .before .before in
-    let is = answer-plan (read .before .before .before .before .before .before .before .before .before .before .args .question) _ _ (read .read-list-core .ensures) (test .if1 .left) in
+    let after-put-plan : tie.After-put-plan = search in
+    let test : tie.Else1 = search in
+    let read : tie.After-read-list-core = search in
+    let after-waves : tie.After-waves = search in
+    let start : tie.Start = search in
+    let put = after-put-plan .put-plan in
+    let is = answer-plan (start .args .question) _ _ (read .read-list-core .ensures) (test .if1 .left) in
     (rw is at (put .ensures .0), put .ensures .1)
 
 pub put-answer-spec : {M : Type 1} → statement M

@@ -28,7 +28,10 @@ shared-slice-read-if1 : tie.Need-shared-slice-read-if1 Inv-loop μ-loop
 shared-slice-read-if1 c = search needs
 
 returns : tie.Need-returns Inv-loop μ-loop
-returns c = (lowest-found _ _ _ _ (c .before .before .loop-test .taken) (c .before .before .before .loop .inv .0) (c .if1 .taken), search needs)
+returns c =
+    let in-loop : tie.In-loop Inv-loop μ-loop = search in
+    let at-loop : tie.At-loop Inv-loop μ-loop = search in
+    (lowest-found _ _ _ _ (in-loop .loop-test .taken) (at-loop .loop .inv .0) (c .if1 .taken), search needs)
 
 add-b : tie.Need-add-b Inv-loop μ-loop
 add-b c = search needs
@@ -37,12 +40,15 @@ loop-less : tie.Need-loop-less Inv-loop μ-loop
 loop-less c = search needs
 
 loop-again : tie.Need-loop-again Inv-loop μ-loop
-loop-again c = (none-next _ _ _ (c .before .before .before .loop .inv .0) (c .if1 .left), omega arith)
+loop-again c =
+    let at-loop : tie.At-loop Inv-loop μ-loop = search in
+    (none-next _ _ _ (at-loop .loop .inv .0) (c .if1 .left), omega arith)
 
 returns-2 : tie.Need-returns-2 Inv-loop μ-loop
 returns-2 c =
+    let start : tie.Start Inv-loop μ-loop = search in
     let w = c .before .loop in
-    let e : w .b ≡ c .before .before .args .n = omega arith in
+    let e : w .b ≡ start .args .n = omega arith in
     (lowest-none _ _ _ (rw e at (w .inv .0)), search needs)
 
 pub lowest-spec : {M : Type 1} → statement M

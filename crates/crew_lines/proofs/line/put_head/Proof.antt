@@ -13,13 +13,14 @@ use Rattle.crew_lines.proofs.line.put_head.Tie as tie
 
 put-number-requires : tie.Need-put-number-requires
 put-number-requires c κs =
-    let start = c .before .before in
+    let start : tie.Start = search in
     omega (arith, length-head (start .args .k) (start .args .w .0), start .pre .1)
 
 put-byte-requires : tie.Need-put-byte-requires
 put-byte-requires c κs =
-    let p = c .before .before .before .put-number in
-    let start = c .before .before .before .before .before .before in
+    let after-put-number : tie.After-put-number = search in
+    let start : tie.Start = search in
+    let p = after-put-number .put-number in
     omega (arith, length-head (start .args .k) (start .args .w .0), start .pre .1, p .ensures .next, p .kept .0)
 
 letter-requires : tie.Need-letter-requires
@@ -27,9 +28,11 @@ letter-requires c κs = search needs
 
 put-byte-requires-2 : tie.Need-put-byte-requires-2
 put-byte-requires-2 c κs =
-    let q = c .before .before .before .before .put-byte in
-    let p = c .before .before .before .before .before .before .before .before .put-number in
-    let start = c .before .before .before .before .before .before .before .before .before .before .before in
+    let after-put-byte : tie.After-put-byte = search in
+    let after-put-number : tie.After-put-number = search in
+    let start : tie.Start = search in
+    let q = after-put-byte .put-byte in
+    let p = after-put-number .put-number in
     omega (arith, length-head (start .args .k) (start .args .w .0), start .pre .1, p .ensures .next, p .kept .0, q .ensures .next, q .kept .0)
 
 same-length : tie.Need-same-length
@@ -38,10 +41,14 @@ same-length c = search needs
 returns : tie.Need-returns
 unfolding headText
 returns c =
-    let last = rw (c .before .before .before .letter .ensures) at (c .before .before .put-byte2 .ensures) in
-    let q = c .before .before .before .before .before .before .before .put-byte in
-    let p = c .before .before .before .before .before .before .before .before .before .before .before .put-number in
-    let start = c .before .before .before .before .before .before .before .before .before .before .before .before .before .before in
+    let after-put-byte2 : tie.After-put-byte2 = search in
+    let after-letter : tie.After-letter = search in
+    let after-put-byte : tie.After-put-byte = search in
+    let after-put-number : tie.After-put-number = search in
+    let start : tie.Start = search in
+    let last = rw (after-letter .letter .ensures) at (after-put-byte2 .put-byte2 .ensures) in
+    let q = after-put-byte .put-byte in
+    let p = after-put-number .put-number in
     let a = start .args in
     let fits = start .pre .1 in
     let long = length-head (a .k) (a .w .0) in

@@ -20,7 +20,8 @@ abbrev μ-loop : tie.MeasureT-loop
 
 loop-holds : tie.Need-loop-holds Inv-loop μ-loop
 loop-holds c =
-    let a = c .before .before .args in
+    let start : tie.Start Inv-loop μ-loop = search in
+    let a = start .args in
     (rw (members-none (a .steps .now) (a .k)) (puts-none _ _), omega arith, refl)
 
 cast-i : tie.Need-cast-i Inv-loop μ-loop
@@ -34,10 +35,12 @@ shared-slice-read-put-member c = search needs
 
 put-member-requires : tie.Need-put-member-requires Inv-loop μ-loop
 put-member-requires c κs =
-    let w = c .before .before .before .loop in
-    let start = c .before .before .before .before .before .before in
+    let in-loop : tie.In-loop Inv-loop μ-loop = search in
+    let at-loop : tie.At-loop Inv-loop μ-loop = search in
+    let start : tie.Start Inv-loop μ-loop = search in
+    let w = at-loop .loop in
     let a = start .args in
-    let room = members-room (a .steps .now) (a .k) (w .b) (a .n) (c .before .before .loop-test .taken) in
+    let room = members-room (a .steps .now) (a .k) (w .b) (a .n) (in-loop .loop-test .taken) in
     omega (arith, w .inv .0 .next, w .inv .2, start .pre .1)
 
 add-b : tie.Need-add-b Inv-loop μ-loop
@@ -48,13 +51,16 @@ loop-less c = search needs
 
 loop-again : tie.Need-loop-again Inv-loop μ-loop
 loop-again c =
-    let w = c .before .before .before .before .before .before .loop in
-    let start = c .before .before .before .before .before .before .before .before .before in
+    let after-put-member : tie.After-put-member Inv-loop μ-loop = search in
+    let in-loop : tie.In-loop Inv-loop μ-loop = search in
+    let at-loop : tie.At-loop Inv-loop μ-loop = search in
+    let start : tie.Start Inv-loop μ-loop = search in
+    let w = at-loop .loop in
     let a = start .args in
     let ss = a .steps .now in
-    let room = members-room ss (a .k) (w .b) (a .n) (c .before .before .before .before .before .loop-test .taken) in
+    let room = members-room ss (a .k) (w .b) (a .n) (in-loop .loop-test .taken) in
     let fits = start .pre .1 in
-    let one = c .before .before .put-member in
+    let one = after-put-member .put-member in
     let more =
     puts-then (membersText ss (a .k) (w .b)) (memberText (getD ss (w .b) 0) (a .k) (w .b)) (a .at) (a .out .now) (omega arith) _ _ _ _ (w .inv .0) (one .ensures) in
     (rw (members-next ss (a .k) (w .b)) more, omega arith, one .kept .0 ∙ w .inv .2)
@@ -64,8 +70,9 @@ same-length c = search needs
 
 returns : tie.Need-returns Inv-loop μ-loop
 returns c =
+    let start : tie.Start Inv-loop μ-loop = search in
     let w = c .before .loop in
-    let e : w .b ≡ c .before .before .before .before .args .n = omega arith in
+    let e : w .b ≡ start .args .n = omega arith in
     rw e at (w .inv .0)
 
 pub put-members-spec : {M : Type 1} → statement M

@@ -25,8 +25,9 @@ shared-slice-read-t10 c = search needs
 
 put-head-requires : tie.Need-put-head-requires
 put-head-requires c κs =
-    let low = c .before .before .lowest in
-    let start = c .before .before .before .before .before .before in
+    let after-lowest : tie.After-lowest = search in
+    let start : tie.Start = search in
+    let low = after-lowest .lowest in
     let a = start .args in
     let ws = a .waves .now in (
       start .pre .4 _ (low .ensures .1),
@@ -41,9 +42,11 @@ put-head-requires c κs =
 
 put-members-requires : tie.Need-put-members-requires
 put-members-requires c κs =
-    let head = c .before .before .before .put-head in
-    let low = c .before .before .before .before .before .before .lowest in
-    let start = c .before .before .before .before .before .before .before .before .before .before in
+    let after-put-head : tie.After-put-head = search in
+    let after-lowest : tie.After-lowest = search in
+    let start : tie.Start = search in
+    let head = after-put-head .put-head in
+    let low = after-lowest .lowest in
     let a = start .args in
     let ws = a .waves .now in (
       start .pre .2,
@@ -60,10 +63,13 @@ put-members-requires c κs =
 
 put-byte-requires : tie.Need-put-byte-requires
 put-byte-requires c κs =
-    let banks = c .before .before .before .put-members in
-    let head = c .before .before .before .before .before .before .before .put-head in
-    let low = c .before .before .before .before .before .before .before .before .before .before .lowest in
-    let start = c .before .before .before .before .before .before .before .before .before .before .before .before .before .before in
+    let after-put-members : tie.After-put-members = search in
+    let after-put-head : tie.After-put-head = search in
+    let after-lowest : tie.After-lowest = search in
+    let start : tie.Start = search in
+    let banks = after-put-members .put-members in
+    let head = after-put-head .put-head in
+    let low = after-lowest .lowest in
     let a = start .args in
     let ws = a .waves .now in
     omega (
@@ -84,10 +90,14 @@ same-length c = search needs
 returns : tie.Need-returns
 unfolding stepIn
 returns c =
-    let banks = c .before .before .before .before .before .before .put-members in
-    let head = c .before .before .before .before .before .before .before .before .before .before .put-head in
-    let low = c .before .before .before .before .before .before .before .before .before .before .before .before .before .lowest in
-    let start = c .before .before .before .before .before .before .before .before .before .before .before .before .before .before .before .before .before in
+    let after-put-byte : tie.After-put-byte = search in
+    let after-put-members : tie.After-put-members = search in
+    let after-put-head : tie.After-put-head = search in
+    let after-lowest : tie.After-lowest = search in
+    let start : tie.Start = search in
+    let banks = after-put-members .put-members in
+    let head = after-put-head .put-head in
+    let low = after-lowest .lowest in
     let a = start .args in
     let ws = a .waves .now in
     let ss = a .steps .now in
@@ -95,7 +105,7 @@ returns c =
     let long = length-step ws ss (a .n) (a .k) in
     let fits = start .pre .3 in
     puts-three (headText (a .k) (getD ws (lowestIn ss (a .k) (a .n)) 0)) (membersText ss (a .k) (a .n)) (10 ∷ []) (a .at) (a .out .now) (omega arith) _ _ _ _ _ _
-    (head .kept .0) first (banks .ensures) (c .before .before .put-byte .ensures)
+    (head .kept .0) first (banks .ensures) (after-put-byte .put-byte .ensures)
 
 pub put-step-spec : {M : Type 1} → statement M
 put-step-spec =

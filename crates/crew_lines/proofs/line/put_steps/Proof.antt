@@ -20,7 +20,8 @@ abbrev μ-loop : tie.MeasureT-loop
 
 loop-holds : tie.Need-loop-holds Inv-loop μ-loop
 loop-holds c =
-    let a = c .before .before .before .args in
+    let start : tie.Start Inv-loop μ-loop = search in
+    let a = start .args in
     (rw (steps-none (a .waves .now) (a .steps .now) (a .n)) (puts-none _ _), omega arith, refl)
 
 add-put-step : tie.Need-add-put-step Inv-loop μ-loop
@@ -28,8 +29,9 @@ add-put-step c = search needs
 
 put-step-requires : tie.Need-put-step-requires Inv-loop μ-loop
 put-step-requires c κs =
-    let w = c .before .before .loop in
-    let start = c .before .before .before .before .before .before in
+    let at-loop : tie.At-loop Inv-loop μ-loop = search in
+    let start : tie.Start Inv-loop μ-loop = search in
+    let w = at-loop .loop in
     let a = start .args in
     let room = steps-room (a .waves .now) (a .steps .now) (a .n) (w .k) (a .total) (c .before .loop-test .taken) in
     (omega (arith, start .pre .0), start .pre .1, start .pre .2, omega (arith, w .inv .0 .next, w .inv .2, start .pre .3), start .pre .4)
@@ -42,14 +44,17 @@ loop-less c = search needs
 
 loop-again : tie.Need-loop-again Inv-loop μ-loop
 loop-again c =
-    let w = c .before .before .before .before .before .loop in
-    let start = c .before .before .before .before .before .before .before .before .before in
+    let after-put-step : tie.After-put-step Inv-loop μ-loop = search in
+    let in-loop : tie.In-loop Inv-loop μ-loop = search in
+    let at-loop : tie.At-loop Inv-loop μ-loop = search in
+    let start : tie.Start Inv-loop μ-loop = search in
+    let w = at-loop .loop in
     let a = start .args in
     let ws = a .waves .now in
     let ss = a .steps .now in
-    let room = steps-room ws ss (a .n) (w .k) (a .total) (c .before .before .before .before .loop-test .taken) in
+    let room = steps-room ws ss (a .n) (w .k) (a .total) (in-loop .loop-test .taken) in
     let fits = start .pre .3 in
-    let one = c .before .before .put-step in
+    let one = after-put-step .put-step in
     let more =
     puts-then (stepsIn ws ss (a .n) (w .k)) (stepIn ws ss (a .n) (w .k + 1)) (a .at) (a .out .now) (omega arith) _ _ _ _ (w .inv .0) (one .ensures) in
     (rw (steps-next ws ss (a .n) (w .k)) more, omega arith, one .kept .0 ∙ w .inv .2)
@@ -59,8 +64,9 @@ same-length c = search needs
 
 returns : tie.Need-returns Inv-loop μ-loop
 returns c =
+    let start : tie.Start Inv-loop μ-loop = search in
     let w = c .before .loop in
-    let e : w .k ≡ c .before .before .before .before .before .args .total = omega arith in
+    let e : w .k ≡ start .args .total = omega arith in
     rw e at (w .inv .0)
 
 pub put-steps-spec : {M : Type 1} → statement M

@@ -17,8 +17,9 @@ put-named-requires c κs = search needs
 
 put-byte-requires : tie.Need-put-byte-requires
 put-byte-requires c κs =
-    let p = c .before .before .before .put-named in
-    let start = c .before .before .before .before .before .before .before in
+    let after-put-named : tie.After-put-named = search in
+    let start : tie.Start = search in
+    let p = after-put-named .put-named in
     let long = length-named (67 ∷ 82 ∷ 69 ∷ 87 ∷ 32 ∷ []) (start .args .couriers) (omega (arith, start .fits .couriers)) in
     omega (arith, start .pre, p .ensures .next, p .kept .0)
 
@@ -28,9 +29,11 @@ same-length c = search needs
 returns : tie.Need-returns
 unfolding crewText
 returns c =
-    let last = c .before .before .put-byte in
-    let p = c .before .before .before .before .before .before .put-named in
-    let start = c .before .before .before .before .before .before .before .before .before .before in
+    let after-put-byte : tie.After-put-byte = search in
+    let after-put-named : tie.After-put-named = search in
+    let start : tie.Start = search in
+    let last = after-put-byte .put-byte in
+    let p = after-put-named .put-named in
     let a = start .args in
     let long = length-named (67 ∷ 82 ∷ 69 ∷ 87 ∷ 32 ∷ []) (a .couriers) (omega (arith, start .fits .couriers)) in
     let room = start .pre in

@@ -22,8 +22,11 @@ same-length c = search needs
 
 returns : tie.Need-returns
 returns c =
-    let put = c .before .before .put-refused in
-    let is = day-refused _ _ _ _ _ (c .before .before .before .before .before .before .before .before .crew-steps .ensures) (c .before .before .before .before .before .if1 .taken) in
+    let after-put-refused : tie.After-put-refused = search in
+    let then1 : tie.Then1 = search in
+    let after-crew-steps : tie.After-crew-steps = search in
+    let put = after-put-refused .put-refused in
+    let is = day-refused _ _ _ _ _ (after-crew-steps .crew-steps .ensures) (then1 .if1 .taken) in
     (rw is at (put .ensures .0), put .ensures .1)
 
 slice-aggregate-put-steps : tie.Need-slice-aggregate-put-steps
@@ -31,8 +34,10 @@ slice-aggregate-put-steps c = search needs
 
 put-steps-requires : tie.Need-put-steps-requires
 put-steps-requires c κs =
-    let day = day-cells _ _ _ _ _ (c .before .before .before .before .before .crew-steps .ensures) (c .before .before .if1 .left) in
-    let start = c .before .before .before .before .before .before .before .before .before .before .before .before .before in
+    let else1 : tie.Else1 = search in
+    let after-crew-steps : tie.After-crew-steps = search in
+    let start : tie.Start = search in
+    let day = day-cells _ _ _ _ _ (after-crew-steps .crew-steps .ensures) (else1 .if1 .left) in
     (day .few, day .waves, day .room, omega (arith, start .pre, day .fits), day .low)
 
 same-length-2 : tie.Need-same-length-2
@@ -40,9 +45,12 @@ same-length-2 c = search needs
 
 returns-2 : tie.Need-returns-2
 returns-2 c =
-    let put = c .before .before .put-steps in
-    let day = day-cells _ _ _ _ _ (c .before .before .before .before .before .before .before .before .crew-steps .ensures) (c .before .before .before .before .before .if1 .left) in
-    let start = c .before .before .before .before .before .before .before .before .before .before .before .before .before .before .before .before in
+    let after-put-steps : tie.After-put-steps = search in
+    let else1 : tie.Else1 = search in
+    let after-crew-steps : tie.After-crew-steps = search in
+    let start : tie.Start = search in
+    let put = after-put-steps .put-steps in
+    let day = day-cells _ _ _ _ _ (after-crew-steps .crew-steps .ensures) (else1 .if1 .left) in
     (rw (day .text) at (put .ensures), omega (arith, start .pre, day .fits, put .ensures .next, put .kept .0))
 
 pub put-day-spec : {M : Type 1} → statement M

@@ -21,14 +21,20 @@ same-length c = search needs
 
 returns : tie.Need-returns
 unfolding planText
-returns c = rw (c .before .before .before .before .before .question .given .1) (c .before .before .put-day .ensures)
+returns c =
+    let after-put-day : tie.After-put-day = search in
+    let after-question : tie.After-question = search in
+    rw (after-question .question .given .1) (after-put-day .put-day .ensures)
 
 same-length-2 : tie.Need-same-length-2
 same-length-2 c = search needs
 
 returns-2 : tie.Need-returns-2
 unfolding planText
-returns-2 c = rw (c .before .before .before .before .before .question2 .given .1) (c .before .before .put-within .ensures)
+returns-2 c =
+    let after-put-within : tie.After-put-within = search in
+    let after-question2 : tie.After-question2 = search in
+    rw (after-question2 .question2 .given .1) (after-put-within .put-within .ensures)
 
 pub put-plan-spec : {M : Type 1} → statement M
 put-plan-spec =

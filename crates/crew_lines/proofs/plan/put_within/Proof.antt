@@ -20,8 +20,11 @@ same-length c = search needs
 
 returns : tie.Need-returns
 returns c =
-    let put = c .before .before .put-refused in
-    let is = within-refused _ _ _ _ (c .before .before .before .before .before .before .before .least-crew .ensures) (c .before .before .before .before .before .if1 .taken) in
+    let after-put-refused : tie.After-put-refused = search in
+    let then1 : tie.Then1 = search in
+    let after-least-crew : tie.After-least-crew = search in
+    let put = after-put-refused .put-refused in
+    let is = within-refused _ _ _ _ (after-least-crew .least-crew .ensures) (then1 .if1 .taken) in
     (rw is at (put .ensures .0), put .ensures .1)
 
 put-crew-requires : tie.Need-put-crew-requires
@@ -35,11 +38,13 @@ same-length-2 c = search needs
 
 returns-2 : tie.Need-returns-2
 returns-2 c =
-    let day = c .before .before .put-day in
-    let test = c .before .before .before .before .before .before .before .before in
-    let crew = c .before .before .before .before .before .before .put-crew in
-    let least = test .before .before in
-    let start = least .before .before .before .before .before .before .before in
+    let after-put-day : tie.After-put-day = search in
+    let after-put-crew : tie.After-put-crew = search in
+    let test : tie.Else1 = search in
+    let least : tie.After-least-crew = search in
+    let start : tie.Start = search in
+    let day = after-put-day .put-day in
+    let crew = after-put-crew .put-crew in
     let is = within-fine _ _ _ _ (least .least-crew .ensures) (test .if1 .left) in
     let all =
     puts-then _ _ 0 (start .args .out .now)

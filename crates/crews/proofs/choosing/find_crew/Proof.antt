@@ -23,9 +23,9 @@ first-steps-requires c κs = search needs
 
 returns : tie.Need-returns Inv-loop μ-loop
 returns c =
-    let starts = c .before .before in
-    let loop = starts .before .before in
-    let entry = loop .before in
+    let starts : tie.After-first-steps Inv-loop μ-loop = search in
+    let loop : tie.At-loop Inv-loop μ-loop = search in
+    let entry : tie.Start Inv-loop μ-loop = search in
     tried-yes (entry .args .sizes .now) (entry .args .limit) (loop .loop .inv .2) (starts .first-steps .ensures .total) (omega arith) (omega (arith, c .if1 .taken))
 
 add-q : tie.Need-add-q Inv-loop μ-loop
@@ -36,14 +36,14 @@ loop-less c = search needs
 
 loop-again : tie.Need-loop-again Inv-loop μ-loop
 loop-again c =
-    let starts = c .before .before in
-    let loop = starts .before .before in
-    let entry = loop .before in
+    let starts : tie.After-first-steps Inv-loop μ-loop = search in
+    let loop : tie.At-loop Inv-loop μ-loop = search in
+    let entry : tie.Start Inv-loop μ-loop = search in
     (search needs, search needs, tried-no (entry .args .sizes .now) (entry .args .limit) (loop .loop .inv .2) (starts .first-steps .ensures .total) (omega arith) (omega (arith, c .if1 .left)))
 
 returns-2 : tie.Need-returns-2 Inv-loop μ-loop
 returns-2 c =
-    let entry = c .before .before in
+    let entry : tie.Start Inv-loop μ-loop = search in
     tried-all (entry .args .sizes .now) (entry .args .limit) (c .before .loop .inv .2) (omega arith)
 
 pub find-crew-spec : {M : Type 1} → statement M

@@ -34,8 +34,8 @@ sub-total c = search needs
 
 add-total : tie.Need-add-total Inv-loop μ-loop
 add-total c =
-    let loop = c .before .before in
-    let entry = loop .before in
+    let loop : tie.At-loop Inv-loop μ-loop = search in
+    let entry : tie.Start Inv-loop μ-loop = search in
     omega (arith, entry .pre .0 .few (loop .loop .w) (omega arith), entry .pre .1 .few)
 
 div-total : tie.Need-div-total Inv-loop μ-loop
@@ -43,8 +43,8 @@ div-total c = search needs
 
 add-total-2 : tie.Need-add-total-2 Inv-loop μ-loop
 add-total-2 c =
-    let loop = c .before .before in
-    let entry = loop .before in
+    let loop : tie.At-loop Inv-loop μ-loop = search in
+    let entry : tie.Start Inv-loop μ-loop = search in
     record {
       fits = sum-fits (entry .pre .0) (entry .pre .1) (loop .loop .inv .1) (omega arith)
           (omega (arith, entry .pre .0 .few (loop .loop .w) (omega arith), entry .pre .1 .few));
@@ -58,8 +58,8 @@ loop-less c = search needs
 
 loop-again : tie.Need-loop-again Inv-loop μ-loop
 loop-again c =
-    let loop = c .before .before in
-    let entry = loop .before in
+    let loop : tie.At-loop Inv-loop μ-loop = search in
+    let entry : tie.Start Inv-loop μ-loop = search in
     (search needs, starts-next (entry .pre .0) (entry .pre .1) (loop .loop .inv .1) (omega arith))
 
 returns : tie.Need-returns Inv-loop μ-loop

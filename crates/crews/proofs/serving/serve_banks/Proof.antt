@@ -19,7 +19,9 @@ wide-requires : tie.Need-wide-requires Inv-loop μ-loop
 wide-requires c κs = search needs
 
 loop-holds : tie.Need-loop-holds Inv-loop μ-loop
-loop-holds c = (search needs, served-none (c .before .before .before .pre) (omega arith), refl)
+loop-holds c =
+    let start : tie.Start Inv-loop μ-loop = search in
+    (search needs, served-none (start .pre) (omega arith), refl)
 
 sub-b : tie.Need-sub-b Inv-loop μ-loop
 sub-b c = search needs
@@ -35,44 +37,39 @@ wide-requires-2 c κs = search needs
 
 mul-before : tie.Need-mul-before Inv-loop μ-loop
 mul-before c =
-    let loop = c .before .before .before in
-    let entry = loop .before .before .before .before in
+    let entry : tie.Start Inv-loop μ-loop = search in
     omega (arith, wave-small (entry .pre) (c .wide2 .ensures) (omega arith))
 
 array-read-before : tie.Need-array-read-before Inv-loop μ-loop
 array-read-before c =
-    let loop = c .before .before .before in
-    let entry = loop .before .before .before .before in
+    let entry : tie.Start Inv-loop μ-loop = search in
     omega (arith, wave-small (entry .pre) (c .wide2 .ensures) (omega arith))
 
 mul-steps : tie.Need-mul-steps Inv-loop μ-loop
 mul-steps c =
-    let loop = c .before .before .before in
-    let entry = loop .before .before .before .before in
+    let entry : tie.Start Inv-loop μ-loop = search in
     omega (arith, wave-small (entry .pre) (c .wide2 .ensures) (omega arith))
 
 element-copy-out-steps : tie.Need-element-copy-out-steps Inv-loop μ-loop
 element-copy-out-steps c =
-    let loop = c .before .before .before in
-    let entry = loop .before .before .before .before in
+    let entry : tie.Start Inv-loop μ-loop = search in
     omega (arith, wave-small (entry .pre) (c .wide2 .ensures) (omega arith))
 
 div-steps : tie.Need-div-steps Inv-loop μ-loop
 div-steps c =
-    let loop = c .before .before .before .before in
-    let entry = loop .before .before .before .before in
+    let entry : tie.Start Inv-loop μ-loop = search in
     entry .pre .crew .some
 
 add-steps : tie.Need-add-steps Inv-loop μ-loop
 add-steps c =
-    let loop = c .before .before .before .before in
-    let entry = loop .before .before .before .before in
+    let loop : tie.At-loop Inv-loop μ-loop = search in
+    let entry : tie.Start Inv-loop μ-loop = search in
     omega (arith, step-few (entry .pre) (loop .loop .inv .1) (omega arith) (wave-small (entry .pre) (c .before .wide2 .ensures) (omega arith)))
 
 add-steps-2 : tie.Need-add-steps-2 Inv-loop μ-loop
 add-steps-2 c =
-    let loop = c .before .before .before .before in
-    let entry = loop .before .before .before .before in
+    let loop : tie.At-loop Inv-loop μ-loop = search in
+    let entry : tie.Start Inv-loop μ-loop = search in
     omega (arith, step-few (entry .pre) (loop .loop .inv .1) (omega arith) (wave-small (entry .pre) (c .before .wide2 .ensures) (omega arith)))
 
 mul-steps-2 : tie.Need-mul-steps-2 Inv-loop μ-loop
@@ -83,20 +80,18 @@ slice-write-steps c = search needs
 
 add-seen : tie.Need-add-seen Inv-loop μ-loop
 add-seen c =
-    let loop = c .before .before .before .before in
-    let entry = loop .before .before .before .before in
+    let loop : tie.At-loop Inv-loop μ-loop = search in
+    let entry : tie.Start Inv-loop μ-loop = search in
     omega (arith, seen-few (entry .pre) (loop .loop .inv .1) (omega arith) (wave-small (entry .pre) (c .before .wide2 .ensures) (omega arith)))
 
 mul-seen : tie.Need-mul-seen Inv-loop μ-loop
 mul-seen c =
-    let loop = c .before .before .before .before in
-    let entry = loop .before .before .before .before in
+    let entry : tie.Start Inv-loop μ-loop = search in
     omega (arith, wave-small (entry .pre) (c .before .wide2 .ensures) (omega arith))
 
 array-write-seen : tie.Need-array-write-seen Inv-loop μ-loop
 array-write-seen c =
-    let loop = c .before .before .before .before in
-    let entry = loop .before .before .before .before in
+    let entry : tie.Start Inv-loop μ-loop = search in
     omega (arith, wave-small (entry .pre) (c .before .wide2 .ensures) (omega arith))
 
 sub-left : tie.Need-sub-left Inv-loop μ-loop
@@ -107,9 +102,10 @@ loop-less c = search needs
 
 loop-again : tie.Need-loop-again Inv-loop μ-loop
 loop-again c =
-    let loop = c .before .before .before .before in
-    let entry = loop .before .before .before .before in
-    let here : loop .before .wide .result - (loop .loop .left - 1) ≡ loop .before .wide .result - loop .loop .left + 1 = omega arith in
+    let loop : tie.At-loop Inv-loop μ-loop = search in
+    let after-wide : tie.After-wide Inv-loop μ-loop = search in
+    let entry : tie.Start Inv-loop μ-loop = search in
+    let here : after-wide .wide .result - (loop .loop .left - 1) ≡ after-wide .wide .result - loop .loop .left + 1 = omega arith in
     (search needs, rw here (served-next (entry .pre) (loop .loop .inv .1) (omega arith) (c .before .wide2 .ensures)), rw length-set (loop .loop .inv .2))
 
 same-length : tie.Need-same-length Inv-loop μ-loop
@@ -117,8 +113,8 @@ same-length c = search needs
 
 returns : tie.Need-returns Inv-loop μ-loop
 returns c =
-    let loop = c .before in
-    let entry = loop .before .before .before .before in
+    let loop : tie.At-loop Inv-loop μ-loop = search in
+    let entry : tie.Start Inv-loop μ-loop = search in
     served-all (entry .pre) (loop .loop .inv .1) (omega arith)
 
 pub serve-banks-spec : {M : Type 1} → statement M

@@ -9,14 +9,14 @@ count-cells-requires c κs = search needs
 
 first-steps-requires : tie.Need-first-steps-requires
 first-steps-requires c κs =
-    let entry = c .before .before .before .before in
+    let entry : tie.Start = search in
     (sizes-fit (entry .pre .0) (c .before .count-cells .ensures), entry .pre .1 .1)
 
 serve-banks-requires : tie.Need-serve-banks-requires
 serve-banks-requires c κs =
-    let starts = c .before .before .before in
-    let count = starts .before .before in
-    let entry = count .before .before .before in
+    let starts : tie.After-first-steps = search in
+    let count : tie.After-count-cells = search in
+    let entry : tie.Start = search in
     servable (entry .pre .0) (count .count-cells .ensures) (entry .pre .1 .1) (starts .first-steps .ensures) (entry .pre .1 .0)
 
 same-length : tie.Need-same-length
@@ -24,10 +24,10 @@ same-length c = search needs
 
 returns : tie.Need-returns
 returns c =
-    let serve = c .before .before in
-    let starts = serve .before .before .before .before in
-    let count = starts .before .before in
-    let entry = count .before .before .before in
+    let serve : tie.After-serve-banks = search in
+    let starts : tie.After-first-steps = search in
+    let count : tie.After-count-cells = search in
+    let entry : tie.Start = search in
     all-served (entry .pre .0) (count .count-cells .ensures) (entry .pre .1 .1) (starts .first-steps .ensures) (serve .serve-banks .ensures)
 
 pub serve-day-spec : {M : Type 1} → statement M

@@ -21,8 +21,9 @@ slice-aggregate-put-lettered c = search needs
 
 put-lettered-requires : tie.Need-put-lettered-requires
 put-lettered-requires c κs =
-    let start = c .before .before .before .before .before .before .before .before in
-    let p = c .before .before .before .before .put-named in
+    let after-put-named : tie.After-put-named = search in
+    let start : tie.Start = search in
+    let p = after-put-named .put-named in
     (start .pre .0, omega (arith, length-named (32 ∷ 70 ∷ 82 ∷ 79 ∷ 77 ∷ 32 ∷ []) (start .args .v) (omega (arith, start .fits .v)), start .pre .1, p .ensures .next, p .kept .0))
 
 same-length : tie.Need-same-length
@@ -31,13 +32,15 @@ same-length c = search needs
 returns : tie.Need-returns
 unfolding fromText
 returns c =
-    let start = c .before .before .before .before .before .before .before .before .before .before .before in
+    let after-put-lettered : tie.After-put-lettered = search in
+    let after-put-named : tie.After-put-named = search in
+    let start : tie.Start = search in
     let a = start .args in
     let room = start .pre .1 in
     let name = length-named (32 ∷ 70 ∷ 82 ∷ 79 ∷ 77 ∷ 32 ∷ []) (a .v) (omega (arith, start .fits .v)) in
     let wave = length-lettered (32 ∷ []) (a .w .0) in
     puts-then (named (32 ∷ 70 ∷ 82 ∷ 79 ∷ 77 ∷ 32 ∷ []) (a .v)) (lettered (32 ∷ []) (a .w .0)) (a .at) (a .out .now) (omega arith) _ _ _ _
-    (c .before .before .before .before .before .before .before .put-named .ensures) (c .before .before .put-lettered .ensures)
+    (after-put-named .put-named .ensures) (after-put-lettered .put-lettered .ensures)
 
 pub put-from-spec : {M : Type 1} → statement M
 put-from-spec =

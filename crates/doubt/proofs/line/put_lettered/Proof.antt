@@ -24,11 +24,14 @@ same-length c = search needs
 returns : tie.Need-returns
 unfolding lettered
 returns c =
-    let start = c .before .before .before .before .before .before .before .before .before .before .before in
+    let after-put-byte : tie.After-put-byte = search in
+    let after-letter : tie.After-letter = search in
+    let after-put-text : tie.After-put-text = search in
+    let start : tie.Start = search in
     let a = start .args in
     let room = start .pre .1 in
-    let last = rw (c .before .before .before .letter .ensures) at (c .before .before .put-byte .ensures) in
-    puts-then (a .text .now) (getD letters (a .w .0) 0 ∷ []) (a .at) (a .out .now) (omega arith) _ _ _ _ (c .before .before .before .before .before .before .before .put-text .ensures) last
+    let last = rw (after-letter .letter .ensures) at (after-put-byte .put-byte .ensures) in
+    puts-then (a .text .now) (getD letters (a .w .0) 0 ∷ []) (a .at) (a .out .now) (omega arith) _ _ _ _ (after-put-text .put-text .ensures) last
 
 pub put-lettered-spec : {M : Type 1} → statement M
 put-lettered-spec =

@@ -24,9 +24,11 @@ same-length c = search needs
 
 returns : tie.Need-returns
 returns c =
-    let put = c .before .before .put-refused in
-    let test = c .before .before .before .before .before in
-    let is = line-refused _ _ _ _ (test .before .before .wave-by-rule .ensures .0) (test .if1 .taken) in
+    let after-put-refused : tie.After-put-refused = search in
+    let test : tie.Then1 = search in
+    let after-wave-by-rule : tie.After-wave-by-rule = search in
+    let put = after-put-refused .put-refused in
+    let is = line-refused _ _ _ _ (after-wave-by-rule .wave-by-rule .ensures .0) (test .if1 .taken) in
     (rw is at (put .ensures .0), put .ensures .1)
 
 wave-of-requires : tie.Need-wave-of-requires
@@ -34,24 +36,27 @@ wave-of-requires c κs = search needs
 
 put-head-requires : tie.Need-put-head-requires
 put-head-requires c κs =
-    let straight = c .before .before .before .before in
-    let start = straight .before .before .before .before .before .before .before in
+    let straight : tie.After-wave-by-rule = search in
+    let start : tie.Start = search in
     (kept-letter _ _ _ (c .before .wave-of .ensures .1), straight-letter _ _ _ (straight .wave-by-rule .ensures .1), omega (arith, start .pre))
 
 put-links-requires : tie.Need-put-links-requires
 put-links-requires c κs =
-    let head = c .before .before .before .put-head in
-    let test = c .before .before .before .before .before .before in
-    let straight = test .before .before in
-    let start = straight .before .before .before .before .before .before .before in
+    let after-put-head : tie.After-put-head = search in
+    let test : tie.Else1 = search in
+    let straight : tie.After-wave-by-rule = search in
+    let start : tie.Start = search in
+    let head = after-put-head .put-head in
     let passed = direct-passed _ _ _ (sym (straight .wave-by-rule .ensures .0) ∙ test .if1 .left) in
     (number-plan _ _ (passed .0), (passed .1, omega (arith, start .pre, head .ensures .1, head .kept .0)))
 
 put-byte-requires : tie.Need-put-byte-requires
 put-byte-requires c κs =
-    let links = c .before .before .before .put-links in
-    let head = c .before .before .before .before .before .before .before in
-    let start = head .before .before .before .before .before .before .before .before .before .before .before .before in
+    let after-put-links : tie.After-put-links = search in
+    let head : tie.After-put-head = search in
+    let after-wave-by-rule : tie.After-wave-by-rule = search in
+    let start : tie.Start = search in
+    let links = after-put-links .put-links in
     let first = head .put-head in
     omega (arith, start .pre, first .ensures .1, first .kept .0, links .ensures .1, links .kept .0)
 
@@ -60,14 +65,17 @@ same-length-2 c = search needs
 
 returns-2 : tie.Need-returns-2
 returns-2 c =
-    let last = c .before .before .put-byte in
-    let links = c .before .before .before .before .before .before .put-links in
-    let at = c .before .before .before .before .before .before .before .before .before .before in
+    let after-put-byte : tie.After-put-byte = search in
+    let after-put-links : tie.After-put-links = search in
+    let at : tie.After-put-head = search in
+    let kept : tie.After-wave-of = search in
+    let test : tie.Else1 = search in
+    let straight : tie.After-wave-by-rule = search in
+    let after-shared-slice-known3 : tie.After-shared-slice-known3 = search in
+    let start : tie.Start = search in
+    let last = after-put-byte .put-byte in
+    let links = after-put-links .put-links in
     let head = at .put-head in
-    let kept = at .before .before in
-    let test = kept .before in
-    let straight = test .before .before in
-    let start = straight .before .before .before .before .before .before .before in
     let none = sym (test .if1 .left) ∙ straight .wave-by-rule .ensures .0 in
     let first = rw (kept .wave-of .ensures .1, straight .wave-by-rule .ensures .1) at (head .ensures .0) in
     let room = start .pre in

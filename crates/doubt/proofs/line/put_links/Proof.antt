@@ -40,10 +40,11 @@ shared-slice-read-t17 c = search needs
 
 put-link-requires : tie.Need-put-link-requires Inv-loop μ-loop
 put-link-requires c κs =
-    let loop = c .before .before .before in
-    let start = c .before .before .before .before .before .before .before .before .before .before .before in
+    let loop : tie.At-loop Inv-loop μ-loop = search in
+    let after-clashes-of : tie.After-clashes-of Inv-loop μ-loop = search in
+    let start : tie.Start Inv-loop μ-loop = search in
     let p = start .pre in
-    let is = loop .before .clashes-of .ensures in
+    let is = after-clashes-of .clashes-of .ensures in
     let few = clashes-few _ _ _ _ is in
     let v = clash-bank _ _ _ _ is (loop .loop .i) (omega arith) in
     (p .0, (v, p .1 .0, omega (arith, p .1 .1, loop .loop .inv .2, loop .loop .inv .3)))
@@ -56,18 +57,20 @@ loop-less c = search needs
 
 loop-again : tie.Need-loop-again Inv-loop μ-loop
 loop-again c =
-    let loop = c .before .before .before .before .before .before in
-    let start = c .before .before .before .before .before .before .before .before .before .before .before .before .before .before in
+    let after-put-link : tie.After-put-link Inv-loop μ-loop = search in
+    let loop : tie.At-loop Inv-loop μ-loop = search in
+    let after-clashes-of : tie.After-clashes-of Inv-loop μ-loop = search in
+    let start : tie.Start Inv-loop μ-loop = search in
     let p = start .pre in
     let a = start .args in
     let s = slicesOf (a .neighbours .now) (a .degrees .now) (a .waves .now) (a .counts .now) (a .ranks .now) in
-    let is = loop .before .clashes-of .ensures in
+    let is = after-clashes-of .clashes-of .ensures in
     let few = clashes-few _ _ _ _ is in
-    let below : loop .loop .i < length (loop .before .clashes-of .result .now) = omega arith in
-    let v = getD (loop .before .clashes-of .result .now) (loop .loop .i) 0 in
+    let below : loop .loop .i < length (after-clashes-of .clashes-of .result .now) = omega arith in
+    let v = getD (after-clashes-of .clashes-of .result .now) (loop .loop .i) 0 in
     let bank = clash-bank _ _ _ _ is (loop .loop .i) below in
     let short = link-short (a .b .0) s (a .tally) v (omega (arith, few-banks _ _ (p .0))) in
-    let one = c .before .before .put-link in
+    let one = after-put-link .put-link in
     let inv = loop .loop .inv in
     let more = puts-then _ (linkText (a .b .0) s (a .tally) v) (a .at) (a .out .now) (omega (arith, p .1 .1, inv .0 .next, inv .2, inv .3)) _ _ _ _ (inv .0) (one .ensures) in
     (rw (links-next (a .b .0) s (a .tally) _ _ below) more, omega arith, one .kept .0 ∙ inv .2, omega (arith, one .ensures .next, inv .3))
@@ -77,10 +80,12 @@ same-length c = search needs
 
 returns : tie.Need-returns Inv-loop μ-loop
 returns c =
-    let loop = c .before in
-    let all : take (loop .loop .i) (loop .before .clashes-of .result .now) ≡ loop .before .clashes-of .result .now = take-all (loop .loop .i) (loop .before .clashes-of .result .now) (omega arith) in
-    let few = clashes-few _ _ _ _ (loop .before .clashes-of .ensures) in
-    (rw (all, loop .before .clashes-of .ensures) at (loop .loop .inv .0), omega (arith, loop .loop .inv .1, loop .loop .inv .3))
+    let loop : tie.At-loop Inv-loop μ-loop = search in
+    let clashes : tie.After-clashes-of Inv-loop μ-loop = search in
+    let row = clashes .clashes-of .result .now in
+    let all : take (loop .loop .i) row ≡ row = take-all (loop .loop .i) row (omega arith) in
+    let few = clashes-few _ _ _ _ (clashes .clashes-of .ensures) in
+    (rw (all, clashes .clashes-of .ensures) at (loop .loop .inv .0), omega (arith, loop .loop .inv .1, loop .loop .inv .3))
 
 pub put-links-spec : {M : Type 1} → statement M
 put-links-spec =

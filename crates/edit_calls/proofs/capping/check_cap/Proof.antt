@@ -15,7 +15,9 @@ cap-number-requires : tie.Need-cap-number-requires
 cap-number-requires c κs = search needs
 
 returns-2 : tie.Need-returns-2
-returns-2 c = set-cap-asked _ _ _ (sym (c .before .if1 .left) ∙ c .before .before .check-plan .ensures .0) (c .cap-number .ensures)
+returns-2 c =
+    let after-check-plan : tie.After-check-plan = search in
+    set-cap-asked _ _ _ (sym (c .before .if1 .left) ∙ after-check-plan .check-plan .ensures .0) (c .cap-number .ensures)
 
 pub check-cap-spec : {M : Type 1} → statement M
 check-cap-spec = tie.close (tie.spec check-plan-requires returns cap-number-requires returns-2)

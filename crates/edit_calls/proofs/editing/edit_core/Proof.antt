@@ -32,13 +32,18 @@ same-length-6 c = search needs
 
 returns : tie.Need-returns
 returns c =
-    let n = c .before .before in
-    let a = n .before .before .before .before .before .before .before .before .before .before .before .before .before .before .args in
+    let n : tie.After-check-memory = search in
+    let after-check-memory-arg : tie.After-check-memory-arg = search in
+    let start : tie.Start = search in
+    let a = start .args in
     call-refused _ _ _ (given (a .neighbours) (a .degrees) (a .waves) (a .counts) (a .ranks) (a .trail) (a .moved) (a .tally))
     (n .check-memory .result) (n .check-memory .ensures .0) (c .before .if1 .taken) (c .refuse .result) (c .refuse .ensures .0) (c .refuse .ensures .1)
 
 edit-within-requires : tie.Need-edit-within-requires
-edit-within-requires c κs = let n = c .before .before .before .before .before .before in (_, n .before .check-memory .ensures .1 (n .if1 .left))
+edit-within-requires c κs =
+    let n : tie.Else1 = search in
+    let after-check-memory : tie.After-check-memory = search in
+    (_, after-check-memory .check-memory .ensures .1 (n .if1 .left))
 
 same-length-7 : tie.Need-same-length-7
 same-length-7 c = search needs
@@ -60,11 +65,14 @@ same-length-12 c = search needs
 
 returns-2 : tie.Need-returns-2
 returns-2 c =
-    let made = c .before .before .before .before .before .before .before .before .before .before .before .before in
-    let n = made .before .before .before .before .before .before .before in
-    let a = n .before .before .before .before .before .before .before .before .before .before .before .before .before .before .before .args in
+    let made : tie.After-edit-within = search in
+    let n : tie.Else1 = search in
+    let after-check-memory : tie.After-check-memory = search in
+    let after-check-memory-arg : tie.After-check-memory-arg = search in
+    let start : tie.Start = search in
+    let a = start .args in
     call-within _ _ _ (given (a .neighbours) (a .degrees) (a .waves) (a .counts) (a .ranks) (a .trail) (a .moved) (a .tally))
-    (sym (n .if1 .left) ∙ n .before .check-memory .ensures .0) (made .edit-within .ensures _ (n .before .check-memory .ensures .1 (n .if1 .left)))
+    (sym (n .if1 .left) ∙ after-check-memory .check-memory .ensures .0) (made .edit-within .ensures _ (after-check-memory .check-memory .ensures .1 (n .if1 .left)))
 
 pub edit-core-spec : {M : Type 1} → statement M
 edit-core-spec =

@@ -8,13 +8,17 @@ enum-told : tie.Need-enum-told
 enum-told c = search needs
 
 add-result : tie.Need-add-result
-add-result c = let h = rw (c .enum-told .given .1) at (c .before .before .pre) in record { fits = omega (arith, h) }
+add-result c =
+    let start : tie.Start = search in
+    let h = rw (c .enum-told .given .1) at (start .pre) in record { fits = omega (arith, h) }
 
 enum-told-2 : tie.Need-enum-told-2
 enum-told-2 c = search needs
 
 sub-result : tie.Need-sub-result
-sub-result c = rw (c .enum-told2 .given .1) at (c .before .before .pre)
+sub-result c =
+    let start : tie.Start = search in
+    rw (c .enum-told2 .given .1) at (start .pre)
 
 returns : tie.Need-returns
 returns c = rw (c .enum-told .given .1)

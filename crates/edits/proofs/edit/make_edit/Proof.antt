@@ -10,23 +10,27 @@ use Rattle.edits.proofs.edit.make_edit.Statement.{statement}
 use Rattle.edits.proofs.edit.make_edit.Tie as tie
 
 count-after-requires : tie.Need-count-after-requires
-count-after-requires c κs = number-fits (c .before .before .before .before .before .before .before .pre .0 .1)
+count-after-requires c κs =
+    let start : tie.Start = search in
+    number-fits (start .pre .0 .1)
 
 change-clash-requires : tie.Need-change-clash-requires
 change-clash-requires c κs =
-    let p = c .before .before .before .before .before .before .before .before .before .before .pre in
+    let start : tie.Start = search in
+    let p = start .pre in
     (p .0 .0, rowed-before (p .0 .1), p .0 .1 .acceptable)
 
 propagate-requires : tie.Need-propagate-requires
 propagate-requires c κs =
-    let at = c .before .before .before .before .before .before .before .before .before .before .before in
-    let start = at .before .before .before .before .before .before .before .before .before .before .before in
+    let at : tie.After-change-clash = search in
+    let after-count-after : tie.After-count-after = search in
+    let start : tie.Start = search in
     let a = start .args in
     let ed = start .pre .0 .1 in
     let rows = at .change-clash .ensures (start .pre .0 .0) (rowed-before ed) (ed .acceptable) in (
       (
         originOf _ _ (given (a .neighbours) (a .degrees) (a .waves) (a .counts) (a .ranks) (a .trail) (a .moved) (a .tally)),
-        changed-from ed rows (at .before .before .before .count-after .ensures ∙ clashes-after ed),
+        changed-from ed rows (after-count-after .count-after .ensures ∙ clashes-after ed),
       ),
       start .pre .1,
     )
@@ -51,14 +55,15 @@ same-length-6 c = search needs
 
 returns : tie.Need-returns
 returns c =
-    let done = c .before .before .before .before .before .before .before .before in
-    let at = done .before .before .before .before .before .before .before .before .before .before .before .before in
-    let start = at .before .before .before .before .before .before .before .before .before .before .before in
+    let done : tie.After-propagate = search in
+    let at : tie.After-change-clash = search in
+    let after-count-after : tie.After-count-after = search in
+    let start : tie.Start = search in
     let a = start .args in (
       λ G ed.
           done .propagate .ensures .0
           (originOf _ G (given (a .neighbours) (a .degrees) (a .waves) (a .counts) (a .ranks) (a .trail) (a .moved) (a .tally)))
-          (changed-from ed (at .change-clash .ensures G (rowed-before ed) (ed .acceptable)) (at .before .before .before .count-after .ensures ∙ clashes-after ed)),
+          (changed-from ed (at .change-clash .ensures G (rowed-before ed) (ed .acceptable)) (after-count-after .count-after .ensures ∙ clashes-after ed)),
       done .propagate .ensures .1,
     )
 

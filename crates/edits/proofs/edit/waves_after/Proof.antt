@@ -11,7 +11,9 @@ returns : tie.Need-returns
 returns c = search needs
 
 returns-2 : tie.Need-returns-2
-returns-2 c = top-is _ (c .before .before .pre .1 .1) (c .if1 .left)
+returns-2 c =
+    let start : tie.Start = search in
+    top-is _ (start .pre .1 .1) (c .if1 .left)
 
 pub waves-after-spec : {M : Type 1} → statement M
 waves-after-spec = tie.close (tie.spec wave-count-requires returns returns-2)

@@ -34,8 +34,8 @@ same-length c = search needs
 
 returns : tie.Need-returns
 returns c =
-    let count = c .before .before in
-    let start = count .before .before .before .before .before .before .before .before in
+    let count : tie.After-count-earlier = search in
+    let start : tie.Start = search in
     let a = start .args in
     part-back (a .counts .now) (count .count-earlier .last .1 .1 .1 .1 .0) (a .b .0) _ (start .pre .1) (count .count-earlier .ensures)
 

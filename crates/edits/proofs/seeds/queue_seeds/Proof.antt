@@ -6,29 +6,34 @@ use Rattle.edits.proofs.seeds.queue_seeds.Statement.{statement}
 use Rattle.edits.proofs.seeds.queue_seeds.Tie as tie
 
 queue-seed-requires : tie.Need-queue-seed-requires
-queue-seed-requires c κs = let sd = c .before .before .before .before .before .before .before .pre .1 in ((_, _, sd .counts), sd .bankA)
+queue-seed-requires c κs =
+    let start : tie.Start = search in
+    let sd = start .pre .1 in ((_, _, sd .counts), sd .bankA)
 
 queue-seed-requires-2 : tie.Need-queue-seed-requires-2
 queue-seed-requires-2 c κs =
-    let at = c .before .before .before .before in
-    let sd = at .before .before .before .before .before .before .before .before .pre .1 in
+    let at : tie.After-queue-seed = search in
+    let start : tie.Start = search in
+    let sd = start .pre .1 in
     let one = at .queue-seed .ensures _ _ (sd .counts) in
     ((_, _, one .counts), sd .bankB)
 
 queue-turned-requires : tie.Need-queue-turned-requires
 queue-turned-requires c κs =
-    let at-b = c .before .before .before .before in
-    let at-a = at-b .before .before .before .before .before in
-    let sd = at-a .before .before .before .before .before .before .before .before .pre .1 in
+    let at-b : tie.After-queue-seed2 = search in
+    let at-a : tie.After-queue-seed = search in
+    let start : tie.Start = search in
+    let sd = start .pre .1 in
     let one = at-a .queue-seed .ensures _ _ (sd .counts) in
     (_, turn-a sd one (at-b .queue-seed2 .ensures _ _ (one .counts)))
 
 queue-turned-requires-2 : tie.Need-queue-turned-requires-2
 queue-turned-requires-2 c κs =
-    let turn = c .before .before .before .before in
-    let at-b = turn .before .before .before .before .before in
-    let at-a = at-b .before .before .before .before .before in
-    let sd = at-a .before .before .before .before .before .before .before .before .pre .1 in
+    let turn : tie.After-queue-turned = search in
+    let at-b : tie.After-queue-seed2 = search in
+    let at-a : tie.After-queue-seed = search in
+    let start : tie.Start = search in
+    let sd = start .pre .1 in
     let one = at-a .queue-seed .ensures _ _ (sd .counts) in
     let two = at-b .queue-seed2 .ensures _ _ (one .counts) in
     (_, turn-b sd one two (turn .queue-turned .ensures _ (turn-a sd one two)))
@@ -38,10 +43,10 @@ same-length c = search needs
 
 returns : tie.Need-returns
 returns c =
-    let end = c .before .before in
-    let turn = end .before .before .before .before .before in
-    let at-b = turn .before .before .before .before .before in
-    let at-a = at-b .before .before .before .before .before in
+    let end : tie.After-queue-turned2 = search in
+    let turn : tie.After-queue-turned = search in
+    let at-b : tie.After-queue-seed2 = search in
+    let at-a : tie.After-queue-seed = search in
     λ o sd.
     let one = at-a .queue-seed .ensures _ _ (sd .counts) in
     let two = at-b .queue-seed2 .ensures _ _ (one .counts) in

@@ -27,30 +27,41 @@ mul-degree : tie.Need-mul-degree Inv-loop μ-loop
 mul-degree c = omega arith
 
 shared-slice-read-degree : tie.Need-shared-slice-read-degree Inv-loop μ-loop
-shared-slice-read-degree c = y-inside (c .before .before .before .before .before .before .before .pre .1)
+shared-slice-read-degree c =
+    let start : tie.Start Inv-loop μ-loop = search in
+    y-inside (start .pre .1)
 
 cast-degree : tie.Need-cast-degree Inv-loop μ-loop
-cast-degree c = omega (arith, y-small (c .before .before .before .before .before .before .before .pre .1))
+cast-degree c =
+    let start : tie.Start Inv-loop μ-loop = search in
+    omega (arith, y-small (start .pre .1))
 
 loop-holds : tie.Need-loop-holds Inv-loop μ-loop
 loop-holds c = (omega arith, refl, λ s tn. tn)
 
 queue-turned-one-requires : tie.Need-queue-turned-one-requires Inv-loop μ-loop
 queue-turned-one-requires c κs =
-    let loop = c .before .before .before in
-    let pre = loop .before .before .before .before .before .before .before .before .pre in
-    ((pre .0, loop .loop .inv .2 (pre .0) (pre .1)), c .before .before .loop-test .taken)
+    let in-loop : tie.In-loop Inv-loop μ-loop = search in
+    let loop : tie.At-loop Inv-loop μ-loop = search in
+    let start : tie.Start Inv-loop μ-loop = search in
+    let pre = start .pre in
+    ((pre .0, loop .loop .inv .2 (pre .0) (pre .1)), in-loop .loop-test .taken)
 
 add-i : tie.Need-add-i Inv-loop μ-loop
-add-i c = let test = c .before .before .before .before .before in omega (arith, y-small (test .before .before .before .before .before .before .before .before .before .pre .1), test .loop-test .taken)
+add-i c =
+    let test : tie.In-loop Inv-loop μ-loop = search in
+    let start : tie.Start Inv-loop μ-loop = search in
+    omega (arith, y-small (start .pre .1), test .loop-test .taken)
 
 loop-less : tie.Need-loop-less Inv-loop μ-loop
 loop-less c = omega arith
 
 loop-again : tie.Need-loop-again Inv-loop μ-loop
 loop-again c =
-    let one = c .before .before .queue-turned-one in
-    let inv = c .before .before .before .before .before .before .loop .inv in
+    let after-queue-turned-one : tie.After-queue-turned-one Inv-loop μ-loop = search in
+    let at-loop : tie.At-loop Inv-loop μ-loop = search in
+    let one = after-queue-turned-one .queue-turned-one in
+    let inv = at-loop .loop .inv in
     (omega arith, one .kept .1 .1 .1 .0 ∙ inv .1, λ s tn. one .ensures s (inv .2 s tn))
 
 same-length : tie.Need-same-length Inv-loop μ-loop
@@ -58,8 +69,9 @@ same-length c = c .before .loop .inv .1
 
 returns : tie.Need-returns Inv-loop μ-loop
 returns c =
+    let start : tie.Start Inv-loop μ-loop = search in
     let loop = c .before .loop in
-    let a = c .before .before .before .before .before .before .before .before .before .args in
+    let a = start .args in
     let e : loop .i ≡ getD (a .degrees .now) (a .b .0) 0 = omega (arith, loop .inv .0, c .loop-test .left) in
     λ s tn. rw e at (loop .inv .2 s tn)
 

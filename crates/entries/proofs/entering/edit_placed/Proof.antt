@@ -6,13 +6,15 @@ use Rattle.entries.proofs.entering.edit_placed.Tie as tie
 
 place-by-rank-requires : tie.Need-place-by-rank-requires
 place-by-rank-requires c κs =
-    let pre = c .before .before .before .before .before .before .before .before .pre in
+    let start : tie.Start = search in
+    let pre = start .pre in
     (ranks-wide (pre .0 .0) _ (pre .0 .1), pre .1)
 
 edit-held-requires : tie.Need-edit-held-requires
 edit-held-requires c κs =
-    let placed = c .before .before .before .before .before .before .before in
-    (placed .before .before .before .before .before .before .before .before .before .pre .0, placed .place-by-rank .ensures)
+    let placed : tie.After-place-by-rank = search in
+    let start : tie.Start = search in
+    (start .pre .0, placed .place-by-rank .ensures)
 
 same-length : tie.Need-same-length
 same-length c = search needs
@@ -33,7 +35,9 @@ same-length-6 : tie.Need-same-length-6
 same-length-6 c = search needs
 
 returns : tie.Need-returns
-returns c = c .before .before .before .before .before .before .before .before .before .before .before .before .edit-held .ensures
+returns c =
+    let after-edit-held : tie.After-edit-held = search in
+    after-edit-held .edit-held .ensures
 
 pub edit-placed-spec : {M : Type 1} → statement M
 edit-placed-spec =

@@ -13,7 +13,8 @@ enum-known-entry c = search needs
 
 edit-placed-requires : tie.Need-edit-placed-requires
 edit-placed-requires c κs =
-    let pre = c .before .before .before .before .before .before .before .before .before .before .before .before .before .before .before .before .before .before .pre in
+    let start : tie.Start = search in
+    let pre = start .pre in
     let h = pre .0 .held in
     ((h .0, h .1), pre .1 .0)
 
@@ -21,7 +22,9 @@ enum-known-entry-2 : tie.Need-enum-known-entry-2
 enum-known-entry-2 c = search needs
 
 rank-held-requires : tie.Need-rank-held-requires
-rank-held-requires c κs = let h = c .before .before .before .before .before .before .before .before .before .before .before .pre .0 .held in ranks-wide (h .0) _ (h .1)
+rank-held-requires c κs =
+    let start : tie.Start = search in
+    let h = start .pre .0 .held in ranks-wide (h .0) _ (h .1)
 
 same-length : tie.Need-same-length
 same-length c = search needs
@@ -46,8 +49,9 @@ same-length-7 c = search needs
 
 returns : tie.Need-returns
 returns c =
-    let made = c .before .before .before .before .before .before .before .before .before .before .before .before in
-    let is = made .before .before .before .before .before .before .before .before .before .before .entry .given .1 in (
+    let made : tie.After-edit-placed = search in
+    let after-entry : tie.After-entry = search in
+    let is = after-entry .entry .given .1 in (
       record { of = λ G h f. rw is (clash-entered _ _ _ _ G _ _ _ (made .edit-placed .ensures .0 G h) f) },
       (made .edit-placed .ensures .1, λ f. absurd (clash-begun _ is f)),
     )
@@ -57,9 +61,11 @@ same-length-8 c = search needs
 
 returns-2 : tie.Need-returns-2
 returns-2 c =
-    let made = c .before .before in
-    let is = made .before .before .before .entry2 .given .1 in
-    let pre = made .before .before .before .before .before .before .before .before .before .before .before .before .pre in
+    let made : tie.After-rank-held = search in
+    let after-entry2 : tie.After-entry2 = search in
+    let start : tie.Start = search in
+    let is = after-entry2 .entry2 .given .1 in
+    let pre = start .pre in
     let fits = rank-of is (pre .0 .fits) in (
       record { of = λ G h f. rw is (rank-entered _ _ _ h f fits (made .rank-held .ensures)) },
       (idle-ranked _ (made .rank-held .ensures) (pre .1 .0) (pre .1 .1), λ f. pre .1 .1 (rank-begun _ is f)),

@@ -16,7 +16,9 @@ refuse-requires-2 : tie.Need-refuse-requires-2
 refuse-requires-2 c κs = search needs
 
 returns-2 : tie.Need-returns-2
-returns-2 c = rank-far (c .before .before .before .before .if1 .left) (c .before .if2 .taken) (c .refuse2 .ensures)
+returns-2 c =
+    let else1 : tie.Else1 = search in
+    rank-far (else1 .if1 .left) (c .before .if2 .taken) (c .refuse2 .ensures)
 
 wide-requires : tie.Need-wide-requires
 wide-requires c κs = search needs
@@ -25,13 +27,17 @@ mul-ranks : tie.Need-mul-ranks
 mul-ranks c = search needs
 
 slice-write-ranks : tie.Need-slice-write-ranks
-slice-write-ranks c = omega (arith, c .wide .ensures, c .before .if2 .left, c .before .before .before .before .before .before .pre)
+slice-write-ranks c =
+    let start : tie.Start = search in
+    omega (arith, c .wide .ensures, c .before .if2 .left, start .pre)
 
 same-length : tie.Need-same-length
 same-length c = search needs
 
 returns-3 : tie.Need-returns-3
-returns-3 c = rank-done (c .before .before .before .before .if1 .left) (omega (arith, c .before .if2 .left)) (c .wide .ensures)
+returns-3 c =
+    let else1 : tie.Else1 = search in
+    rank-done (else1 .if1 .left) (omega (arith, c .before .if2 .left)) (c .wide .ensures)
 
 pub rank-held-spec : {M : Type 1} → statement M
 rank-held-spec =

@@ -19,10 +19,14 @@ strike-number-requires : tie.Need-strike-number-requires
 strike-number-requires c κs = search needs
 
 returns : tie.Need-returns
-returns c = rw (c .before .enum-told .given .1, ← (c .before .before .before .names .ensures)) (c .add-number .ensures)
+returns c =
+    let after-names : tie.After-names = search in
+    rw (c .before .enum-told .given .1, ← (after-names .names .ensures)) (c .add-number .ensures)
 
 returns-2 : tie.Need-returns-2
-returns-2 c = rw (c .before .enum-told2 .given .1, ← (c .before .before .before .names .ensures)) (c .strike-number .ensures _ _)
+returns-2 c =
+    let after-names : tie.After-names = search in
+    rw (c .before .enum-told2 .given .1, ← (after-names .names .ensures)) (c .strike-number .ensures _ _)
 
 pub clash-number-spec : {M : Type 1} → statement M
 clash-number-spec =

@@ -10,8 +10,9 @@ reset-requires c κs = search needs
 
 edit-held-requires : tie.Need-edit-held-requires
 edit-held-requires c κs =
-    let empty = c .before .before .before .before .before .before .before in
-    let held = empty .before .before .before .before .before .before .before .before .before .pre in
+    let empty : tie.After-reset = search in
+    let start : tie.Start = search in
+    let held = start .pre in
     (held, empty .reset .ensures .0 _ _ (omega (arith, ready-banks _ _ (held .1), held .1 .plan .clashes .most)))
 
 same-length : tie.Need-same-length
@@ -33,7 +34,9 @@ same-length-6 : tie.Need-same-length-6
 same-length-6 c = search needs
 
 returns : tie.Need-returns
-returns c = c .before .before .before .before .before .before .before .before .before .before .before .before .edit-held .ensures .0
+returns c =
+    let after-edit-held : tie.After-edit-held = search in
+    after-edit-held .edit-held .ensures .0
 
 pub edit-alone-spec : {M : Type 1} → statement M
 edit-alone-spec =

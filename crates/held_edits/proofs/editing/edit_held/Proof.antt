@@ -7,7 +7,9 @@ use Rattle.held_edits.proofs.editing.edit_held.Statement.{statement}
 use Rattle.held_edits.proofs.editing.edit_held.Tie as tie
 
 edit-number-requires : tie.Need-edit-number-requires
-edit-number-requires c κs = let held = c .before .before .before .before .before .before .before .before .before .before .before .pre .0 in (held .0, held .1 .plan)
+edit-number-requires c κs =
+    let start : tie.Start = search in
+    let held = start .pre .0 in (held .0, held .1 .plan)
 
 refuse-requires : tie.Need-refuse-requires
 refuse-requires c κs = search needs
@@ -26,8 +28,8 @@ same-length-4 c = search needs
 
 returns : tie.Need-returns
 returns c =
-    let n = c .before .before in
-    let start = n .before .before .before .before .before .before .before .before .before .before .before .before in
+    let n : tie.After-edit-number = search in
+    let start : tie.Start = search in
     let a = start .args in (
       λ G ready.
           edit-refused _ G _ _ (given (a .neighbours) (a .degrees) (a .waves) (a .counts) (a .ranks) (a .trail) (a .moved) (a .tally)) ready
@@ -37,11 +39,12 @@ returns c =
 
 make-edit-requires : tie.Need-make-edit-requires
 make-edit-requires c κs =
-    let at1 = c .before .before .before .before .before .before .before in
-    let n = at1 .before in
-    let pre = n .before .before .before .before .before .before .before .before .before .before .before .before .pre in
+    let else1 : tie.Else1 = search in
+    let n : tie.After-edit-number = search in
+    let start : tie.Start = search in
+    let pre = start .pre in
     let held = pre .0 in
-    ((held .0, editable _ _ _ (held .1) (sym (at1 .if1 .left) ∙ n .edit-number .ensures (held .0) (held .1 .plan))), pre .1)
+    ((held .0, editable _ _ _ (held .1) (sym (else1 .if1 .left) ∙ n .edit-number .ensures (held .0) (held .1 .plan))), pre .1)
 
 same-length-5 : tie.Need-same-length-5
 same-length-5 c = search needs
@@ -63,10 +66,11 @@ same-length-10 c = search needs
 
 returns-2 : tie.Need-returns-2
 returns-2 c =
-    let made = c .before .before .before .before .before .before .before .before .before .before .before .before .before in
-    let n = made .before .before .before .before .before .before .before .before in (
+    let made : tie.After-make-edit = search in
+    let n : tie.Else1 = search in
+    let after-edit-number : tie.After-edit-number = search in (
       λ G ready.
-          let e = sym (n .if1 .left) ∙ n .before .edit-number .ensures G (ready .plan) in
+          let e = sym (n .if1 .left) ∙ after-edit-number .edit-number .ensures G (ready .plan) in
           edit-accepted _ _ _ ready e (made .make-edit .ensures .0 G (editable _ _ _ ready e)),
       made .make-edit .ensures .1,
     )

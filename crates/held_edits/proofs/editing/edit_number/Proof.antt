@@ -12,20 +12,25 @@ returns : tie.Need-returns
 returns c = λ G p. sym (far-a G _ _ _ (omega (arith, tally-banks _ G (p .tally), c .if1 .taken)))
 
 returns-2 : tie.Need-returns-2
-returns-2 c = λ G p.
+returns-2 c =
+    let else1 : tie.Else1 = search in
+    λ G p.
     let n = tally-banks _ G (p .tally) in
-    sym (far-b G _ _ _ (omega (arith, c .before .before .before .if1 .left)) (omega (arith, c .if2 .taken)))
+    sym (far-b G _ _ _ (omega (arith, else1 .if1 .left)) (omega (arith, c .if2 .taken)))
 
 returns-3 : tie.Need-returns-3
 returns-3 c =
-    let at1 = c .before .before .before in
-    let at2 = at1 .before .before .before in
+    let else2 : tie.Else2 = search in
+    let else1 : tie.Else1 = search in
     λ G p.
     let n = tally-banks _ G (p .tally) in
-    sym (one-bank G _ _ (omega (arith, at2 .if1 .left)) (omega (arith, at1 .if2 .left)) _ (c .if3 .taken))
+    sym (one-bank G _ _ (omega (arith, else1 .if1 .left)) (omega (arith, else2 .if2 .left)) _ (c .if3 .taken))
 
 clashes-held-requires : tie.Need-clashes-held-requires
-clashes-held-requires c κs = let p = c .before .before .before .before .before .before in (p .before .before .before .before .before .before .before .before .pre, p .if1 .left)
+clashes-held-requires c κs =
+    let p : tie.Else1 = search in
+    let start : tie.Start = search in
+    (start .pre, p .if1 .left)
 
 wide-requires : tie.Need-wide-requires
 wide-requires c κs = search needs
@@ -38,19 +43,25 @@ mul-clash-number c = search needs
 
 shared-slice-read-clash-number : tie.Need-shared-slice-read-clash-number
 shared-slice-read-clash-number c =
-    let p = c .before .before .before .before .before .before .before .before .before .before in omega
-    (arith, degree-cell (p .before .before .before .before .before .before .before .before .pre .1) (p .if1 .left), c .before .before .wide .ensures)
+    let after-wide : tie.After-wide = search in
+    let p : tie.Else1 = search in
+    let start : tie.Start = search in
+    omega
+    (arith, degree-cell (start .pre .1) (p .if1 .left), after-wide .wide .ensures)
 
 mul-clash-number-2 : tie.Need-mul-clash-number-2
 mul-clash-number-2 c = search needs
 
 shared-slice-read-clash-number-2 : tie.Need-shared-slice-read-clash-number-2
 shared-slice-read-clash-number-2 c =
-    let p = c .before .before .before .before .before .before .before .before in omega (
+    let after-wide2 : tie.After-wide2 = search in
+    let p : tie.Else2 = search in
+    let start : tie.Start = search in
+    omega (
       arith,
-      degree-cell (p .before .before .before .before .before .before .before .before .before .before .before .pre .1)
+      degree-cell (start .pre .1)
           (p .if2 .left),
-      c .before .before .wide2 .ensures,
+      after-wide2 .wide2 .ensures,
     )
 
 clash-number-requires : tie.Need-clash-number-requires
@@ -58,11 +69,15 @@ clash-number-requires c κs = search needs
 
 returns-4 : tie.Need-returns-4
 returns-4 c =
-    let w = c .before .before .before in
-    let q = w .before .before .before in
+    let w : tie.After-wide2 = search in
+    let after-wide : tie.After-wide = search in
+    let after-clashes-held : tie.After-clashes-held = search in
+    let q : tie.Else3 = search in
+    let else2 : tie.Else2 = search in
+    let else1 : tie.Else1 = search in
     λ G p.
-    edit-asked _ p (q .before .before .before .before .before .before .if1 .left) (q .before .before .before .if2 .left) (q .if3 .left) (w .before .before .clashes-held .ensures G p)
-    (w .before .wide .ensures) (w .wide2 .ensures) (c .clash-number .ensures)
+    edit-asked _ p (else1 .if1 .left) (else2 .if2 .left) (q .if3 .left) (after-clashes-held .clashes-held .ensures G p)
+    (after-wide .wide .ensures) (w .wide2 .ensures) (c .clash-number .ensures)
 
 pub edit-number-spec : {M : Type 1} → statement M
 edit-number-spec =

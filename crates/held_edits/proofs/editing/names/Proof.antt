@@ -28,9 +28,9 @@ shared-slice-read-if1 c = search needs
 
 returns : tie.Need-returns Inv-loop μ-loop
 returns c =
-    let at1 = c .before .before .before .before in
-    let at2 = at1 .before in
-    here _ (at1 .loop .i) (at2 .args .row .now) (omega arith) (c .if1 .taken)
+    let at-loop : tie.At-loop Inv-loop μ-loop = search in
+    let start : tie.Start Inv-loop μ-loop = search in
+    here _ (at-loop .loop .i) (start .args .row .now) (omega arith) (c .if1 .taken)
 
 add-i : tie.Need-add-i Inv-loop μ-loop
 add-i c = search needs
@@ -40,13 +40,14 @@ loop-less c = search needs
 
 loop-again : tie.Need-loop-again Inv-loop μ-loop
 loop-again c =
-    let at1 = c .before .before .before .before in
-    let at2 = at1 .before in
-    (search needs, not-here _ (at1 .loop .i) (at2 .args .row .now) (omega arith) (at1 .loop .inv .1) (c .if1 .left))
+    let at-loop : tie.At-loop Inv-loop μ-loop = search in
+    let start : tie.Start Inv-loop μ-loop = search in
+    (search needs, not-here _ (at-loop .loop .i) (start .args .row .now) (omega arith) (at-loop .loop .inv .1) (c .if1 .left))
 
 returns-2 : tie.Need-returns-2 Inv-loop μ-loop
 returns-2 c =
-    sym (ap (memb (c .before .before .args .v .0)) (sym (take-all (c .before .loop .i) (c .before .before .args .row .now) (omega arith))) ∙ c .before .loop .inv .1)
+    let start : tie.Start Inv-loop μ-loop = search in
+    sym (ap (memb (start .args .v .0)) (sym (take-all (c .before .loop .i) (start .args .row .now) (omega arith))) ∙ c .before .loop .inv .1)
 
 pub names-spec : {M : Type 1} → statement M
 names-spec =

@@ -23,17 +23,21 @@ loop-holds : tie.Need-loop-holds Inv-loop μ-loop
 loop-holds c = (λ G p. ap length (sym (below-none G)), omega arith, omega arith)
 
 clashes-held-requires : tie.Need-clashes-held-requires Inv-loop μ-loop
-clashes-held-requires c κs = (c .before .before .before .before .before .before .before .before .pre, c .if1 .taken)
+clashes-held-requires c κs =
+    let start : tie.Start Inv-loop μ-loop = search in
+    (start .pre, c .if1 .taken)
 
 count-larger-requires : tie.Need-count-larger-requires Inv-loop μ-loop
 count-larger-requires c κs = search needs
 
 add-count : tie.Need-add-count Inv-loop μ-loop
 add-count c =
-    let row = c .before in
-    let at = row .before .before .before in
-    let p = at .before .before .before .before .before .before .pre in
-    let few = row-few (p .0) _ _ (p .1) (at .loop .a) (row .before .if1 .taken) in
+    let row : tie.After-clashes-held Inv-loop μ-loop = search in
+    let then1 : tie.Then1 Inv-loop μ-loop = search in
+    let at : tie.At-loop Inv-loop μ-loop = search in
+    let start : tie.Start Inv-loop μ-loop = search in
+    let p = start .pre in
+    let few = row-few (p .0) _ _ (p .1) (at .loop .a) (then1 .if1 .taken) in
     omega (
       arith,
       few,
@@ -51,12 +55,14 @@ loop-less c = omega arith
 
 loop-again : tie.Need-loop-again Inv-loop μ-loop
 loop-again c =
-    let row = c .before in
-    let at = row .before .before .before in
-    let p = at .before .before .before .before .before .before .pre in
+    let row : tie.After-clashes-held Inv-loop μ-loop = search in
+    let then1 : tie.Then1 Inv-loop μ-loop = search in
+    let at : tie.At-loop Inv-loop μ-loop = search in
+    let start : tie.Start Inv-loop μ-loop = search in
+    let p = start .pre in
     let w = at .loop in
     let n = c .count-larger .ensures in
-    let few = row-few (p .0) _ _ (p .1) (w .a) (row .before .if1 .taken) in (
+    let few = row-few (p .0) _ _ (p .1) (w .a) (then1 .if1 .taken) in (
       λ G q. omega (arith, w .inv .0 G q, n .0, ap (λ (l : List ℕ). length (addsOf (w .a) l)) (row .clashes-held .ensures G q), below-count G (w .a)),
       omega (arith, few, ap length (row .clashes-held .ensures (p .0) (p .1)), n .1, w .inv .1),
       omega arith,
@@ -64,7 +70,8 @@ loop-again c =
 
 returns : tie.Need-returns Inv-loop μ-loop
 returns c =
-    let w = c .before .before .loop in
+    let at-loop : tie.At-loop Inv-loop μ-loop = search in
+    let w = at-loop .loop in
     λ G q. (
       w .inv .0 G q ∙ ap (λ (k : ℕ). length (addsBelow G k)) (omega (arith, plan-banks G _ _ q)),
       omega (arith, w .inv .1, plan-few G _ _ q),

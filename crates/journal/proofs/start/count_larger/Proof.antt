@@ -40,9 +40,11 @@ loop-less c = search needs
 
 loop-again : tie.Need-loop-again Inv-loop μ-loop
 loop-again c =
-    let test = c .before .before in
-    let w = test .before .loop in
-    let a = test .before .before .before .args in
+    let test : tie.In-loop Inv-loop μ-loop = search in
+    let at-loop : tie.At-loop Inv-loop μ-loop = search in
+    let start : tie.Start Inv-loop μ-loop = search in
+    let w = at-loop .loop in
+    let a = start .args in
     let row = a .row .now in
     let e = ap length (adds-next (a .a .0) row (w .i) (test .loop-test .taken))
     ∙ length-append (addsOf (a .a .0) (take (w .i) row)) (addsOf (a .a .0) (getD row (w .i) 0 ∷ [])) in
@@ -50,8 +52,9 @@ loop-again c =
 
 returns : tie.Need-returns Inv-loop μ-loop
 returns c =
-    let at = c .before in
-    let a = at .before .before .args in
+    let at : tie.At-loop Inv-loop μ-loop = search in
+    let start : tie.Start Inv-loop μ-loop = search in
+    let a = start .args in
     let w = at .loop in
     (w .inv .0 ∙ ap (λ (l : List ℕ). length (addsOf (a .a .0) l)) (take-all (w .i) (a .row .now) (omega arith)), omega arith)
 

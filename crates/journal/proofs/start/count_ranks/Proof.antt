@@ -27,13 +27,19 @@ mul-ranked : tie.Need-mul-ranked Inv-loop μ-loop
 mul-ranked c = search needs
 
 shared-slice-read-ranked : tie.Need-shared-slice-read-ranked Inv-loop μ-loop
-shared-slice-read-ranked c = let wide = c .before in omega (arith, wide .wide .ensures, wide .before .loop-test .taken, wide .before .before .before .before .pre)
+shared-slice-read-ranked c =
+    let wide : tie.After-wide Inv-loop μ-loop = search in
+    let in-loop : tie.In-loop Inv-loop μ-loop = search in
+    let start : tie.Start Inv-loop μ-loop = search in
+    omega (arith, wide .wide .ensures, in-loop .loop-test .taken, start .pre)
 
 ranked-requires : tie.Need-ranked-requires Inv-loop μ-loop
 ranked-requires c κs = search needs
 
 add-count : tie.Need-add-count Inv-loop μ-loop
-add-count c = omega (arith, c .ranked .ensures .1, c .before .before .before .before .loop .inv .1)
+add-count c =
+    let at-loop : tie.At-loop Inv-loop μ-loop = search in
+    omega (arith, c .ranked .ensures .1, at-loop .loop .inv .1)
 
 add-b : tie.Need-add-b Inv-loop μ-loop
 add-b c = search needs
@@ -43,17 +49,19 @@ loop-less c = search needs
 
 loop-again : tie.Need-loop-again Inv-loop μ-loop
 loop-again c =
-    let wide = c .before .before in
-    let test = wide .before in
-    let w = test .before .loop in
-    let cells = test .before .before .before .args .ranks .now in
+    let wide : tie.After-wide Inv-loop μ-loop = search in
+    let at-loop : tie.At-loop Inv-loop μ-loop = search in
+    let start : tie.Start Inv-loop μ-loop = search in
+    let w = at-loop .loop in
+    let cells = start .args .ranks .now in
     let is = ap (λ (x : ℕ). length (rankOf (w .b) (getD cells x 0))) (wide .wide .ensures) in
     (omega (arith, ranks-count (rankIn cells) (w .b), w .inv .0, c .ranked .ensures .0 (w .b), is), omega (arith, w .inv .1, c .ranked .ensures .1), omega arith)
 
 returns : tie.Need-returns Inv-loop μ-loop
 returns c =
-    let at = c .before in
-    let a = at .before .before .args in
+    let at : tie.At-loop Inv-loop μ-loop = search in
+    let start : tie.Start Inv-loop μ-loop = search in
+    let a = start .args in
     let w = at .loop in
     (w .inv .0 ∙ ap (λ (k : ℕ). length (ranksBelow (rankIn (a .ranks .now)) k)) (omega arith), omega arith)
 

@@ -15,8 +15,8 @@ returns c = entries-none _ _ _ (adds-smaller _ _ (c .if1 .taken))
 
 put-new-requires : tie.Need-put-new-requires
 put-new-requires c κs =
-    let test = c .before in
-    let start = test .before .before .before .before in
+    let test : tie.Else1 = search in
+    let start : tie.Start = search in
     let one = adds-larger (start .args .a .0) (start .args .b .0) (test .if1 .left) in
     fit-fewer _ (addsOf (start .args .a .0) (start .args .b .0 ∷ [])) _ _ (omega (arith, ap length one)) (start .pre)
 
@@ -24,7 +24,10 @@ same-length : tie.Need-same-length
 same-length c = search needs
 
 returns-2 : tie.Need-returns-2
-returns-2 c = let put = c .before .before in rw (adds-larger _ _ (put .before .before .if1 .left)) (put .put-new .ensures)
+returns-2 c =
+    let put : tie.After-put-new = search in
+    let else1 : tie.Else1 = search in
+    rw (adds-larger _ _ (else1 .if1 .left)) (put .put-new .ensures)
 
 pub put-add-spec : {M : Type 1} → statement M
 put-add-spec = tie.close (tie.spec returns put-new-requires same-length returns-2)

@@ -27,15 +27,19 @@ loop-holds : tie.Need-loop-holds Inv-loop μ-loop
 loop-holds c = (λ G p r. entries-none _ _ _ (below-none G), omega arith, refl)
 
 clashes-held-requires : tie.Need-clashes-held-requires Inv-loop μ-loop
-clashes-held-requires c κs = let p = c .before .before .before .before .before .before .before .before .before .pre in ((p .0, p .1), c .if1 .taken)
+clashes-held-requires c κs =
+    let start : tie.Start Inv-loop μ-loop = search in
+    let p = start .pre in ((p .0, p .1), c .if1 .taken)
 
 put-adds-of-requires : tie.Need-put-adds-of-requires Inv-loop μ-loop
 put-adds-of-requires c κs =
-    let row = c .before in
-    let at = row .before .before .before in
-    let p = at .before .before .before .before .before .before .before .pre in
+    let row : tie.After-clashes-held Inv-loop μ-loop = search in
+    let then1 : tie.Then1 Inv-loop μ-loop = search in
+    let at : tie.At-loop Inv-loop μ-loop = search in
+    let start : tie.Start Inv-loop μ-loop = search in
+    let p = start .pre in
     let w = at .loop in
-    row-fit (p .0) _ _ (p .1) (w .a) (row .before .if1 .taken) _ (row .clashes-held .ensures (p .0) (p .1)) _ _ (p .2) _ _ (w .inv .0 (p .0) (p .1) (p .2)) (w .inv .2)
+    row-fit (p .0) _ _ (p .1) (w .a) (then1 .if1 .taken) _ (row .clashes-held .ensures (p .0) (p .1)) _ _ (p .2) _ _ (w .inv .0 (p .0) (p .1) (p .2)) (w .inv .2)
 
 add-a : tie.Need-add-a Inv-loop μ-loop
 add-a c = omega arith
@@ -45,11 +49,12 @@ loop-less c = omega arith
 
 loop-again : tie.Need-loop-again Inv-loop μ-loop
 loop-again c =
-    let put = c .before .before in
-    let row = put .before .before in
-    let at = row .before .before .before in
+    let put : tie.After-put-adds-of Inv-loop μ-loop = search in
+    let row : tie.After-clashes-held Inv-loop μ-loop = search in
+    let then1 : tie.Then1 Inv-loop μ-loop = search in
+    let at : tie.At-loop Inv-loop μ-loop = search in
     let w = at .loop in (
-      λ G p r. row-put G _ _ p (w .a) (row .before .if1 .taken) _ (row .clashes-held .ensures G p) _ _ r _ _ (w .inv .0 G p r) _ _ (put .put-adds-of .ensures),
+      λ G p r. row-put G _ _ p (w .a) (then1 .if1 .taken) _ (row .clashes-held .ensures G p) _ _ r _ _ (w .inv .0 G p r) _ _ (put .put-adds-of .ensures),
       omega arith,
       put .put-adds-of .kept .0 ∙ w .inv .2,
     )
@@ -59,7 +64,8 @@ same-length c = search needs
 
 returns : tie.Need-returns Inv-loop μ-loop
 returns c =
-    let w = c .before .before .loop in
+    let at-loop : tie.At-loop Inv-loop μ-loop = search in
+    let w = at-loop .loop in
     λ G p r. let e : w .a ≡ G .banks = omega (arith, plan-banks G _ _ p, c .if1 .left) in rw e at (w .inv .0 G p r)
 
 pub put-adds-spec : {M : Type 1} → statement M

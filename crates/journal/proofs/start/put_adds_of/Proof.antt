@@ -30,9 +30,10 @@ shared-slice-read-t12 c = search needs
 
 put-add-requires : tie.Need-put-add-requires Inv-loop μ-loop
 put-add-requires c κs =
-    let test = c .before .before in
-    let w = test .before .loop in
-    let start = test .before .before .before .before in
+    let test : tie.In-loop Inv-loop μ-loop = search in
+    let at-loop : tie.At-loop Inv-loop μ-loop = search in
+    let start : tie.Start Inv-loop μ-loop = search in
+    let w = at-loop .loop in
     adds-fit-next (start .args .a .0) (start .args .row .now) (w .i) (test .loop-test .taken) _ (start .args .journal .now) (start .pre) _ _ (w .inv .0) (w .inv .2)
 
 add-i : tie.Need-add-i Inv-loop μ-loop
@@ -43,10 +44,11 @@ loop-less c = search needs
 
 loop-again : tie.Need-loop-again Inv-loop μ-loop
 loop-again c =
-    let put = c .before .before in
-    let test = put .before .before .before in
-    let w = test .before .loop in
-    let start = test .before .before .before .before in
+    let put : tie.After-put-add Inv-loop μ-loop = search in
+    let test : tie.In-loop Inv-loop μ-loop = search in
+    let at-loop : tie.At-loop Inv-loop μ-loop = search in
+    let start : tie.Start Inv-loop μ-loop = search in
+    let w = at-loop .loop in
     let a = start .args in (
       adds-put (a .a .0) (a .row .now) (w .i) (test .loop-test .taken) (a .done) (a .journal .now) (start .pre) _ _ (w .inv .0) _ _ (put .put-add .ensures),
       omega arith,
@@ -58,8 +60,9 @@ same-length c = search needs
 
 returns : tie.Need-returns Inv-loop μ-loop
 returns c =
-    let w = c .before in
-    rw (take-all (w .loop .i) (w .before .before .before .args .row .now) (omega arith)) at (w .loop .inv .0)
+    let w : tie.At-loop Inv-loop μ-loop = search in
+    let start : tie.Start Inv-loop μ-loop = search in
+    rw (take-all (w .loop .i) (start .args .row .now) (omega arith)) at (w .loop .inv .0)
 
 pub put-adds-of-spec : {M : Type 1} → statement M
 put-adds-of-spec =

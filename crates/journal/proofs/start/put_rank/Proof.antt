@@ -14,8 +14,8 @@ returns c = entries-none _ _ _ (rank-zero _ _ (c .if1 .taken))
 
 put-new-requires : tie.Need-put-new-requires
 put-new-requires c κs =
-    let test = c .before in
-    let start = test .before .before in
+    let test : tie.Else1 = search in
+    let start : tie.Start = search in
     let one = rank-some (start .args .b .0) (start .args .rank) (test .if1 .left) in
     fit-fewer _ (rankOf (start .args .b .0) (start .args .rank)) _ _ (omega (arith, ap length one)) (start .pre)
 
@@ -23,7 +23,10 @@ same-length : tie.Need-same-length
 same-length c = search needs
 
 returns-2 : tie.Need-returns-2
-returns-2 c = let put = c .before .before in rw (rank-some _ _ (put .before .before .if1 .left)) (put .put-new .ensures)
+returns-2 c =
+    let put : tie.After-put-new = search in
+    let else1 : tie.Else1 = search in
+    rw (rank-some _ _ (else1 .if1 .left)) (put .put-new .ensures)
 
 pub put-rank-spec : {M : Type 1} → statement M
 put-rank-spec = tie.close (tie.spec returns put-new-requires same-length returns-2)

@@ -27,14 +27,19 @@ mul-put-rank : tie.Need-mul-put-rank Inv-loop μ-loop
 mul-put-rank c = search needs
 
 shared-slice-read-put-rank : tie.Need-shared-slice-read-put-rank Inv-loop μ-loop
-shared-slice-read-put-rank c = let wide = c .before in omega (arith, wide .wide .ensures, wide .before .before .loop-test .taken, wide .before .before .before .before .before .before .pre .0)
+shared-slice-read-put-rank c =
+    let wide : tie.After-wide Inv-loop μ-loop = search in
+    let in-loop : tie.In-loop Inv-loop μ-loop = search in
+    let start : tie.Start Inv-loop μ-loop = search in
+    omega (arith, wide .wide .ensures, in-loop .loop-test .taken, start .pre .0)
 
 put-rank-requires : tie.Need-put-rank-requires Inv-loop μ-loop
 put-rank-requires c κs =
-    let wide = c .before in
-    let test = wide .before .before in
-    let w = test .before .loop in
-    let start = test .before .before .before .before in
+    let wide : tie.After-wide Inv-loop μ-loop = search in
+    let test : tie.In-loop Inv-loop μ-loop = search in
+    let at-loop : tie.At-loop Inv-loop μ-loop = search in
+    let start : tie.Start Inv-loop μ-loop = search in
+    let w = at-loop .loop in
     rank-fit (start .args .ranks .now) (w .b) (start .args .n) _ (test .loop-test .taken) (start .args .journal .now) (start .pre .1) _ (wide .wide .ensures) _ _ (w .inv .0) (w .inv .2)
 
 add-b : tie.Need-add-b Inv-loop μ-loop
@@ -45,11 +50,12 @@ loop-less c = search needs
 
 loop-again : tie.Need-loop-again Inv-loop μ-loop
 loop-again c =
-    let put = c .before .before in
-    let wide = put .before .before in
-    let test = wide .before .before in
-    let w = test .before .loop in
-    let start = test .before .before .before .before in
+    let put : tie.After-put-rank Inv-loop μ-loop = search in
+    let wide : tie.After-wide Inv-loop μ-loop = search in
+    let test : tie.In-loop Inv-loop μ-loop = search in
+    let at-loop : tie.At-loop Inv-loop μ-loop = search in
+    let start : tie.Start Inv-loop μ-loop = search in
+    let w = at-loop .loop in
     let a = start .args in (
       rank-put (a .ranks .now) (w .b) (a .n) (a .done) (test .loop-test .taken) (a .journal .now) (start .pre .1) _ (wide .wide .ensures) _ _ (w .inv .0) _ _ (put .put-rank .ensures),
       omega arith,
@@ -61,8 +67,9 @@ same-length c = search needs
 
 returns : tie.Need-returns Inv-loop μ-loop
 returns c =
+    let start : tie.Start Inv-loop μ-loop = search in
     let w = c .before .loop in
-    let e : w .b ≡ c .before .before .before .before .args .n = omega (arith, c .loop-test .left, w .inv .1) in
+    let e : w .b ≡ start .args .n = omega (arith, c .loop-test .left, w .inv .1) in
     rw e at (w .inv .0)
 
 pub put-ranks-spec : {M : Type 1} → statement M

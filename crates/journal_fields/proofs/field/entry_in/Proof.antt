@@ -30,8 +30,10 @@ entry-of-requires c κs = search needs
 returns : tie.Need-returns
 unfolding entryIn
 returns c =
-    let y = c .before .before in
-    rw (c .entry-of .ensures, y .before .number-at .ensures, y .number-at2 .ensures, y .before .before .pair-place .ensures)
+    let y : tie.After-number-at2 = search in
+    let after-number-at : tie.After-number-at = search in
+    let after-pair-place : tie.After-pair-place = search in
+    rw (c .entry-of .ensures, after-number-at .number-at .ensures, y .number-at2 .ensures, after-pair-place .pair-place .ensures)
 
 pub entry-in-spec : {M : Type 1} → statement M
 entry-in-spec =

@@ -54,64 +54,71 @@ refusal-requires c κs = search needs
 
 returns : tie.Need-returns Inv-loop μ-loop
 returns c =
-    let read = c .before .before in
-    let test = read .before .before in
-    c .refusal .ensures ∙ later-other _ _ _ _ (test .loop-test .taken) _ (read .read-field .ensures) _ (c .before .match .keys2) ∙ sym (test .before .loop .inv .0)
+    let read : tie.After-read-field Inv-loop μ-loop = search in
+    let test : tie.In-loop Inv-loop μ-loop = search in
+    let at-loop : tie.At-loop Inv-loop μ-loop = search in
+    c .refusal .ensures ∙ later-other _ _ _ _ (test .loop-test .taken) _ (read .read-field .ensures) _ (c .before .match .keys2) ∙ sym (at-loop .loop .inv .0)
 
 is-rank-requires : tie.Need-is-rank-requires Inv-loop μ-loop
 is-rank-requires c κs = search needs
 
 returns-2 : tie.Need-returns-2 Inv-loop μ-loop
 returns-2 c =
-    let rank = c .before .before in
-    let entry = rank .before .before in
-    let read = entry .before .before in
-    let test = read .before .before in
+    let rank : tie.After-is-rank Inv-loop μ-loop = search in
+    let entry : tie.After-field Inv-loop μ-loop = search in
+    let read : tie.After-read-field Inv-loop μ-loop = search in
+    let test : tie.In-loop Inv-loop μ-loop = search in
+    let at-loop : tie.At-loop Inv-loop μ-loop = search in
     later-late _ _ _ _ (test .loop-test .taken) _ (read .read-field .ensures) _ (entry .field .given .1) _ _ (rank .is-rank .ensures) (c .before .if1 .taken) (c .if2 .taken)
-    ∙ sym (test .before .loop .inv .0)
+    ∙ sym (at-loop .loop .inv .0)
 
 add-at : tie.Need-add-at Inv-loop μ-loop
 add-at c =
-    let entry = c .before .before .before in
-    let read = entry .before .before in
-    let test = read .before .before in
-    let size = test .before .before in
-    let s = size .before .before .before .args .bytes .now in
+    let entry : tie.After-field Inv-loop μ-loop = search in
+    let read : tie.After-read-field Inv-loop μ-loop = search in
+    let test : tie.In-loop Inv-loop μ-loop = search in
+    let size : tie.After-entry-bytes Inv-loop μ-loop = search in
+    let start : tie.Start Inv-loop μ-loop = search in
+    let s = start .args .bytes .now in
     let l = later-long _ _ s _ (test .loop-test .taken) _ (read .read-field .ensures) _ (entry .field .given .1) in
     omega (arith, size .entry-bytes .ensures)
 
 add-number : tie.Need-add-number Inv-loop μ-loop
 add-number c =
-    let test = c .before .before .before .before .before .before .before in
-    omega (arith, test .loop-test .taken, test .before .loop .inv .2)
+    let test : tie.In-loop Inv-loop μ-loop = search in
+    let at-loop : tie.At-loop Inv-loop μ-loop = search in
+    omega (arith, test .loop-test .taken, at-loop .loop .inv .2)
 
 loop-less : tie.Need-loop-less Inv-loop μ-loop
 loop-less c =
-    let entry = c .before .before .before in
-    let read = entry .before .before in
-    let test = read .before .before in
-    let size = test .before .before in
-    let s = size .before .before .before .args .bytes .now in
+    let entry : tie.After-field Inv-loop μ-loop = search in
+    let read : tie.After-read-field Inv-loop μ-loop = search in
+    let test : tie.In-loop Inv-loop μ-loop = search in
+    let size : tie.After-entry-bytes Inv-loop μ-loop = search in
+    let start : tie.Start Inv-loop μ-loop = search in
+    let s = start .args .bytes .now in
     let l = later-long _ _ s _ (test .loop-test .taken) _ (read .read-field .ensures) _ (entry .field .given .1) in
     omega (arith, size .entry-bytes .ensures)
 
 loop-again : tie.Need-loop-again Inv-loop μ-loop
 loop-again c =
-    let rank = c .before in
-    let entry = rank .before .before in
-    let read = entry .before .before in
-    let test = read .before .before in
-    let size = test .before .before in
-    let s = size .before .before .before .args .bytes .now in
+    let rank : tie.After-is-rank Inv-loop μ-loop = search in
+    let entry : tie.After-field Inv-loop μ-loop = search in
+    let read : tie.After-read-field Inv-loop μ-loop = search in
+    let test : tie.In-loop Inv-loop μ-loop = search in
+    let at-loop : tie.At-loop Inv-loop μ-loop = search in
+    let size : tie.After-entry-bytes Inv-loop μ-loop = search in
+    let start : tie.Start Inv-loop μ-loop = search in
+    let s = start .args .bytes .now in
     let below = test .loop-test .taken in
     let e = entry .field .given .1 in
-    let begun = test .before .loop .begun in
+    let begun = at-loop .loop .begun in
     let is = rank .is-rank .result in
     let h = ⊎-elim (λ h. no-rank begun is (h .1 .left)) (λ h. none-begun begun is (h .left)) (c .if1 .came) in
     let l = later-long _ _ s _ below _ (read .read-field .ensures) _ e in (
-      test .before .loop .inv .0 ∙ later-next _ _ s _ below _ (read .read-field .ensures) _ e begun is (rank .is-rank .ensures) h _ (size .entry-bytes .ensures),
+      at-loop .loop .inv .0 ∙ later-next _ _ s _ below _ (read .read-field .ensures) _ e begun is (rank .is-rank .ensures) h _ (size .entry-bytes .ensures),
       omega (arith, size .entry-bytes .ensures),
-      omega (arith, size .entry-bytes .ensures, test .before .loop .inv .2),
+      omega (arith, size .entry-bytes .ensures, at-loop .loop .inv .2),
     )
 
 returns-3 : tie.Need-returns-3 Inv-loop μ-loop

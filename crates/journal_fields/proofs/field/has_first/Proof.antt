@@ -11,7 +11,9 @@ shared-slice-read-if2 : tie.Need-shared-slice-read-if2
 shared-slice-read-if2 c = search needs
 
 returns-2 : tie.Need-returns-2
-returns-2 c = first-tag _ (c .before .before .if1 .left) (c .if2 .taken)
+returns-2 c =
+    let else1 : tie.Else1 = search in
+    first-tag _ (else1 .if1 .left) (c .if2 .taken)
 
 number-at-requires : tie.Need-number-at-requires
 number-at-requires c κs = search needs
@@ -21,8 +23,9 @@ wide-byte-requires c κs = search needs
 
 returns-3 : tie.Need-returns-3
 returns-3 c =
-    let tag = c .before .before in
-    rw (c .before .number-at .ensures, c .wide-byte .ensures .0) (first-length _ (tag .before .before .if1 .left) (tag .if2 .left))
+    let tag : tie.Else2 = search in
+    let else1 : tie.Else1 = search in
+    rw (c .before .number-at .ensures, c .wide-byte .ensures .0) (first-length _ (else1 .if1 .left) (tag .if2 .left))
 
 pub has-first-spec : {M : Type 1} → statement M
 has-first-spec =

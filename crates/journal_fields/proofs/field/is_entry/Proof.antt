@@ -26,10 +26,11 @@ wide-byte-requires c κs = search needs
 
 returns-2 : tie.Need-returns-2
 returns-2 c =
-    let number = c .before .before in
-    let tag = number .before in
+    let number : tie.After-number-at = search in
+    let tag : tie.Else1 = search in
+    let after-is-entry-tag : tie.After-is-entry-tag = search in
     rw (number .number-at .ensures, c .wide-byte .ensures .0 ∙ c .before .value-bytes .ensures)
-    (entry-length _ _ (sym (tag .before .is-entry-tag .ensures) ∙ not-false _ (tag .if1 .left)))
+    (entry-length _ _ (sym (after-is-entry-tag .is-entry-tag .ensures) ∙ not-false _ (tag .if1 .left)))
 
 pub is-entry-spec : {M : Type 1} → statement M
 is-entry-spec =

@@ -15,7 +15,9 @@ wide-byte-requires : tie.Need-wide-byte-requires
 wide-byte-requires c κs = search needs
 
 returns : tie.Need-returns
-returns c = rw (c .before .number-at .ensures, c .wide-byte .ensures .0) (form-length _ (c .before .before .if1 .taken))
+returns c =
+    let then1 : tie.Then1 = search in
+    rw (c .before .number-at .ensures, c .wide-byte .ensures .0) (form-length _ (then1 .if1 .taken))
 
 returns-2 : tie.Need-returns-2
 returns-2 c = form-none _ (c .if1 .left)

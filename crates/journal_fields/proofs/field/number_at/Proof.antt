@@ -28,7 +28,9 @@ add-result c = search needs
 
 returns : tie.Need-returns
 unfolding numberAt
-returns c = omega (arith, c .before .before .wide-byte .ensures .0, c .wide-byte2 .ensures .0)
+returns c =
+    let after-wide-byte : tie.After-wide-byte = search in
+    omega (arith, after-wide-byte .wide-byte .ensures .0, c .wide-byte2 .ensures .0)
 
 pub number-at-spec : {M : Type 1} → statement M
 number-at-spec =

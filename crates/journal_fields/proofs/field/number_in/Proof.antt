@@ -12,10 +12,14 @@ use Rattle.rule.proofs.wide.Reads as wide-reads
 
 returns : tie.Need-returns
 unfolding numberIn
-returns c = rw (not-true (c .before .before .args .numbered) (c .if1 .taken))
+returns c =
+    let start : tie.Start = search in
+    rw (not-true (start .args .numbered) (c .if1 .taken))
 
 number-at-requires : tie.Need-number-at-requires
-number-at-requires c κs = let start = c .before .before in omega (arith, rw (not-false (start .args .numbered) (c .if1 .left)) at (start .pre))
+number-at-requires c κs =
+    let start : tie.Start = search in
+    omega (arith, rw (not-false (start .args .numbered) (c .if1 .left)) at (start .pre))
 
 wide-requires : tie.Need-wide-requires
 wide-requires c κs = search needs
@@ -25,8 +29,8 @@ add-number-at c = search needs
 
 number-at-requires-2 : tie.Need-number-at-requires-2
 number-at-requires-2 c κs =
-    let test = c .before .before in
-    let start = test .before .before in
+    let test : tie.Else1 = search in
+    let start : tie.Start = search in
     omega (arith, rw (not-false (start .args .numbered) (test .if1 .left)) at (start .pre))
 
 wide-requires-2 : tie.Need-wide-requires-2
@@ -41,10 +45,12 @@ add-result c = search needs
 returns-2 : tie.Need-returns-2
 unfolding numberIn fourAt
 returns-2 c =
-    let low = c .before .before in
-    let test = low .before .before in
-    rw (not-false (test .before .before .args .numbered) (test .if1 .left))
-    (omega (arith, c .wide2 .ensures, c .before .number-at2 .ensures, low .wide .ensures, low .before .number-at .ensures))
+    let low : tie.After-wide = search in
+    let after-number-at : tie.After-number-at = search in
+    let test : tie.Else1 = search in
+    let start : tie.Start = search in
+    rw (not-false (start .args .numbered) (test .if1 .left))
+    (omega (arith, c .wide2 .ensures, c .before .number-at2 .ensures, low .wide .ensures, after-number-at .number-at .ensures))
 
 pub number-in-spec : {M : Type 1} → statement M
 number-in-spec =

@@ -25,9 +25,10 @@ same-length c = search needs
 returns : tie.Need-returns
 unfolding entryBytes tagOf firstIn secondIn
 returns c =
-    let put = c .before .before in
-    let tag = put .before in
-    rw (tag .before .before .before .entry .given .1, ← (tag .kind-tag .ensures)) (put .put-numbers .ensures)
+    let put : tie.After-put-numbers = search in
+    let tag : tie.After-kind-tag = search in
+    let after-entry : tie.After-entry = search in
+    rw (after-entry .entry .given .1, ← (tag .kind-tag .ensures)) (put .put-numbers .ensures)
 
 same-length-2 : tie.Need-same-length-2
 same-length-2 c = search needs
@@ -35,8 +36,9 @@ same-length-2 c = search needs
 returns-2 : tie.Need-returns-2
 unfolding entryBytes tagOf firstIn secondIn
 returns-2 c =
-    let put = c .before .before in
-    rw (put .before .before .before .entry2 .given .1) (put .put-numbers2 .ensures)
+    let put : tie.After-put-numbers2 = search in
+    let after-entry2 : tie.After-entry2 = search in
+    rw (after-entry2 .entry2 .given .1) (put .put-numbers2 .ensures)
 
 pub put-entry-spec : {M : Type 1} → statement M
 put-entry-spec =

@@ -12,7 +12,9 @@ use Rattle.text.proofs.put_text.Reads as put-text-reads
 
 returns : tie.Need-returns
 unfolding numberBytes
-returns c = rw (not-true (c .before .before .args .numbered) (c .if1 .taken)) (puts-none _ _)
+returns c =
+    let start : tie.Start = search in
+    rw (not-true (start .args .numbered) (c .if1 .taken)) (puts-none _ _)
 
 cast-t10 : tie.Need-cast-t10
 cast-t10 c = search needs
@@ -24,15 +26,17 @@ cast-t14 : tie.Need-cast-t14
 cast-t14 c = search needs
 
 cast-t16 : tie.Need-cast-t16
-cast-t16 c = omega (arith, c .before .before .pre .1)
+cast-t16 c =
+    let start : tie.Start = search in
+    omega (arith, start .pre .1)
 
 slice-aggregate-put-text : tie.Need-slice-aggregate-put-text
 slice-aggregate-put-text c = search needs
 
 put-text-requires : tie.Need-put-text-requires
 put-text-requires c κs =
-    let test = c .before .before in
-    let start = test .before .before in
+    let test : tie.Else1 = search in
+    let start : tie.Start = search in
     omega (arith, rw (not-false (start .args .numbered) (test .if1 .left)) at (start .pre .0))
 
 same-length : tie.Need-same-length
@@ -41,9 +45,10 @@ same-length c = search needs
 returns-2 : tie.Need-returns-2
 unfolding numberBytes fourBytes twoBytes
 returns-2 c =
-    let put = c .before .before in
-    let test = put .before .before .before in
-    rw (not-false (test .before .before .args .numbered) (test .if1 .left)) (put .put-text .ensures)
+    let put : tie.After-put-text = search in
+    let test : tie.Else1 = search in
+    let start : tie.Start = search in
+    rw (not-false (start .args .numbered) (test .if1 .left)) (put .put-text .ensures)
 
 pub put-number-spec : {M : Type 1} → statement M
 put-number-spec =

@@ -18,13 +18,15 @@ slice-aggregate-put-text : tie.Need-slice-aggregate-put-text
 slice-aggregate-put-text c = search needs
 
 put-text-requires : tie.Need-put-text-requires
-put-text-requires c κs = let start = c .before .before .before .before in omega (arith, start .pre .0)
+put-text-requires c κs =
+    let start : tie.Start = search in
+    omega (arith, start .pre .0)
 
 put-number-requires : tie.Need-put-number-requires
 put-number-requires c κs =
-    let head = c .before .before .before in
-    let value = head .before .before .before in
-    let start = value .before .before in
+    let head : tie.After-put-text = search in
+    let value : tie.After-value-bytes = search in
+    let start : tie.Start = search in
     let room = number-room (start .args .numbered) _ (start .args .number) (start .args .x) (start .args .y) _ _ (start .pre .0) in
     (room _ (value .value-bytes .ensures) _ _ (head .put-text .kept .0) (head .put-text .ensures), start .pre .1)
 
@@ -46,10 +48,10 @@ slice-aggregate-put-text-2 c = search needs
 put-text-requires-2 : tie.Need-put-text-requires-2
 unfolding twoBytes
 put-text-requires-2 c κs =
-    let number = c .before .before .before .before in
-    let head = number .before .before .before .before in
-    let value = head .before .before .before in
-    let start = value .before .before in
+    let number : tie.After-put-number = search in
+    let head : tie.After-put-text = search in
+    let value : tie.After-value-bytes = search in
+    let start : tie.Start = search in
     pair-room (start .args .numbered) _ _ (start .args .x) (start .args .y) _ _ (start .pre .0) _ (value .value-bytes .ensures) _ _ (head .put-text .kept .0) (head .put-text .ensures) _ _
     (number .put-number .kept .0) (number .put-number .ensures)
 
@@ -59,11 +61,11 @@ same-length c = search needs
 returns : tie.Need-returns
 unfolding twoBytes
 returns c =
-    let pair = c .before .before in
-    let number = pair .before .before .before .before .before in
-    let head = number .before .before .before .before in
-    let value = head .before .before .before in
-    let start = value .before .before in
+    let pair : tie.After-put-text2 = search in
+    let number : tie.After-put-number = search in
+    let head : tie.After-put-text = search in
+    let value : tie.After-value-bytes = search in
+    let start : tie.Start = search in
     field-put (start .args .numbered) _ _ (start .args .x) (start .args .y) _ _ (start .pre .0) _ (value .value-bytes .ensures) _ _ (head .put-text .kept .0) (head .put-text .ensures) _ _
     (number .put-number .kept .0) (number .put-number .ensures) _ _ (pair .put-text2 .ensures)
 

@@ -21,36 +21,44 @@ is-entry-requires c κs = search needs
 
 returns-2 : tie.Need-returns-2
 returns-2 c =
-    let entry = c .before in
-    field-wrong _ _ _ (entry .before .if1 .left) (sym (entry .is-entry .ensures) ∙ not-true _ (c .if2 .taken))
+    let entry : tie.After-is-entry = search in
+    let else1 : tie.Else1 = search in
+    field-wrong _ _ _ (else1 .if1 .left) (sym (entry .is-entry .ensures) ∙ not-true _ (c .if2 .taken))
 
 entry-bytes-requires : tie.Need-entry-bytes-requires
 entry-bytes-requires c κs = search needs
 
 returns-3 : tie.Need-returns-3
 returns-3 c =
-    let test = c .before .before in
-    let entry = test .before in
-    field-short _ _ _ (entry .before .if1 .left) (sym (entry .is-entry .ensures) ∙ not-false _ (test .if2 .left)) (rw (c .before .entry-bytes .ensures) at (c .if3 .taken))
+    let test : tie.Else2 = search in
+    let entry : tie.After-is-entry = search in
+    let else1 : tie.Else1 = search in
+    field-short _ _ _ (else1 .if1 .left) (sym (entry .is-entry .ensures) ∙ not-false _ (test .if2 .left)) (rw (c .before .entry-bytes .ensures) at (c .if3 .taken))
 
 entry-in-requires : tie.Need-entry-in-requires
 entry-in-requires c κs = rw (c .before .entry-bytes .ensures) at (c .if3 .left)
 
 number-in-requires : tie.Need-number-in-requires
-number-in-requires c κs = let long = c .before in rw (long .before .entry-bytes .ensures) at (long .if3 .left)
+number-in-requires c κs =
+    let long : tie.Else3 = search in
+    let after-entry-bytes : tie.After-entry-bytes = search in
+    rw (after-entry-bytes .entry-bytes .ensures) at (long .if3 .left)
 
 whole-requires : tie.Need-whole-requires
 whole-requires c κs = search needs
 
 returns-4 : tie.Need-returns-4
 returns-4 c =
-    let number = c .before in
-    let long = number .before .before in
-    let test = long .before .before in
-    let entry = test .before in
+    let number : tie.After-number-in = search in
+    let after-entry-in : tie.After-entry-in = search in
+    let long : tie.Else3 = search in
+    let after-entry-bytes : tie.After-entry-bytes = search in
+    let test : tie.Else2 = search in
+    let entry : tie.After-is-entry = search in
+    let else1 : tie.Else1 = search in
     c .whole .ensures
-    ∙ field-entry _ _ _ (entry .before .if1 .left) (sym (entry .is-entry .ensures) ∙ not-false _ (test .if2 .left)) (rw (long .before .entry-bytes .ensures) at (long .if3 .left)) _
-    (number .before .entry-in .ensures) _ (number .number-in .ensures)
+    ∙ field-entry _ _ _ (else1 .if1 .left) (sym (entry .is-entry .ensures) ∙ not-false _ (test .if2 .left)) (rw (after-entry-bytes .entry-bytes .ensures) at (long .if3 .left)) _
+    (after-entry-in .entry-in .ensures) _ (number .number-in .ensures)
 
 pub read-field-spec : {M : Type 1} → statement M
 read-field-spec =

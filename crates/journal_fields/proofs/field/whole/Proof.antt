@@ -17,13 +17,15 @@ returns c = rank-wrong _ _ (sym (c .before .rank-fits .ensures) ∙ not-true _ (
 
 returns-2 : tie.Need-returns-2
 returns-2 c =
-    let rank = c .before in
-    number-wrong _ _ (sym (rank .before .rank-fits .ensures) ∙ not-false _ (rank .if1 .left)) (not-true _ (c .if2 .taken))
+    let rank : tie.Else1 = search in
+    let after-rank-fits : tie.After-rank-fits = search in
+    number-wrong _ _ (sym (after-rank-fits .rank-fits .ensures) ∙ not-false _ (rank .if1 .left)) (not-true _ (c .if2 .taken))
 
 returns-3 : tie.Need-returns-3
 returns-3 c =
-    let rank = c .before in
-    both-right _ _ (sym (rank .before .rank-fits .ensures) ∙ not-false _ (rank .if1 .left)) (not-false _ (c .if2 .left))
+    let rank : tie.Else1 = search in
+    let after-rank-fits : tie.After-rank-fits = search in
+    both-right _ _ (sym (after-rank-fits .rank-fits .ensures) ∙ not-false _ (rank .if1 .left)) (not-false _ (c .if2 .left))
 
 pub whole-spec : {M : Type 1} → statement M
 whole-spec = tie.close (tie.spec rank-fits-requires returns returns-2 returns-3)

@@ -26,13 +26,15 @@ has-first-requires c κs = search needs
 
 returns-3 : tie.Need-returns-3
 returns-3 c =
-    let inside = c .before .before .before in
-    head-first _ _ (inside .before .if1 .left) (inside .if2 .left) (sym (c .before .has-first .ensures) ∙ not-true _ (c .if3 .taken))
+    let inside : tie.Else2 = search in
+    let else1 : tie.Else1 = search in
+    head-first _ _ (else1 .if1 .left) (inside .if2 .left) (sym (c .before .has-first .ensures) ∙ not-true _ (c .if3 .taken))
 
 returns-4 : tie.Need-returns-4
 returns-4 c =
-    let inside = c .before .before .before in
-    head-yes _ _ (inside .before .if1 .left) (inside .if2 .left) (sym (c .before .has-first .ensures) ∙ not-false _ (c .if3 .left))
+    let inside : tie.Else2 = search in
+    let else1 : tie.Else1 = search in
+    head-yes _ _ (else1 .if1 .left) (inside .if2 .left) (sym (c .before .has-first .ensures) ∙ not-false _ (c .if3 .left))
 
 pub head-number-spec : {M : Type 1} → statement M
 head-number-spec =

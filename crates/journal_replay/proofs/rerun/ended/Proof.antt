@@ -21,16 +21,20 @@ enum-told c = search needs
 
 returns-2 : tie.Need-returns-2
 returns-2 c =
-    let read = c .before in
-    ending-other _ _ _ _ _ (read .before .before .if1 .left) (rw (read .before .wide .ensures) at (read .read-field .ensures)) (c .match .keys2)
+    let read : tie.After-read-field = search in
+    let after-wide : tie.After-wide = search in
+    let else1 : tie.Else1 = search in
+    ending-other _ _ _ _ _ (else1 .if1 .left) (rw (after-wide .wide .ensures) at (read .read-field .ensures)) (c .match .keys2)
 
 add-t9 : tie.Need-add-t9
 add-t9 c = search needs
 
 returns-3 : tie.Need-returns-3
 returns-3 c =
-    let read = c .before .before in
-    ending-wrong _ _ _ _ _ (read .before .before .if1 .left) (rw (read .before .wide .ensures) at (read .read-field .ensures)) (c .enum-told .given .1)
+    let read : tie.After-read-field = search in
+    let after-wide : tie.After-wide = search in
+    let else1 : tie.Else1 = search in
+    ending-wrong _ _ _ _ _ (else1 .if1 .left) (rw (after-wide .wide .ensures) at (read .read-field .ensures)) (c .enum-told .given .1)
 
 pub ended-spec : {M : Type 1} → statement M
 ended-spec =

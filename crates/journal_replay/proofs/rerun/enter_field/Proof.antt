@@ -18,19 +18,27 @@ entry-bytes-requires : tie.Need-entry-bytes-requires
 entry-bytes-requires c κs = search needs
 
 add-next : tie.Need-add-next
-add-next c = let start = c .before .before .before .before .before .before .before .before .before in omega (arith, c .entry-bytes .ensures, start .pre .0 .inside)
+add-next c =
+    let start : tie.Start = search in
+    omega (arith, c .entry-bytes .ensures, start .pre .0 .inside)
 
 wide-requires : tie.Need-wide-requires
 wide-requires c κs = search needs
 
 sub-number : tie.Need-sub-number
-sub-number c = let start = c .before .before .before .before .before .before .before .before .before .before in omega (arith, c .wide .ensures, start .pre .0 .later)
+sub-number c =
+    let start : tie.Start = search in
+    omega (arith, c .wide .ensures, start .pre .0 .later)
 
 sub-read-field : tie.Need-sub-read-field
-sub-read-field c = let start = c .before .before .before .before .before .before .before .before .before .before in omega (arith, start .pre .0 .inside)
+sub-read-field c =
+    let start : tie.Start = search in
+    omega (arith, start .pre .0 .inside)
 
 part-read-field-start : tie.Need-part-read-field-start
-part-read-field-start c = let start = c .before .before .before .before .before .before .before .before .before .before in omega (arith, start .pre .0 .inside)
+part-read-field-start c =
+    let start : tie.Start = search in
+    omega (arith, start .pre .0 .inside)
 
 part-read-field-end : tie.Need-part-read-field-end
 part-read-field-end c = search needs
@@ -46,18 +54,20 @@ refusal-requires c κs = search needs
 
 returns : tie.Need-returns
 returns c =
-    let read = c .before .before in
-    let size = read .before .before .before in (
-      enters-none _ _ _ _ _ (number-of _ _ (read .before .before .wide .ensures)) _ (read .read-field .ensures) _ _ _ refl (next-of _ _ _ (size .entry-bytes .ensures)) (c .before .match .keys2)
+    let read : tie.After-read-field = search in
+    let after-wide : tie.After-wide = search in
+    let size : tie.After-entry-bytes = search in
+    let start : tie.Start = search in (
+      enters-none _ _ _ _ _ (number-of _ _ (after-wide .wide .ensures)) _ (read .read-field .ensures) _ _ _ refl (next-of _ _ _ (size .entry-bytes .ensures)) (c .before .match .keys2)
           (c .refusal .ensures),
-      size .before .before .before .before .before .before .before .before .before .pre .1,
+      start .pre .1,
     )
 
 enter-held-requires : tie.Need-enter-held-requires
 enter-held-requires c κs =
-    let entry = c .before .before .before .before .before .before .before .before .before in
-    let read = entry .before .before in
-    let start = read .before .before .before .before .before .before .before .before .before .before .before .before in (
+    let entry : tie.After-read = search in
+    let read : tie.After-read-field = search in
+    let start : tie.Start = search in (
       record { held = start .pre .0 .held; fits = read-fits _ _ (start .args .journal .now) (start .args .start) _ (read .read-field .ensures) _ (entry .read .given .1) },
       start .pre .1,
     )
@@ -88,12 +98,13 @@ same-length-7 c = search needs
 
 returns-2 : tie.Need-returns-2
 returns-2 c =
-    let made = c .before .before .before .before .before .before .before .before .before .before .before .before .before .before .before .before .before in
-    let entry = made .before .before .before .before .before .before .before .before .before .before in
-    let read = entry .before .before in
-    let size = read .before .before .before in
+    let made : tie.After-enter-held = search in
+    let entry : tie.After-read = search in
+    let read : tie.After-read-field = search in
+    let after-wide : tie.After-wide = search in
+    let size : tie.After-entry-bytes = search in
     let done = made .enter-held .ensures in (
-      enters-one _ _ _ _ _ (number-of _ _ (read .before .before .wide .ensures)) _ (read .read-field .ensures) _ _ _ refl (next-of _ _ _ (size .entry-bytes .ensures)) _ (entry .read .given .1)
+      enters-one _ _ _ _ _ (number-of _ _ (after-wide .wide .ensures)) _ (read .read-field .ensures) _ _ _ refl (next-of _ _ _ (size .entry-bytes .ensures)) _ (entry .read .given .1)
           _ _ (done .0) refl (c .begun-by .ensures),
       (done .1 .0, λ f. done .1 .1 (sym (c .begun-by .ensures) ∙ f)),
     )

@@ -47,10 +47,14 @@ abbrev μ-loop : tie.MeasureT-loop
     length journal - last .next
 
 sub-is-numbered : tie.Need-sub-is-numbered Inv-loop μ-loop
-sub-is-numbered c = let start = c .before .before .before .before .before .before .before .before in start .pre .inside
+sub-is-numbered c =
+    let start : tie.Start Inv-loop μ-loop = search in
+    start .pre .inside
 
 part-is-numbered-start : tie.Need-part-is-numbered-start Inv-loop μ-loop
-part-is-numbered-start c = let start = c .before .before .before .before .before .before .before .before in start .pre .inside
+part-is-numbered-start c =
+    let start : tie.Start Inv-loop μ-loop = search in
+    start .pre .inside
 
 part-is-numbered-end : tie.Need-part-is-numbered-end Inv-loop μ-loop
 part-is-numbered-end c = search needs
@@ -66,9 +70,11 @@ reset-requires c κs = search needs
 
 loop-holds : tie.Need-loop-holds Inv-loop μ-loop
 loop-holds c =
-    let p = c .before .before .before .before .before .before .before .before .before .before .before .before .before .pre in
+    let after-is-numbered : tie.After-is-numbered Inv-loop μ-loop = search in
+    let start : tie.Start Inv-loop μ-loop = search in
+    let p = start .pre in
     let h = p .held in (
-      λ G h f. ahead-start _ _ _ G _ h f (c .before .before .before .is-numbered .ensures) _ refl refl refl refl,
+      λ G h f. ahead-start _ _ _ G _ h f (after-is-numbered .is-numbered .ensures) _ refl refl refl refl,
       same _,
       p .inside,
       p .later,
@@ -78,23 +84,29 @@ loop-holds c =
     )
 
 sub-if2 : tie.Need-sub-if2 Inv-loop μ-loop
-sub-if2 c = c .before .before .before .loop .inv .2
+sub-if2 c =
+    let at-loop : tie.At-loop Inv-loop μ-loop = search in
+    at-loop .loop .inv .2
 
 add-enter-field : tie.Need-add-enter-field Inv-loop μ-loop
 add-enter-field c =
-    let at = c .before .before .before .before .before in
-    let p = at .before .before .before .before .before .before .before .before .before .before .before .before .before .before .pre in
+    let at : tie.At-loop Inv-loop μ-loop = search in
+    let start : tie.Start Inv-loop μ-loop = search in
+    let p = start .pre in
     omega (arith, at .loop .inv .3, at .loop .inv .2, p .few)
 
 enter-field-requires : tie.Need-enter-field-requires Inv-loop μ-loop
 enter-field-requires c κs =
-    let test = c .before .before .before .before .before .before .before .before .before in
-    let at = test .before .before .before .before in
-    let start = at .before .before .before .before .before .before .before .before .before .before .before .before .before .before in
+    let test : tie.Then2 Inv-loop μ-loop = search in
+    let then1 : tie.Then1 Inv-loop μ-loop = search in
+    let at : tie.At-loop Inv-loop μ-loop = search in
+    let after-entry-bytes : tie.After-entry-bytes Inv-loop μ-loop = search in
+    let after-slice-known5 : tie.After-slice-known5 Inv-loop μ-loop = search in
+    let start : tie.Start Inv-loop μ-loop = search in
     let h = start .pre .held in (
       record {
-        held = ahead-holds _ _ _ (h .0) _ _ _ (at .loop .inv .0 (h .0) (h .1) (h .2)) (test .before .before .if1 .taken);
-        inside = fits (start .args .journal .now) (at .loop .last .next) _ _ (at .before .before .before .entry-bytes .ensures) (omega arith) (leb-true _ _ (test .if2 .taken));
+        held = ahead-holds _ _ _ (h .0) _ _ _ (at .loop .inv .0 (h .0) (h .1) (h .2)) (then1 .if1 .taken);
+        inside = fits (start .args .journal .now) (at .loop .last .next) _ _ (after-entry-bytes .entry-bytes .ensures) (omega arith) (leb-true _ _ (test .if2 .taken));
         later = omega (arith, at .loop .inv .4);
       },
       (at .loop .inv .5, at .loop .inv .6),
@@ -102,33 +114,38 @@ enter-field-requires c κs =
 
 loop-less : tie.Need-loop-less Inv-loop μ-loop
 loop-less c =
-    let done = c .before .before .before .before .before .before .before .before .before .before .before .before .before .before in
-    let test = done .before .before .before .before .before .before .before .before .before .before in
-    let at = test .before .before .before .before in
-    let start = at .before .before .before .before .before .before .before .before .before .before .before .before .before .before in
-    falls (start .args .journal .now) (at .loop .last .next) _ _ (at .before .before .before .entry-bytes .ensures) (omega arith) (leb-true _ _ (test .if2 .taken)) _
+    let done : tie.After-enter-field Inv-loop μ-loop = search in
+    let test : tie.Then2 Inv-loop μ-loop = search in
+    let at : tie.At-loop Inv-loop μ-loop = search in
+    let after-entry-bytes : tie.After-entry-bytes Inv-loop μ-loop = search in
+    let after-slice-known5 : tie.After-slice-known5 Inv-loop μ-loop = search in
+    let start : tie.Start Inv-loop μ-loop = search in
+    falls (start .args .journal .now) (at .loop .last .next) _ _ (after-entry-bytes .entry-bytes .ensures) (omega arith) (leb-true _ _ (test .if2 .taken)) _
     (done .enter-field .ensures .0 .next)
 
 loop-again : tie.Need-loop-again Inv-loop μ-loop
 loop-again c =
-    let done = c .before .before .before .before .before .before .before .before .before .before .before .before .before .before in
-    let test = done .before .before .before .before .before .before .before .before .before .before in
-    let at = test .before .before .before .before in
+    let done : tie.After-enter-field Inv-loop μ-loop = search in
+    let test : tie.Then2 Inv-loop μ-loop = search in
+    let then1 : tie.Then1 Inv-loop μ-loop = search in
+    let at : tie.At-loop Inv-loop μ-loop = search in
+    let after-entry-bytes : tie.After-entry-bytes Inv-loop μ-loop = search in
+    let after-slice-known5 : tie.After-slice-known5 Inv-loop μ-loop = search in
+    let start : tie.Start Inv-loop μ-loop = search in
     let i = at .loop .inv in
     let f = done .enter-field in
     let k = f .kept .1 .1 .1 .1 in
-    let size = at .before .before .before .entry-bytes .ensures in
+    let size = after-entry-bytes .entry-bytes .ensures in
     let l = leb-true _ _ (test .if2 .taken) in
-    let start = at .before .before .before .before .before .before .before .before .before .before .before .before .before .before in
     let h = start .pre .held in
     let inside = fits (start .args .journal .now) (at .loop .last .next) _ _ size (omega arith) l in (
-      λ G h r. ahead-turn _ _ _ G _ _ _ (i .0 G h r) (test .before .before .if1 .taken) (rw size at l) _ _ (f .ensures .0),
+      λ G h r. ahead-turn _ _ _ G _ _ _ (i .0 G h r) (then1 .if1 .taken) (rw size at l) _ _ (f .ensures .0),
       then _ _ _ (i .1)
           (record { neighbours = k .0; degrees = k .1 .0; waves = k .1 .1 .0; counts = k .1 .1 .1 .0; ranks = k .1 .1 .1 .1 .0; trail = k .1 .1 .1 .1 .1 .0; moved = k .1 .1 .1 .1 .1 .1 .0 }),
       omega (arith, f .ensures .0 .next, inside),
       omega (arith, f .ensures .0 .next, f .ensures .0 .field, i .3),
       omega (arith, f .ensures .0 .field),
-      rw (ahead-banks _ _ _ (h .0) _ _ _ (i .0 (h .0) (h .1) (h .2)) (test .before .before .if1 .taken) _ _ (f .ensures .0)) (f .ensures .1 .0),
+      rw (ahead-banks _ _ _ (h .0) _ _ _ (i .0 (h .0) (h .1) (h .2)) (then1 .if1 .taken) _ _ (f .ensures .0)) (f .ensures .1 .0),
       f .ensures .1 .1,
     )
 
@@ -143,8 +160,8 @@ part-ended-end c = search needs
 
 ended-requires : tie.Need-ended-requires Inv-loop μ-loop
 ended-requires c κs =
-    let at = c .before .before .before .before in
-    let start = at .before .before .before .before .before .before .before .before .before .before .before .before .before .before in
+    let at : tie.At-loop Inv-loop μ-loop = search in
+    let start : tie.Start Inv-loop μ-loop = search in
     let i = at .loop .inv in
     (rest-few (start .args .journal .now) _ (start .pre .few) (i .2), omega (arith, i .3, i .2, start .pre .few))
 
@@ -171,11 +188,12 @@ same-length-7 c = search needs
 
 returns : tie.Need-returns Inv-loop μ-loop
 returns c =
-    let stop = c .before .before .before in
-    let at = stop .before .before in
+    let stop : tie.Joined1 Inv-loop μ-loop = search in
+    let at : tie.At-loop Inv-loop μ-loop = search in
+    let after-entry-bytes : tie.After-entry-bytes Inv-loop μ-loop = search in
     record {
       of = λ G h f. ahead-end _ _ _ G _ _ _ (at .loop .inv .0 G h f)
-          (λ z. stops _ _ _ (at .before .before .before .entry-bytes .ensures) (⊎-elim (λ w. leb-false _ _ (w .2 .left)) (λ w. absurd (w .left z)) (stop .if1 .came))) _ (c .ended .ensures);
+          (λ z. stops _ _ _ (after-entry-bytes .entry-bytes .ensures) (⊎-elim (λ w. leb-false _ _ (w .2 .left)) (λ w. absurd (w .left z)) (stop .if1 .came))) _ (c .ended .ensures);
     }
 
 pub enter-fields-spec : {M : Type 1} → statement M

@@ -15,13 +15,15 @@ refuse-requires c κs = search needs
 
 returns : tie.Need-returns
 returns c =
-    let test = c .before in
-    rw (c .refuse .ensures .0, c .refuse .ensures .1) (replay-refused _ _ _ (test .before .head-number .ensures) (test .if1 .taken))
+    let test : tie.Then1 = search in
+    let after-head-number : tie.After-head-number = search in
+    rw (c .refuse .ensures .0, c .refuse .ensures .1) (replay-refused _ _ _ (after-head-number .head-number .ensures) (test .if1 .taken))
 
 number-at-requires : tie.Need-number-at-requires
 number-at-requires c κs =
-    let head = c .before in
-    let first = size-first-field _ (head .before .before .before .before .before .before .before .before .before .args .journal .now) (sym (head .head-number .ensures) ∙ c .if1 .left) in
+    let head : tie.After-head-number = search in
+    let start : tie.Start = search in
+    let first = size-first-field _ (start .args .journal .now) (sym (head .head-number .ensures) ∙ c .if1 .left) in
     omega arith
 
 open-all-requires : tie.Need-open-all-requires
@@ -53,19 +55,24 @@ same-length-7 c = search needs
 
 returns-2 : tie.Need-returns-2
 returns-2 c =
-    let plan = c .before .before .before .before .before .before .before .before .before .before .before .before .before .before in
-    let test = plan .before .before .before .before .before .before .before .before .before in
+    let plan : tie.After-open-all = search in
+    let after-number-at : tie.After-number-at = search in
+    let test : tie.Else1 = search in
+    let after-head-number : tie.After-head-number = search in
     rw (c .refuse2 .ensures .0, c .refuse2 .ensures .1)
-    (open-refused _ _ (sym (test .before .head-number .ensures) ∙ test .if1 .left) _ (banks-read _ _ (plan .before .before .before .before .before .before .before .before .number-at .ensures)) _ _
+    (open-refused _ _ (sym (after-head-number .head-number .ensures) ∙ test .if1 .left) _ (banks-read _ _ (after-number-at .number-at .ensures)) _ _
     (plan .open-all .ensures) (c .before .if2 .taken))
 
 enter-fields-requires : tie.Need-enter-fields-requires
 enter-fields-requires c κs =
-    let fine = c .before .before .before .before .before .before .before in
-    let plan = fine .before .before .before .before .before .before .before .before .before .before .before .before .before in
-    let test = plan .before .before .before .before .before .before .before .before .before in
-    let bytes = test .before .before .before .before .before .before .before .before .before .before .args .journal .now in
-    let z = sym (test .before .head-number .ensures) ∙ test .if1 .left in
+    let fine : tie.Else2 = search in
+    let plan : tie.After-open-all = search in
+    let test : tie.Else1 = search in
+    let after-head-number : tie.After-head-number = search in
+    let after-slice-known4 : tie.After-slice-known4 = search in
+    let start : tie.Start = search in
+    let bytes = start .args .journal .now in
+    let z = sym (after-head-number .head-number .ensures) ∙ test .if1 .left in
     let s = plan .open-all .ensures .opened (fine .if2 .left) in
     record {
       held = (_, s .ready, begin-fresh _ _ (s .fresh));
@@ -76,21 +83,24 @@ enter-fields-requires c κs =
 
 same-length-8 : tie.Need-same-length-8
 same-length-8 c =
-    let enter = c .before .before .before .before .before .before .before .before .before .before .before .before .before .before in
-    let fine = enter .before .before .before .before .before .before .before .before in
-    enter .enter-fields .kept .1 .1 .0 ∙ fine .before .before .before .before .before .before .before .before .before .before .before .before .before .open-all .kept .0
+    let enter : tie.After-enter-fields = search in
+    let after-after : tie.After-after = search in
+    let after-open-all : tie.After-open-all = search in
+    enter .enter-fields .kept .1 .1 .0 ∙ after-open-all .open-all .kept .0
 
 same-length-9 : tie.Need-same-length-9
 same-length-9 c =
-    let enter = c .before .before .before .before .before .before .before .before .before .before .before .before .before .before in
-    let fine = enter .before .before .before .before .before .before .before .before in
-    enter .enter-fields .kept .1 .1 .1 .0 ∙ fine .before .before .before .before .before .before .before .before .before .before .before .before .before .open-all .kept .1 .0
+    let enter : tie.After-enter-fields = search in
+    let after-after : tie.After-after = search in
+    let after-open-all : tie.After-open-all = search in
+    enter .enter-fields .kept .1 .1 .1 .0 ∙ after-open-all .open-all .kept .1 .0
 
 same-length-10 : tie.Need-same-length-10
 same-length-10 c =
-    let enter = c .before .before .before .before .before .before .before .before .before .before .before .before .before .before in
-    let fine = enter .before .before .before .before .before .before .before .before in
-    enter .enter-fields .kept .1 .1 .1 .1 .0 ∙ fine .before .before .before .before .before .before .before .before .before .before .before .before .before .open-all .kept .1 .1 .0
+    let enter : tie.After-enter-fields = search in
+    let after-after : tie.After-after = search in
+    let after-open-all : tie.After-open-all = search in
+    enter .enter-fields .kept .1 .1 .1 .1 .0 ∙ after-open-all .open-all .kept .1 .1 .0
 
 same-length-11 : tie.Need-same-length-11
 same-length-11 c = search needs
@@ -106,11 +116,14 @@ same-length-14 c = search needs
 
 returns-3 : tie.Need-returns-3
 returns-3 c =
-    let enter = c .before .before .before .before .before .before .before .before .before .before .before .before .before .before in
-    let fine = enter .before .before .before .before .before .before .before .before in
-    let plan = fine .before .before .before .before .before .before .before .before .before .before .before .before .before in
-    let test = plan .before .before .before .before .before .before .before .before .before in
-    open-replayed _ _ (sym (test .before .head-number .ensures) ∙ test .if1 .left) _ (banks-read _ _ (plan .before .before .before .before .before .before .before .before .number-at .ensures)) _ _
+    let enter : tie.After-enter-fields = search in
+    let fine : tie.Else2 = search in
+    let after-counts : tie.After-counts = search in
+    let plan : tie.After-open-all = search in
+    let after-number-at : tie.After-number-at = search in
+    let test : tie.Else1 = search in
+    let after-head-number : tie.After-head-number = search in
+    open-replayed _ _ (sym (after-head-number .head-number .ensures) ∙ test .if1 .left) _ (banks-read _ _ (after-number-at .number-at .ensures)) _ _
     (plan .open-all .ensures) (fine .if2 .left) _ (enter .enter-fields .ensures .of)
 
 pub replay-core-spec : {M : Type 1} → statement M

@@ -11,8 +11,9 @@ enum-known-change c = search needs
 
 enter-held-requires : tie.Need-enter-held-requires
 enter-held-requires c κs =
-    let row = c .before .before .before .before .before .before .before .before .before in
-    let p = row .before .before .before .before .before .before .before .before .before .pre in
+    let row : tie.After-change = search in
+    let start : tie.Start = search in
+    let p = start .pre in
     (record { held = p .0 .held; fits = one-fits (row .change .given .1) (p .0 .fits) }, p .1)
 
 enum-known-change-2 : tie.Need-enum-known-change-2
@@ -20,7 +21,8 @@ enum-known-change-2 c = search needs
 
 strike-all-requires : tie.Need-strike-all-requires
 strike-all-requires c κs =
-    let p = c .before .before .before .before .before .before .before .before .before .before .before .before .before .before .before .before .before .before .pre in
+    let start : tie.Start = search in
+    let p = start .pre in
     let h = p .0 .held in
     ((h .0, h .1), p .1 .0)
 
@@ -47,8 +49,9 @@ same-length-7 c = search needs
 
 returns : tie.Need-returns
 returns c =
-    let made = c .before .before .before .before .before .before .before .before .before .before .before .before .before .before in
-    let is = made .before .before .before .before .before .before .before .before .before .before .change .given .1 in
+    let made : tie.After-enter-held = search in
+    let after-change : tie.After-change = search in
+    let is = after-change .change .given .1 in
     let done = made .enter-held .ensures in (
       record { of = λ G h f. rw is (change-one _ G _ h f _ _ _ (done .0 .of G h f)) },
       (done .1 .0, λ f. done .1 .1 (one-begun _ is f)),
@@ -77,8 +80,9 @@ same-length-14 c = search needs
 
 returns-2 : tie.Need-returns-2
 returns-2 c =
-    let made = c .before .before .before .before .before .before .before .before .before .before .before .before in
-    let is = made .before .before .before .before .before .before .before .before .before .before .change2 .given .1 in
+    let made : tie.After-strike-all = search in
+    let after-change2 : tie.After-change2 = search in
+    let is = after-change2 .change2 .given .1 in
     let done = made .strike-all .ensures in (
       record { of = λ G h f. rw is (done .0 _ .of G h f) },
       (done .1, λ f. absurd (all-begun _ is f)),

@@ -31,73 +31,82 @@ abbrev μ-loop : tie.MeasureT-loop
 
 returns : tie.Need-returns Inv-loop μ-loop
 returns c =
-    let at1 = c .before .before .before .before .before .before .before .before .before .before in
-    let far : at1 .args .tally .banks ≤ at1 .args .b .0 = omega (arith, c .if1 .taken) in
-    (λ begun. record { of = λ G h f. change-none begun G _ h f _ far }, at1 .pre .1)
+    let start : tie.Start Inv-loop μ-loop = search in
+    let far : start .args .tally .banks ≤ start .args .b .0 = omega (arith, c .if1 .taken) in
+    (λ begun. record { of = λ G h f. change-none begun G _ h f _ far }, start .pre .1)
 
 clashes-held-requires : tie.Need-clashes-held-requires Inv-loop μ-loop
 clashes-held-requires c κs =
-    let at1 = c .before .before .before .before in
-    let at2 = at1 .before .before .before .before .before .before .before .before .before .before in
-    let p = at2 .pre .0 in
-    ((p .0, p .1 .plan), at1 .if1 .left)
+    let else1 : tie.Else1 Inv-loop μ-loop = search in
+    let start : tie.Start Inv-loop μ-loop = search in
+    let p = start .pre .0 in
+    ((p .0, p .1 .plan), else1 .if1 .left)
 
 loop-holds : tie.Need-loop-holds Inv-loop μ-loop
 loop-holds c =
-    let near = c .before .before .before .before .before in (
+    let near : tie.Else1 Inv-loop μ-loop = search in
+    let start : tie.Start Inv-loop μ-loop = search in (
       λ G h. left-start G _ _ _ _ refl h (near .if1 .left) (ap length (c .clashes-held .ensures G (h .plan))),
       same _,
-      near .before .before .before .before .before .before .before .before .before .before .pre .1,
+      start .pre .1,
       refl,
     )
 
 clashes-held-requires-2 : tie.Need-clashes-held-requires-2 Inv-loop μ-loop
 clashes-held-requires-2 c κs =
-    let at1 = c .before .before .before .before .before .before in
-    let at2 = at1 .before .before .before .before .before .before .before .before .before .before .before .before .before .before .before .before in
-    let p = at2 .pre .0 in
-    let w = at1 .loop .inv .0 (p .0) (p .1) in
+    let at-loop : tie.At-loop Inv-loop μ-loop = search in
+    let else1 : tie.Else1 Inv-loop μ-loop = search in
+    let start : tie.Start Inv-loop μ-loop = search in
+    let p = start .pre .0 in
+    let w = at-loop .loop .inv .0 (p .0) (p .1) in
     ((w .graph, w .ready .plan), w .below)
 
 shared-slice-read-t38 : tie.Need-shared-slice-read-t38 Inv-loop μ-loop
 shared-slice-read-t38 c =
-    let at1 = c .before .before .before .before .before .before .before in
-    let at2 = at1 .before in
-    let at3 = at2 .before .before .before .before .before .before .before .before .before .before .before .before .before .before .before .before in
-    let p = at3 .pre .0 in
-    let w = at2 .loop .inv .0 (p .0) (p .1) in
-    left-some _ _ _ _ _ _ w (at1 .loop-test .taken) _ (c .before .clashes-held2 .ensures (w .graph) (w .ready .plan))
+    let in-loop : tie.In-loop Inv-loop μ-loop = search in
+    let at-loop : tie.At-loop Inv-loop μ-loop = search in
+    let else1 : tie.Else1 Inv-loop μ-loop = search in
+    let after-shared-slice-known : tie.After-shared-slice-known Inv-loop μ-loop = search in
+    let start : tie.Start Inv-loop μ-loop = search in
+    let p = start .pre .0 in
+    let w = at-loop .loop .inv .0 (p .0) (p .1) in
+    left-some _ _ _ _ _ _ w (in-loop .loop-test .taken) _ (c .before .clashes-held2 .ensures (w .graph) (w .ready .plan))
 
 edit-held-requires : tie.Need-edit-held-requires Inv-loop μ-loop
 edit-held-requires c κs =
-    let at1 = c .before .before .before .before .before .before .before .before .before .before .before .before .before .before .before in
-    let at2 = at1 .before .before .before .before .before .before .before .before .before .before .before .before .before .before .before .before in
-    let p = at2 .pre .0 in
-    let i = at1 .loop .inv in
+    let at-loop : tie.At-loop Inv-loop μ-loop = search in
+    let start : tie.Start Inv-loop μ-loop = search in
+    let p = start .pre .0 in
+    let i = at-loop .loop .inv in
     let w = i .0 (p .0) (p .1) in
     ((w .graph, w .ready), rw (i .3) (i .2))
 
 sub-left : tie.Need-sub-left Inv-loop μ-loop
 sub-left c =
-    let at1 = c .before .before .before .before .before .before .before .before .before .before .before .before .before .before in
-    at1 .before .before .before .before .before .before .before .before .before .before .before .before .before .loop-test .taken
+    let after-edit-held-arg7 : tie.After-edit-held-arg7 Inv-loop μ-loop = search in
+    let in-loop : tie.In-loop Inv-loop μ-loop = search in
+    in-loop .loop-test .taken
 
 loop-less : tie.Need-loop-less Inv-loop μ-loop
 loop-less c =
-    let at1 = c .before .before .before .before .before .before .before .before .before .before .before .before .before .before in
-    falls-down _ (at1 .before .before .before .before .before .before .before .before .before .before .before .before .before .loop-test .taken)
+    let after-edit-held-arg7 : tie.After-edit-held-arg7 Inv-loop μ-loop = search in
+    let in-loop : tie.In-loop Inv-loop μ-loop = search in
+    falls-down _ (in-loop .loop-test .taken)
 
 loop-again : tie.Need-loop-again Inv-loop μ-loop
 loop-again c =
-    let at1 = c .before .before .before .before .before .before .before .before .before .before .before .before in
-    let at2 = at1 .before .before .before .before .before .before .before .before .before in
-    let at3 = at2 .before .before .before .before .before .before in
-    let at4 = at3 .before in
-    let p = at4 .before .before .before .before .before .before .before .before .before .before .before .before .before .before .before .before .pre .0 in
-    let i = at4 .loop .inv in
-    let f = at1 .edit-held in
+    let after-edit-held : tie.After-edit-held Inv-loop μ-loop = search in
+    let rest : tie.After-clashes-held2 Inv-loop μ-loop = search in
+    let in-loop : tie.In-loop Inv-loop μ-loop = search in
+    let at-loop : tie.At-loop Inv-loop μ-loop = search in
+    let else1 : tie.Else1 Inv-loop μ-loop = search in
+    let after-shared-slice-known : tie.After-shared-slice-known Inv-loop μ-loop = search in
+    let start : tie.Start Inv-loop μ-loop = search in
+    let p = start .pre .0 in
+    let i = at-loop .loop .inv in
+    let f = after-edit-held .edit-held in
     let k = f .kept .1 in (
-      λ G h. let w = i .0 G h in left-turn G _ _ _ _ _ w (at3 .loop-test .taken) _ (at2 .clashes-held2 .ensures (w .graph) (w .ready .plan)) _ _ (f .ensures .0 (w .graph) (w .ready)),
+      λ G h. let w = i .0 G h in left-turn G _ _ _ _ _ w (in-loop .loop-test .taken) _ (rest .clashes-held2 .ensures (w .graph) (w .ready .plan)) _ _ (f .ensures .0 (w .graph) (w .ready)),
       then _ _ _ (i .1) (record { neighbours = k .0; degrees = k .1 .0; waves = k .1 .1 .0; counts = k .1 .1 .1 .0; ranks = refl; trail = k .1 .1 .1 .1 .1 .0; moved = k .1 .1 .1 .1 .1 .1 .0 }),
       rw (i .3) at (f .ensures .1),
       let w = i .0 (p .0) (p .1) in edit-banks (f .ensures .0 (w .graph) (w .ready)) (w .ready) ∙ i .3,
@@ -123,9 +132,10 @@ same-length-6 c = search needs
 
 returns-2 : tie.Need-returns-2 Inv-loop μ-loop
 returns-2 c =
+    let else1 : tie.Else1 Inv-loop μ-loop = search in
     let i = c .before .loop .inv in (
       λ begun. record {
-        of = λ G h f. let w = i .0 G h in change-all begun G _ h f _ _ _ (c .before .before .before .before .before .before .before .if1 .left) (w .number)
+        of = λ G h f. let w = i .0 G h in change-all begun G _ h f _ _ _ (else1 .if1 .left) (w .number)
             (left-end G _ _ _ _ _ w (c .loop-test .left));
       },
       i .2,

@@ -8,7 +8,9 @@ use Rattle.list_edits.proofs.rows.edit_row.Statement.{statement}
 use Rattle.list_edits.proofs.rows.edit_row.Tie as tie
 
 find-requires : tie.Need-find-requires
-find-requires c κs = omega (arith, c .before .before .before .before .before .before .before .before .pre .0 .inside)
+find-requires c κs =
+    let start : tie.Start = search in
+    omega (arith, start .pre .0 .inside)
 
 add-next : tie.Need-add-next
 add-next c = omega (arith, c .find .ensures .high)
@@ -33,17 +35,18 @@ not-taken-requires c κs = search needs
 
 returns : tie.Need-returns
 returns c =
-    let read = c .before .before in
-    let found = read .before .before in (
+    let read : tie.After-read-row-in = search in
+    let found : tie.After-find = search in
+    let start : tie.Start = search in (
       edits-none _ _ _ _ (found .find .ensures) _ _ _ _ refl refl _ (read .read-row-in .ensures) (c .before .match .keys2) (c .not-taken .ensures),
-      found .before .before .before .before .before .before .before .before .before .pre .1,
+      start .pre .1,
     )
 
 apply-requires : tie.Need-apply-requires
 apply-requires c κs =
-    let row = c .before .before .before .before .before .before .before .before .before in
-    let read = row .before .before in
-    let start = read .before .before .before .before .before .before .before .before .before .before .before in
+    let row : tie.After-read = search in
+    let read : tie.After-read-row-in = search in
+    let start : tie.Start = search in
     (record { held = start .pre .0 .held; fits = edit-fits _ _ _ (sym (row .read .given .1) ∙ read .read-row-in .ensures) }, start .pre .1)
 
 begun-after-requires : tie.Need-begun-after-requires
@@ -72,12 +75,12 @@ same-length-7 c = search needs
 
 returns-2 : tie.Need-returns-2
 returns-2 c =
-    let at1 = c .before .before .before .before .before .before .before .before .before .before .before .before .before .before .before .before .before in
-    let at2 = at1 .before .before .before .before .before .before .before .before .before .before in
-    let at3 = at2 .before .before in
-    let at4 = at3 .before .before in
-    let done = at1 .apply .ensures in (
-      edits-one _ _ _ _ (at4 .find .ensures) _ _ _ _ refl refl _ (sym (at2 .read .given .1) ∙ at3 .read-row-in .ensures) _ _ (done .0) refl (c .begun-after .ensures),
+    let after-apply : tie.After-apply = search in
+    let after-read : tie.After-read = search in
+    let after-read-row-in : tie.After-read-row-in = search in
+    let after-find : tie.After-find = search in
+    let done = after-apply .apply .ensures in (
+      edits-one _ _ _ _ (after-find .find .ensures) _ _ _ _ refl refl _ (sym (after-read .read .given .1) ∙ after-read-row-in .read-row-in .ensures) _ _ (done .0) refl (c .begun-after .ensures),
       (done .1 .0, λ f. done .1 .1 (sym (c .begun-after .ensures) ∙ f)),
     )
 

@@ -40,7 +40,8 @@ reset-requires c κs = search needs
 
 loop-holds : tie.Need-loop-holds Inv-loop μ-loop
 loop-holds c =
-    let p = c .before .before .before .before .before .before .before .before .before .before .pre in
+    let start : tie.Start Inv-loop μ-loop = search in
+    let p = start .pre in
     let ready = p .held .1 in
     let empty = c .reset .ensures in (
       λ G h f. ahead-start _ _ _ _ G _ h f _ refl refl refl refl,
@@ -53,39 +54,45 @@ loop-holds c =
 
 add-edit-row : tie.Need-add-edit-row Inv-loop μ-loop
 add-edit-row c =
-    let at1 = c .before .before .before .before .before in
-    let at2 = at1 .before .before .before .before .before .before .before .before .before .before .before in
-    let w = at1 .loop in
-    let l : w .last .next < length (at2 .args .list .now) = ltb-true _ _ (c .before .if2 .taken) in
-    omega (arith, at2 .pre .few, w .inv .3)
+    let at-loop : tie.At-loop Inv-loop μ-loop = search in
+    let start : tie.Start Inv-loop μ-loop = search in
+    let w = at-loop .loop in
+    let l : w .last .next < length (start .args .list .now) = ltb-true _ _ (c .before .if2 .taken) in
+    omega (arith, start .pre .few, w .inv .3)
 
 edit-row-requires : tie.Need-edit-row-requires Inv-loop μ-loop
 edit-row-requires c κs =
-    let at1 = c .before .before .before .before .before .before .before .before .before in
-    let at2 = at1 .before .before .before .before in
-    let p = at2 .before .before .before .before .before .before .before .before .before .before .before .pre in
-    let i = at2 .loop .inv in
+    let then2 : tie.Then2 Inv-loop μ-loop = search in
+    let then1 : tie.Then1 Inv-loop μ-loop = search in
+    let at-loop : tie.At-loop Inv-loop μ-loop = search in
+    let after-slice-known5 : tie.After-slice-known5 Inv-loop μ-loop = search in
+    let start : tie.Start Inv-loop μ-loop = search in
+    let p = start .pre in
+    let i = at-loop .loop .inv in
     let w = i .0 (p .held .0) (p .held .1) (p .held .2) in
-    (record { held = ahead-held _ _ _ _ _ _ _ _ w (at1 .before .before .if1 .taken); inside = ltb-true _ _ (at1 .if2 .taken) }, (i .4, i .5))
+    (record { held = ahead-held _ _ _ _ _ _ _ _ w (then1 .if1 .taken); inside = ltb-true _ _ (then2 .if2 .taken) }, (i .4, i .5))
 
 loop-less : tie.Need-loop-less Inv-loop μ-loop
 loop-less c =
-    let f = c .before .before .before .before .before .before .before .before .before .before .before .before .before .before .edit-row .ensures .0 in
+    let after-edit-row : tie.After-edit-row Inv-loop μ-loop = search in
+    let f = after-edit-row .edit-row .ensures .0 in
     omega (arith, f .on, f .within)
 
 loop-again : tie.Need-loop-again Inv-loop μ-loop
 loop-again c =
-    let at1 = c .before .before .before .before .before .before .before .before .before .before .before .before .before .before in
-    let at2 = at1 .before .before .before .before .before .before .before .before .before .before in
-    let at3 = at2 .before .before in
-    let at4 = at3 .before .before in
-    let p = at4 .before .before .before .before .before .before .before .before .before .before .before .pre in
-    let i = at4 .loop .inv in
-    let f = at1 .edit-row in
+    let after-edit-row : tie.After-edit-row Inv-loop μ-loop = search in
+    let then2 : tie.Then2 Inv-loop μ-loop = search in
+    let then1 : tie.Then1 Inv-loop μ-loop = search in
+    let at-loop : tie.At-loop Inv-loop μ-loop = search in
+    let after-slice-known5 : tie.After-slice-known5 Inv-loop μ-loop = search in
+    let start : tie.Start Inv-loop μ-loop = search in
+    let p = start .pre in
+    let i = at-loop .loop .inv in
+    let f = after-edit-row .edit-row in
     let done = f .ensures .0 in
-    let held = ahead-held _ _ _ _ _ _ _ _ (i .0 (p .held .0) (p .held .1) (p .held .2)) (at3 .if1 .taken) in
+    let held = ahead-held _ _ _ _ _ _ _ _ (i .0 (p .held .0) (p .held .1) (p .held .2)) (then1 .if1 .taken) in
     let k = f .kept .1 .1 .1 .1 in (
-      λ G h q. ahead-turn _ _ _ _ G _ _ _ (i .0 G h q) (at3 .if1 .taken) (ltb-true _ _ (at2 .if2 .taken)) _ _ done,
+      λ G h q. ahead-turn _ _ _ _ G _ _ _ (i .0 G h q) (then1 .if1 .taken) (ltb-true _ _ (then2 .if2 .taken)) _ _ done,
       then _ _ _ (i .1) (record {
         neighbours = k .0;
         degrees = k .1 .0;
@@ -127,9 +134,11 @@ same-length-7 c = search needs
 
 returns : tie.Need-returns Inv-loop μ-loop
 returns c =
+    let joined1 : tie.Joined1 Inv-loop μ-loop = search in
+    let at-loop : tie.At-loop Inv-loop μ-loop = search in
     record {
-      of = λ G h f. rw (c .ended .ensures) (ahead-end _ _ _ _ G _ _ _ (c .before .before .before .before .loop .inv .0 G h f)
-          (λ z. ⊎-elim (λ w. ltb-false _ _ (w .2 .left)) (λ w. absurd (w .left z)) (c .before .before .if1 .came)));
+      of = λ G h f. rw (c .ended .ensures) (ahead-end _ _ _ _ G _ _ _ (at-loop .loop .inv .0 G h f)
+          (λ z. ⊎-elim (λ w. ltb-false _ _ (w .2 .left)) (λ w. absurd (w .left z)) (joined1 .if1 .came)));
     }
 
 pub read-edits-spec : {M : Type 1} → statement M

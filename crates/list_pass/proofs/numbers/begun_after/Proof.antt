@@ -16,7 +16,9 @@ enum-told c = search needs
 
 returns : tie.Need-returns
 unfolding changeBegun
-returns c = rw (c .before .before .change .given .1) (c .begun-by .ensures)
+returns c =
+    let after-change : tie.After-change = search in
+    rw (after-change .change .given .1) (c .begun-by .ensures)
 
 returns-2 : tie.Need-returns-2
 unfolding changeBegun

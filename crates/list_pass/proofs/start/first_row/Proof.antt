@@ -24,21 +24,24 @@ is-v2-requires c κs = search needs
 
 returns : tie.Need-returns
 returns c =
-    let test = c .before in
-    starts-plain _ _ (test .before .before .find .ensures) (sym (not-true _ (c .if1 .taken)) ∙ test .is-v2 .ensures)
+    let test : tie.After-is-v2 = search in
+    let after-find : tie.After-find = search in
+    starts-plain _ _ (after-find .find .ensures) (sym (not-true _ (c .if1 .taken)) ∙ test .is-v2 .ensures)
 
 returns-2 : tie.Need-returns-2
 returns-2 c =
-    let test = c .before .before in
-    starts-alone _ _ (test .before .before .find .ensures) (sym (not-false _ (c .before .if1 .left)) ∙ test .is-v2 .ensures) (c .if2 .taken)
+    let test : tie.After-is-v2 = search in
+    let after-find : tie.After-find = search in
+    starts-alone _ _ (after-find .find .ensures) (sym (not-false _ (c .before .if1 .left)) ∙ test .is-v2 .ensures) (c .if2 .taken)
 
 add-start : tie.Need-add-start
 add-start c = search needs
 
 returns-3 : tie.Need-returns-3
 returns-3 c =
-    let test = c .before .before in
-    starts-v2 _ _ (test .before .before .find .ensures) (sym (not-false _ (c .before .if1 .left)) ∙ test .is-v2 .ensures) _ (omega arith) (omega (arith, c .if2 .left)) refl
+    let test : tie.After-is-v2 = search in
+    let after-find : tie.After-find = search in
+    starts-v2 _ _ (after-find .find .ensures) (sym (not-false _ (c .before .if1 .left)) ∙ test .is-v2 .ensures) _ (omega arith) (omega (arith, c .if2 .left)) refl
 
 pub first-row-spec : {M : Type 1} → statement M
 first-row-spec =

@@ -36,11 +36,12 @@ same-length c = search needs
 
 returns : tie.Need-returns
 returns c =
-    let at1 = c .before .before .before .before in
-    let at2 = at1 .before .before .before .before .before .before .before .before .before .before in
-    let p = c .before .before .put-refusal .ensures in (
-      answer-refused _ _ _ _ (at2 .read-list-core .ensures)
-          (at1 .if1 .taken) _ _ (p .0),
+    let after-put-refusal : tie.After-put-refusal = search in
+    let then1 : tie.Then1 = search in
+    let after-read-list-core : tie.After-read-list-core = search in
+    let p = after-put-refusal .put-refusal .ensures in (
+      answer-refused _ _ _ _ (after-read-list-core .read-list-core .ensures)
+          (then1 .if1 .taken) _ _ (p .0),
       p .1,
     )
 
@@ -67,11 +68,12 @@ same-length-2 c = search needs
 
 returns-2 : tie.Need-returns-2
 returns-2 c =
-    let at1 = c .before .before .before .before .before .before .before .before .before .before in
-    let at2 = at1 .before .before .before .before .before .before .before .before .before .before in
-    let read = at2 .read-list-core .ensures in
-    let w = c .before .before .write-text .ensures in
-    (answer-text _ _ _ _ read (at1 .if1 .left) _ w, text-within _ _ _ _ read _ w)
+    let after-write-text : tie.After-write-text = search in
+    let else1 : tie.Else1 = search in
+    let after-read-list-core : tie.After-read-list-core = search in
+    let read = after-read-list-core .read-list-core .ensures in
+    let w = after-write-text .write-text .ensures in
+    (answer-text _ _ _ _ read (else1 .if1 .left) _ w, text-within _ _ _ _ read _ w)
 
 pub answer-list-spec : {M : Type 1} → statement M
 answer-list-spec =

@@ -16,16 +16,19 @@ slice-aggregate-put-named c = search needs
 
 put-named-requires-2 : tie.Need-put-named-requires-2
 put-named-requires-2 c κs =
-    let start = c .before .before .before .before .before .before .before .before in
-    let p = c .before .before .before .before .put-named in
+    let after-put-named : tie.After-put-named = search in
+    let start : tie.Start = search in
+    let p = after-put-named .put-named in
     omega (arith, length-named (start .args .word .now) (start .args .x) (omega (arith, start .fits .x)), start .pre, p .ensures .next, p .kept .0)
 
 put-byte-requires : tie.Need-put-byte-requires
 put-byte-requires c κs =
-    let start = c .before .before .before .before .before .before .before .before .before .before .before .before in
+    let after-put-named2 : tie.After-put-named2 = search in
+    let after-put-named : tie.After-put-named = search in
+    let start : tie.Start = search in
     let a = start .args in
-    let p = c .before .before .before .before .before .before .before .before .put-named in
-    let q = c .before .before .before .put-named2 in
+    let p = after-put-named .put-named in
+    let q = after-put-named2 .put-named2 in
     let name = length-named (a .word .now) (a .x) (omega (arith, start .fits .x)) in
     let number = length-named (32 ∷ 82 ∷ 69 ∷ 70 ∷ 85 ∷ 83 ∷ 69 ∷ 68 ∷ 32 ∷ []) (a .number) (omega (arith, start .fits .number)) in
     omega (arith, start .pre, p .ensures .next, p .kept .0, q .ensures .next, q .kept .0)
@@ -36,14 +39,17 @@ same-length c = search needs
 returns : tie.Need-returns
 unfolding refusedText
 returns c =
-    let start = c .before .before .before .before .before .before .before .before .before .before .before .before .before .before .before in
+    let after-put-byte : tie.After-put-byte = search in
+    let after-put-named2 : tie.After-put-named2 = search in
+    let after-put-named : tie.After-put-named = search in
+    let start : tie.Start = search in
     let a = start .args in
     let room = start .pre in
     let name = length-named (a .word .now) (a .x) (omega (arith, start .fits .x)) in
     let number = length-named (32 ∷ 82 ∷ 69 ∷ 70 ∷ 85 ∷ 83 ∷ 69 ∷ 68 ∷ 32 ∷ []) (a .number) (omega (arith, start .fits .number)) in
-    let p = c .before .before .before .before .before .before .before .before .before .before .before .put-named in
-    let q = c .before .before .before .before .before .before .put-named2 in
-    let last = c .before .before .put-byte in
+    let p = after-put-named .put-named in
+    let q = after-put-named2 .put-named2 in
+    let last = after-put-byte .put-byte in
     let all =
     puts-three (named (a .word .now) (a .x)) (named (32 ∷ 82 ∷ 69 ∷ 70 ∷ 85 ∷ 83 ∷ 69 ∷ 68 ∷ 32 ∷ []) (a .number)) (10 ∷ [])
     (a .at) (a .out .now) (omega arith) _ _ _ _ _ _

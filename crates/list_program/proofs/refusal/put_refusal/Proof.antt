@@ -14,10 +14,10 @@ put-text-requires c κs = search needs
 
 put-number-requires : tie.Need-put-number-requires
 put-number-requires c κs =
-    let at1 = c .before .before .before in
-    let at2 = at1 .before .before .before .before in
-    let p = at1 .put-text in
-    let start = at2 in
+    let after-put-text : tie.After-put-text = search in
+    let at-start : tie.Start = search in
+    let p = after-put-text .put-text in
+    let start = at-start in
     let number = start .fits .number in
     omega (arith, few-digits 4 (start .args .number) (omega arith), start .pre, p .ensures .next, p .kept .0)
 
@@ -26,25 +26,25 @@ slice-aggregate-put-text-2 c = search needs
 
 put-text-requires-2 : tie.Need-put-text-requires-2
 put-text-requires-2 c κs =
-    let at1 = c .before .before .before .before in
-    let at2 = at1 .before .before .before .before in
-    let at3 = at2 .before .before .before .before in
-    let q = at1 .put-number in
-    let p = at2 .put-text in
-    let start = at3 in
+    let after-put-number : tie.After-put-number = search in
+    let after-put-text : tie.After-put-text = search in
+    let at-start : tie.Start = search in
+    let q = after-put-number .put-number in
+    let p = after-put-text .put-text in
+    let start = at-start in
     let number = start .fits .number in
     omega (arith, few-digits 4 (start .args .number) (omega arith), start .pre, p .ensures .next, p .kept .0, q .ensures .next, q .kept .0)
 
 put-number-requires-2 : tie.Need-put-number-requires-2
 put-number-requires-2 c κs =
-    let at1 = c .before .before .before in
-    let at2 = at1 .before .before .before .before .before in
-    let at3 = at2 .before .before .before .before in
-    let at4 = at3 .before .before .before .before in
-    let s = at1 .put-text2 in
-    let q = at2 .put-number in
-    let p = at3 .put-text in
-    let start = at4 in
+    let after-put-text2 : tie.After-put-text2 = search in
+    let after-put-number : tie.After-put-number = search in
+    let after-put-text : tie.After-put-text = search in
+    let at-start : tie.Start = search in
+    let s = after-put-text2 .put-text2 in
+    let q = after-put-number .put-number in
+    let p = after-put-text .put-text in
+    let start = at-start in
     let number = start .fits .number in
     let row = start .fits .row in
     let few = few-digits 4 (start .args .number) (omega arith) in
@@ -53,16 +53,16 @@ put-number-requires-2 c κs =
 
 put-byte-requires : tie.Need-put-byte-requires
 put-byte-requires c κs =
-    let at1 = c .before .before .before in
-    let at2 = at1 .before .before .before .before in
-    let at3 = at2 .before .before .before .before .before in
-    let at4 = at3 .before .before .before .before in
-    let at5 = at4 .before .before .before .before in
-    let t = at1 .put-number2 in
-    let s = at2 .put-text2 in
-    let q = at3 .put-number in
-    let p = at4 .put-text in
-    let start = at5 in
+    let after-put-number2 : tie.After-put-number2 = search in
+    let after-put-text2 : tie.After-put-text2 = search in
+    let after-put-number : tie.After-put-number = search in
+    let after-put-text : tie.After-put-text = search in
+    let at-start : tie.Start = search in
+    let t = after-put-number2 .put-number2 in
+    let s = after-put-text2 .put-text2 in
+    let q = after-put-number .put-number in
+    let p = after-put-text .put-text in
+    let start = at-start in
     let number = start .fits .number in
     let row = start .fits .row in
     let few = few-digits 4 (start .args .number) (omega arith) in
@@ -74,17 +74,18 @@ same-length c = search needs
 
 returns : tie.Need-returns
 returns c =
-    let at1 = c .before .before .before .before .before .before in
-    let at2 = at1 .before .before .before .before in
-    let at3 = at2 .before .before .before .before .before in
-    let at4 = at3 .before .before .before .before in
-    let at5 = at4 .before .before .before in
-    let u = c .before .before .put-byte in
-    let t = at1 .put-number2 in
-    let s = at2 .put-text2 in
-    let q = at3 .put-number in
-    let p = at4 .put-text in
-    let start = at5
+    let after-put-byte : tie.After-put-byte = search in
+    let after-put-number2 : tie.After-put-number2 = search in
+    let after-put-text2 : tie.After-put-text2 = search in
+    let after-put-number : tie.After-put-number = search in
+    let after-put-text : tie.After-put-text = search in
+    let after-slice-known : tie.After-slice-known = search in
+    let u = after-put-byte .put-byte in
+    let t = after-put-number2 .put-number2 in
+    let s = after-put-text2 .put-text2 in
+    let q = after-put-number .put-number in
+    let p = after-put-text .put-text in
+    let start = after-slice-known
     .before in
     let a = start .args in
     let number = start .fits .number in

@@ -21,14 +21,20 @@ same-length c = search needs
 
 returns : tie.Need-returns
 unfolding textOf
-returns c = let made = c .before .before in rw (made .before .before .enum-told .given .1) (made .write-sheet .ensures)
+returns c =
+    let made : tie.After-write-sheet = search in
+    let after-enum-told : tie.After-enum-told = search in
+    rw (after-enum-told .enum-told .given .1) (made .write-sheet .ensures)
 
 same-length-2 : tie.Need-same-length-2
 same-length-2 c = search needs
 
 returns-2 : tie.Need-returns-2
 unfolding textOf
-returns-2 c = let made = c .before .before in rw (made .before .before .enum-told2 .given .1) (made .write-poster .ensures)
+returns-2 c =
+    let made : tie.After-write-poster = search in
+    let after-enum-told2 : tie.After-enum-told2 = search in
+    rw (after-enum-told2 .enum-told2 .given .1) (made .write-poster .ensures)
 
 pub write-text-spec : {M : Type 1} → statement M
 write-text-spec =

@@ -31,43 +31,52 @@ same-length-7 : tie.Need-same-length-7
 same-length-7 c = search needs
 
 returns : tie.Need-returns
-returns c = record { is = begin-refused _ _ _ _ _ _ (c .before .before .before .before .before .before .before .before .before .before .before .before .before .open-all .ensures) (c .if1 .taken) }
+returns c =
+    let after-open-all : tie.After-open-all = search in
+    record { is = begin-refused _ _ _ _ _ _ (after-open-all .open-all .ensures) (c .if1 .taken) }
 
 read-edits-requires : tie.Need-read-edits-requires
 read-edits-requires c κs =
-    let test = c .before .before .before .before .before .before .before in
-    let opened = test .before .before .before .before .before .before .before .before .before .before .before .before .before in
-    let p = opened .before .before .before .before .before .before .before .before .before .before .before .before .before .before .before .before .pre in
+    let test : tie.Else1 = search in
+    let opened : tie.After-open-all = search in
+    let after-open-all-arg : tie.After-open-all-arg = search in
+    let start : tie.Start = search in
+    let p = start .pre in
     record { held = opened-state 0 _ [] _ _ _ (opened .open-all .ensures) (test .if1 .left); few = p .few; later = p .later; inside = p .inside }
 
 same-length-8 : tie.Need-same-length-8
 same-length-8 c =
-    let read = c .before .before .before .before .before .before .before .before .before .before .before .before .before .before in
-    let opened = read .before .before .before .before .before .before .before .before .before .before .before .before .before .before .before .before .before .before .before .before .before in
+    let read : tie.After-read-edits = search in
+    let after-after : tie.After-after = search in
+    let opened : tie.After-open-all = search in
     read .read-edits .kept .1 .1 .1 .1 .0 ∙ opened .open-all .kept .0
 
 same-length-9 : tie.Need-same-length-9
 same-length-9 c =
-    let read = c .before .before .before .before .before .before .before .before .before .before .before .before .before .before in
-    let opened = read .before .before .before .before .before .before .before .before .before .before .before .before .before .before .before .before .before .before .before .before .before in
+    let read : tie.After-read-edits = search in
+    let after-after : tie.After-after = search in
+    let opened : tie.After-open-all = search in
     read .read-edits .kept .1 .1 .1 .1 .1 .0 ∙ opened .open-all .kept .1 .0
 
 same-length-10 : tie.Need-same-length-10
 same-length-10 c =
-    let read = c .before .before .before .before .before .before .before .before .before .before .before .before .before .before in
-    let opened = read .before .before .before .before .before .before .before .before .before .before .before .before .before .before .before .before .before .before .before .before .before in
+    let read : tie.After-read-edits = search in
+    let after-after : tie.After-after = search in
+    let opened : tie.After-open-all = search in
     read .read-edits .kept .1 .1 .1 .1 .1 .1 .0 ∙ opened .open-all .kept .1 .1 .0
 
 same-length-11 : tie.Need-same-length-11
 same-length-11 c =
-    let read = c .before .before .before .before .before .before .before .before .before .before .before .before .before .before in
-    let opened = read .before .before .before .before .before .before .before .before .before .before .before .before .before .before .before .before .before .before .before .before .before in
+    let read : tie.After-read-edits = search in
+    let after-after : tie.After-after = search in
+    let opened : tie.After-open-all = search in
     read .read-edits .kept .1 .1 .1 .1 .1 .1 .1 .0 ∙ opened .open-all .kept .1 .1 .1 .0
 
 same-length-12 : tie.Need-same-length-12
 same-length-12 c =
-    let read = c .before .before .before .before .before .before .before .before .before .before .before .before .before .before in
-    let opened = read .before .before .before .before .before .before .before .before .before .before .before .before .before .before .before .before .before .before .before .before .before in
+    let read : tie.After-read-edits = search in
+    let after-after : tie.After-after = search in
+    let opened : tie.After-open-all = search in
     read .read-edits .kept .1 .1 .1 .1 .1 .1 .1 .1 .0 ∙ opened .open-all .kept .1 .1 .1 .1 .0
 
 same-length-13 : tie.Need-same-length-13
@@ -78,10 +87,11 @@ same-length-14 c = search needs
 
 returns-2 : tie.Need-returns-2
 returns-2 c =
-    let at1 = c .before .before .before .before .before .before .before .before .before .before .before .before .before .before in
-    let at2 = at1 .before .before .before .before .before .before .before .before in
-    let at3 = at2 .before .before .before .before .before .before .before .before .before .before .before .before .before in
-    record { is = begin-passed _ _ _ _ _ _ (at3 .open-all .ensures) (at2 .if1 .left) _ (at1 .read-edits .ensures .of) }
+    let after-read-edits : tie.After-read-edits = search in
+    let else1 : tie.Else1 = search in
+    let after-counts : tie.After-counts = search in
+    let after-open-all : tie.After-open-all = search in
+    record { is = begin-passed _ _ _ _ _ _ (after-open-all .open-all .ensures) (else1 .if1 .left) _ (after-read-edits .read-edits .ensures .of) }
 
 pub begin-spec : {M : Type 1} → statement M
 begin-spec =

@@ -32,20 +32,24 @@ enum-known-banks c = search needs
 
 returns-2 : tie.Need-returns-2
 returns-2 c =
-    let at1 = c .before .before .before in
-    let first = at1 .before in
-    first-other _ _ _ _ _ _ (at1 .find .ensures) _ (c .before .read-row-in .ensures) (c .match .keys2)
-    ∙ sym (found _ _ _ (first .first-row .ensures) (first .before .if1 .left))
+    let after-find : tie.After-find = search in
+    let first : tie.After-first-row = search in
+    let else1 : tie.Else1 = search in
+    first-other _ _ _ _ _ _ (after-find .find .ensures) _ (c .before .read-row-in .ensures) (c .match .keys2)
+    ∙ sym (found _ _ _ (first .first-row .ensures) (else1 .if1 .left))
 
 add-next : tie.Need-add-next
-add-next c = omega (arith, c .before .before .before .before .before .find .ensures .high)
+add-next c =
+    let after-find : tie.After-find = search in
+    omega (arith, after-find .find .ensures .high)
 
 begin-requires : tie.Need-begin-requires
 begin-requires c κs =
-    let at1 = c .before .before .before .before .before .before .before .before .before .before .before .before in
-    let first = at1 .before in
-    let e = at1 .find .ensures in
-    record { few = first .before .if1 .left; later = omega (arith, e .low, first .first-row .ensures .later); inside = omega (arith, e .high) }
+    let after-find : tie.After-find = search in
+    let first : tie.After-first-row = search in
+    let else1 : tie.Else1 = search in
+    let e = after-find .find .ensures in
+    record { few = else1 .if1 .left; later = omega (arith, e .low, first .first-row .ensures .later); inside = omega (arith, e .high) }
 
 same-length : tie.Need-same-length
 same-length c = search needs
@@ -70,14 +74,15 @@ same-length-7 c = search needs
 
 returns-3 : tie.Need-returns-3
 returns-3 c =
-    let at1 = c .before .before .before .before .before .before .before .before .before .before .before .before .before .before in
-    let at2 = at1 .before .before .before .before .before .before .before .before .before in
-    let at3 = at2 .before .before in
-    let at4 = at3 .before .before in
-    let first = at4 .before in
-    at1 .begin .ensures .is
-    ∙ first-banks _ _ _ _ _ _ (at4 .find .ensures) _ (sym (at2 .banks .given .1) ∙ at3 .read-row-in .ensures)
-    ∙ sym (found _ _ _ (first .first-row .ensures) (first .before .if1 .left))
+    let after-begin : tie.After-begin = search in
+    let after-banks : tie.After-banks = search in
+    let after-read-row-in : tie.After-read-row-in = search in
+    let after-find : tie.After-find = search in
+    let first : tie.After-first-row = search in
+    let else1 : tie.Else1 = search in
+    after-begin .begin .ensures .is
+    ∙ first-banks _ _ _ _ _ _ (after-find .find .ensures) _ (sym (after-banks .banks .given .1) ∙ after-read-row-in .read-row-in .ensures)
+    ∙ sym (found _ _ _ (first .first-row .ensures) (else1 .if1 .left))
 
 pub read-list-core-spec : {M : Type 1} → statement M
 read-list-core-spec =

@@ -12,15 +12,18 @@ shared-slice-read-if2 : tie.Need-shared-slice-read-if2
 shared-slice-read-if2 c = search needs
 
 returns-2 : tie.Need-returns-2
-returns-2 c = v2-letter _ (omega (arith, c .before .before .if1 .left)) (c .if2 .taken)
+returns-2 c =
+    let else1 : tie.Else1 = search in
+    v2-letter _ (omega (arith, else1 .if1 .left)) (c .if2 .taken)
 
 shared-slice-read-if3 : tie.Need-shared-slice-read-if3
 shared-slice-read-if3 c = search needs
 
 returns-3 : tie.Need-returns-3
 returns-3 c =
-    let letter = c .before .before in
-    v2-space _ (omega (arith, letter .before .before .if1 .left)) (letter .if2 .left) (c .if3 .taken)
+    let letter : tie.Else2 = search in
+    let else1 : tie.Else1 = search in
+    v2-space _ (omega (arith, else1 .if1 .left)) (letter .if2 .left) (c .if3 .taken)
 
 sub-last : tie.Need-sub-last
 sub-last c = search needs
@@ -30,9 +33,10 @@ shared-slice-read-result c = search needs
 
 returns-4 : tie.Need-returns-4
 returns-4 c =
-    let space = c .before in
-    let letter = space .before .before in
-    v2-digit _ (omega (arith, letter .before .before .if1 .left)) (letter .if2 .left) (space .if3 .left)
+    let space : tie.Else3 = search in
+    let letter : tie.Else2 = search in
+    let else1 : tie.Else1 = search in
+    v2-digit _ (omega (arith, else1 .if1 .left)) (letter .if2 .left) (space .if3 .left)
 
 pub is-v2-spec : {M : Type 1} → statement M
 is-v2-spec =

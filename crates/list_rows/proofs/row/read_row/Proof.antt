@@ -41,11 +41,11 @@ read-two-parts-requires c κs = search needs
 
 returns-2 : tie.Need-returns-2
 returns-2 c =
-    let at1 = c .before .before .before in
-    let at2 = at1 .before in
-    let p = at2 in
+    let then2 : tie.Then2 = search in
+    let after-find2 : tie.After-find2 = search in
+    let p = after-find2 in
     let q = p .before .before in
-    c .read-two-parts .ensures ∙ row-two _ _ (q .find .ensures) (p .before .if1 .left) _ (p .find2 .ensures) (at1 .if2 .taken)
+    c .read-two-parts .ensures ∙ row-two _ _ (q .find .ensures) (p .before .if1 .left) _ (p .find2 .ensures) (then2 .if2 .taken)
 
 add-third : tie.Need-add-third
 add-third c = omega arith
@@ -85,20 +85,22 @@ read-three-parts-requires c κs = search needs
 
 returns-3 : tie.Need-returns-3
 returns-3 c =
-    let at1 = c .before .before .before .before in
-    let at2 = at1 .before in
-    let p = at2 in
+    let then3 : tie.Then3 = search in
+    let after-find3 : tie.After-find3 = search in
+    let p = after-find3 in
     let q = p .before .before in
     let r = q .before .before in
     c .read-three-parts .ensures
-    ∙ row-three _ _ (r .find .ensures) (q .before .if1 .left) _ (q .find2 .ensures) (p .before .if2 .left) _ (p .find3 .ensures) (at1 .if3 .taken)
+    ∙ row-three _ _ (r .find .ensures) (q .before .if1 .left) _ (q .find2 .ensures) (p .before .if2 .left) _ (p .find3 .ensures) (then3 .if3 .taken)
 
 returns-4 : tie.Need-returns-4
 returns-4 c =
-    let p = c .before in
-    let q = p .before .before in
-    let r = q .before .before in
-    row-more _ _ (r .find .ensures) (q .before .if1 .left) _ (q .find2 .ensures) (p .before .if2 .left) _ (p .find3 .ensures) (c .if3 .left)
+    let p : tie.After-find3 = search in
+    let else2 : tie.Else2 = search in
+    let q : tie.After-find2 = search in
+    let else1 : tie.Else1 = search in
+    let r : tie.After-find = search in
+    row-more _ _ (r .find .ensures) (else1 .if1 .left) _ (q .find2 .ensures) (else2 .if2 .left) _ (p .find3 .ensures) (c .if3 .left)
 
 pub read-row-spec : {M : Type 1} → statement M
 read-row-spec =

@@ -13,7 +13,9 @@ retired-requires : tie.Need-retired-requires
 retired-requires c κs = search needs
 
 returns : tie.Need-returns
-returns c = c .retired .ensures ∙ ap retire (c .before .before .read-row .ensures) ∙ say-v2 _ _ _ (c .before .if1 .taken)
+returns c =
+    let after-read-row : tie.After-read-row = search in
+    c .retired .ensures ∙ ap retire (after-read-row .read-row .ensures) ∙ say-v2 _ _ _ (c .before .if1 .taken)
 
 returns-2 : tie.Need-returns-2
 returns-2 c = c .before .read-row .ensures ∙ say-plain _ _ _ (c .if1 .left)

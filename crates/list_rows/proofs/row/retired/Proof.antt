@@ -19,11 +19,15 @@ enum-told-2 c = search needs
 
 returns-2 : tie.Need-returns-2
 unfolding retire retireChange
-returns-2 c = rw (c .before .before .before .row .given .1, c .enum-told2 .given .1)
+returns-2 c =
+    let after-row : tie.After-row = search in
+    rw (after-row .row .given .1, c .enum-told2 .given .1)
 
 returns-3 : tie.Need-returns-3
 unfolding retire retireChange
-returns-3 c = rw (c .before .before .before .row .given .1, c .enum-told .given .1)
+returns-3 c =
+    let after-row : tie.After-row = search in
+    rw (after-row .row .given .1, c .enum-told .given .1)
 
 pub retired-spec : {M : Type 1} → statement M
 retired-spec =

@@ -31,13 +31,16 @@ loop-less c = search needs
 
 loop-again : tie.Need-loop-again Inv-loop μ-loop
 loop-again c =
-    (search needs, search needs, cleared (c .before .loop .row) (c .before .loop .c) (omega (arith, c .before .before .pre)) (c .before .loop .inv .2))
+    let start : tie.Start Inv-loop μ-loop = search in
+    (search needs, search needs, cleared (c .before .loop .row) (c .before .loop .c) (omega (arith, start .pre)) (c .before .loop .inv .2))
 
 same-length : tie.Need-same-length Inv-loop μ-loop
 same-length c = search needs
 
 returns : tie.Need-returns Inv-loop μ-loop
-returns c = record { long = c .before .loop .inv .1 ∙ c .before .before .pre; counts = λ k l. c .before .loop .inv .2 k (omega arith) }
+returns c =
+    let start : tie.Start Inv-loop μ-loop = search in
+    record { long = c .before .loop .inv .1 ∙ start .pre; counts = λ k l. c .before .loop .inv .2 k (omega arith) }
 
 pub clear-spec : {M : Type 1} → statement M
 clear-spec =

@@ -32,15 +32,16 @@ wide-requires c κs = search needs
 
 loop-holds : tie.Need-loop-holds Inv-loop μ-loop
 loop-holds c =
-    let at1 = c .before .before .before .before .before in
-    let at2 = at1 .before .before .before .before .before .before .before in
-    (search needs, count-none (at2 .args .degrees .now) (at2 .args .ranks .now) (at2 .args .waves .now) (at2 .args .b .0) (at1 .clear .ensures))
+    let after-clear : tie.After-clear Inv-loop μ-loop = search in
+    let start : tie.Start Inv-loop μ-loop = search in
+    (search needs, count-none (start .args .degrees .now) (start .args .ranks .now) (start .args .waves .now) (start .args .b .0) (after-clear .clear .ensures))
 
 count-one-requires : tie.Need-count-one-requires Inv-loop μ-loop
 count-one-requires c κs =
-    let at1 = c .before .before .before in
-    let at2 = at1 .before .before .before .before .before .before .before .before .before .before .before .before in
-    (at2 .pre .0, (omega (arith, at1 .wide .ensures, c .before .loop-test .taken), c .before .before .loop .inv .1))
+    let at-loop : tie.At-loop Inv-loop μ-loop = search in
+    let after-wide : tie.After-wide Inv-loop μ-loop = search in
+    let start : tie.Start Inv-loop μ-loop = search in
+    (start .pre .0, (omega (arith, after-wide .wide .ensures, c .before .loop-test .taken), at-loop .loop .inv .1))
 
 add-i : tie.Need-add-i Inv-loop μ-loop
 add-i c = search needs
@@ -49,15 +50,18 @@ loop-less : tie.Need-loop-less Inv-loop μ-loop
 loop-less c = search needs
 
 loop-again : tie.Need-loop-again Inv-loop μ-loop
-loop-again c = (search needs, c .before .before .count-one .ensures)
+loop-again c =
+    let after-count-one : tie.After-count-one Inv-loop μ-loop = search in
+    (search needs, after-count-one .count-one .ensures)
 
 same-length : tie.Need-same-length Inv-loop μ-loop
 same-length c = search needs
 
 returns : tie.Need-returns Inv-loop μ-loop
 returns c =
-    let at1 = c .before .before .before .before .before .before .before .before .before .before .before .before .before .before in
-    let e : c .before .loop .i ≡ getD (at1 .args .degrees .now) (at1 .args .b .0) 0 = omega (arith, c .before .before .wide .ensures) in
+    let after-wide : tie.After-wide Inv-loop μ-loop = search in
+    let start : tie.Start Inv-loop μ-loop = search in
+    let e : c .before .loop .i ≡ getD (start .args .degrees .now) (start .args .b .0) 0 = omega (arith, after-wide .wide .ensures) in
     rw e at (c .before .loop .inv .1)
 
 pub count-earlier-spec : {M : Type 1} → statement M

@@ -30,12 +30,14 @@ wide-requires c κs = search needs
 
 mul-wide : tie.Need-mul-wide
 mul-wide c =
-    let p = c .before .before .before .before .before .before .before .before .pre in
+    let start : tie.Start = search in
+    let p = start .pre in
     omega (arith, c .wide .ensures, v-bank (p .0) (p .1 .0))
 
 shared-slice-read-wide : tie.Need-shared-slice-read-wide
 shared-slice-read-wide c =
-    let p = c .before .before .before .before .before .before .before .before .before .pre in
+    let start : tie.Start = search in
+    let p = start .pre in
     omega (arith, c .before .wide .ensures, v-bank (p .0) (p .1 .0))
 
 wide-requires-2 : tie.Need-wide-requires-2
@@ -43,53 +45,56 @@ wide-requires-2 c κs = search needs
 
 is-earlier-requires : tie.Need-is-earlier-requires
 is-earlier-requires c κs =
-    let p = c .before .before .before .before .before .before .before .before .before .before .pre in
+    let start : tie.Start = search in
+    let p = start .pre in
     let h = v-bank (p .0) (p .1 .0) in
     ((omega arith, omega arith), (omega arith, omega arith))
 
 mul-row : tie.Need-mul-row
 mul-row c =
-    let at1 = c .before .before .before .before in
-    let at2 = at1 .before .before .before .before .before .before .before .before in
-    let p = at2 .pre in
-    let w = rw (at1 .wide .ensures) at (c .before .before .wide2 .ensures) in
+    let after-wide2 : tie.After-wide2 = search in
+    let after-wide : tie.After-wide = search in
+    let start : tie.Start = search in
+    let p = start .pre in
+    let w = rw (after-wide .wide .ensures) at (after-wide2 .wide2 .ensures) in
     omega (arith, w, v-small (p .0) (p .1 .0))
 
 slice-read-row : tie.Need-slice-read-row
 slice-read-row c =
-    let at1 = c .before .before .before in
-    let at2 = at1 .before .before in
-    let at3 = at2 .before .before .before .before .before .before .before .before in
-    let p = at3 .pre in
-    let w = rw (at2 .wide .ensures) at (at1 .wide2 .ensures) in
+    let after-wide2 : tie.After-wide2 = search in
+    let after-wide : tie.After-wide = search in
+    let start : tie.Start = search in
+    let p = start .pre in
+    let w = rw (after-wide .wide .ensures) at (after-wide2 .wide2 .ensures) in
     omega (arith, w, v-small (p .0) (p .1 .0), p .1 .1 .long)
 
 add-row : tie.Need-add-row
 add-row c =
-    let at1 = c .before .before .before .before in
-    let at2 = at1 .before .before in
-    let at3 = at2 .before .before .before .before .before .before .before .before in
-    let p = at3 .pre in
-    let w = rw (at2 .wide .ensures) at (at1 .wide2 .ensures) in
-    let more : c .before .before .if1 .more ≤ 1 = ⊎-elim (λ q. omega (arith, q .1)) (λ q. omega (arith, q .1)) (c .before .before .if1 .came) in
-    omega (arith, count-few (p .0) (p .1 .0) (p .1 .1) (at1 .wide2 .result) (omega (arith, w, v-small (p .0) (p .1 .0))))
+    let joined1 : tie.Joined1 = search in
+    let after-wide2 : tie.After-wide2 = search in
+    let after-wide : tie.After-wide = search in
+    let start : tie.Start = search in
+    let p = start .pre in
+    let w = rw (after-wide .wide .ensures) at (after-wide2 .wide2 .ensures) in
+    let more : joined1 .if1 .more ≤ 1 = ⊎-elim (λ q. omega (arith, q .1)) (λ q. omega (arith, q .1)) (joined1 .if1 .came) in
+    omega (arith, count-few (p .0) (p .1 .0) (p .1 .1) (after-wide2 .wide2 .result) (omega (arith, w, v-small (p .0) (p .1 .0))))
 
 mul-row-2 : tie.Need-mul-row-2
 mul-row-2 c =
-    let at1 = c .before .before .before .before in
-    let at2 = at1 .before .before in
-    let at3 = at2 .before .before .before .before .before .before .before .before in
-    let p = at3 .pre in
-    let w = rw (at2 .wide .ensures) at (at1 .wide2 .ensures) in
+    let after-wide2 : tie.After-wide2 = search in
+    let after-wide : tie.After-wide = search in
+    let start : tie.Start = search in
+    let p = start .pre in
+    let w = rw (after-wide .wide .ensures) at (after-wide2 .wide2 .ensures) in
     omega (arith, w, v-small (p .0) (p .1 .0))
 
 slice-write-row : tie.Need-slice-write-row
 slice-write-row c =
-    let at1 = c .before .before .before .before in
-    let at2 = at1 .before .before in
-    let at3 = at2 .before .before .before .before .before .before .before .before in
-    let p = at3 .pre in
-    let w = rw (at2 .wide .ensures) at (at1 .wide2 .ensures) in
+    let after-wide2 : tie.After-wide2 = search in
+    let after-wide : tie.After-wide = search in
+    let start : tie.Start = search in
+    let p = start .pre in
+    let w = rw (after-wide .wide .ensures) at (after-wide2 .wide2 .ensures) in
     omega (arith, w, v-small (p .0) (p .1 .0), p .1 .1 .long)
 
 same-length : tie.Need-same-length
@@ -97,20 +102,21 @@ same-length c = search needs
 
 returns : tie.Need-returns
 returns c =
-    let at1 = c .before .before .before in
-    let at2 = at1 .before in
-    let at3 = at2 .before .before in
-    let at4 = at3 .before .before .before .before .before .before .before .before in
-    let p = at4 .pre in
-    let w = rw (at3 .wide .ensures) at (at2 .wide2 .ensures) in
-    let row = at4 .args .row .now in
-    let at = at2 .wide2 .result in
-    let order = sym (at1 .is-earlier .ensures) in
+    let joined1 : tie.Joined1 = search in
+    let after-is-earlier : tie.After-is-earlier = search in
+    let after-wide2 : tie.After-wide2 = search in
+    let after-wide : tie.After-wide = search in
+    let start : tie.Start = search in
+    let p = start .pre in
+    let w = rw (after-wide .wide .ensures) at (after-wide2 .wide2 .ensures) in
+    let row = start .args .row .now in
+    let at = after-wide2 .wide2 .result in
+    let order = sym (after-is-earlier .is-earlier .ensures) in
     let none : getD row at 0 + 0 ≡ getD row at 0 = omega arith in
     ⊎-elim
     (λ q. rw (q .1) (counted (p .0) (p .1 .0) (p .1 .1) (order ∙ q .0 .taken) w))
     (λ q. rw (q .1, none, set-getD row at 0) (skipped (p .0) (p .1 .0) (p .1 .1) (order ∙ q .0 .left)))
-    (c .before .before .if1 .came)
+    (joined1 .if1 .came)
 
 pub count-one-spec : {M : Type 1} → statement M
 count-one-spec =

@@ -29,9 +29,9 @@ shared-slice-read-w c = search needs
 
 add-most : tie.Need-add-most Inv-loop μ-loop
 add-most c =
-    let at1 = c .before .before .before in
-    let at2 = at1 .before .before .before in
-    omega (arith, at2 .pre .1 (at1 .loop .i) (omega arith))
+    let at-loop : tie.At-loop Inv-loop μ-loop = search in
+    let start : tie.Start Inv-loop μ-loop = search in
+    omega (arith, start .pre .1 (at-loop .loop .i) (omega arith))
 
 add-i : tie.Need-add-i Inv-loop μ-loop
 add-i c = search needs
@@ -41,16 +41,16 @@ loop-less c = search needs
 
 loop-again : tie.Need-loop-again Inv-loop μ-loop
 loop-again c =
-    let at1 = c .before .before .before in
-    let at2 = at1 .before .before .before in
-    let next = most-next (at2 .args .waves .now) (at1 .loop .i) in
+    let at-loop : tie.At-loop Inv-loop μ-loop = search in
+    let start : tie.Start Inv-loop μ-loop = search in
+    let next = most-next (start .args .waves .now) (at-loop .loop .i) in
     (search needs, ⊎-elim (λ w. omega (arith, w .1, w .0 .taken, next)) (λ w. omega (arith, w .1, w .0 .left, next)) (c .if1 .came))
 
 returns : tie.Need-returns Inv-loop μ-loop
 returns c =
-    let at1 = c .before .before .before .before in
-    let e : c .before .loop .i ≡ at1 .args .banks = omega arith in
-    c .before .loop .inv .1 ∙ ap (mostOf (at1 .args .waves .now)) e
+    let start : tie.Start Inv-loop μ-loop = search in
+    let e : c .before .loop .i ≡ start .args .banks = omega arith in
+    c .before .loop .inv .1 ∙ ap (mostOf (start .args .waves .now)) e
 
 pub wave-count-spec : {M : Type 1} → statement M
 wave-count-spec =

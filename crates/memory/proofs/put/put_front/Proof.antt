@@ -41,8 +41,9 @@ loop-less c = search needs
 
 loop-again : tie.Need-loop-again Inv-loop μ-loop
 loop-again c =
-    let w = c .before .before .loop in
-    let start = c .before .before .before in
+    let at-loop : tie.At-loop Inv-loop μ-loop = search in
+    let start : tie.Start Inv-loop μ-loop = search in
+    let w = at-loop .loop in
     let next = over-next (start .args .cells .now) (start .args .slice .now) (w .i) (c .before .loop-test .taken) (start .pre) in
     (rw (add-one, w .inv .0) next, omega arith, rw length-set (w .inv .2))
 
@@ -51,8 +52,9 @@ same-length c = search needs
 
 returns : tie.Need-returns Inv-loop μ-loop
 returns c =
+    let start : tie.Start Inv-loop μ-loop = search in
     let w = c .before .loop in
-    rw (take-all (w .i) (c .before .before .args .cells .now) (omega arith)) at (w .inv .0)
+    rw (take-all (w .i) (start .args .cells .now) (omega arith)) at (w .inv .0)
 
 pub put-front-spec : {M : Type 1} → statement M
 put-front-spec =

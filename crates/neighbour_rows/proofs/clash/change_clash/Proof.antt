@@ -7,13 +7,13 @@ use Rattle.neighbour_rows.proofs.clash.change_clash.Tie as tie
 
 change-neighbour-requires : tie.Need-change-neighbour-requires
 change-neighbour-requires c κs =
-    let p = c .before .before .before .before in
+    let p : tie.Start = search in
     (neighbours (p .pre .0) (p .args .a .0), altering-a (p .pre .1) (p .pre .2))
 
 change-neighbour-requires-2 : tie.Need-change-neighbour-requires-2
 change-neighbour-requires-2 c κs =
-    let first = c .before .before .before .before .before .before in
-    let p = first .before .before .before .before .before in
+    let first : tie.After-change-neighbour = search in
+    let p : tie.Start = search in
     let one = first .change-neighbour .ensures _ (altering-a (p .pre .1) (p .pre .2)) in
     (neighbours (p .pre .0) (p .args .b .0), altering-b (p .pre .1) (p .pre .2) (first .change-neighbour .kept .1 .0) one)
 
@@ -25,9 +25,9 @@ same-length-2 c = search needs
 
 returns : tie.Need-returns
 returns c =
+    let second : tie.After-change-neighbour2 = search in
+    let first : tie.After-change-neighbour = search in
     λ G rd ac.
-    let second = c .before .before .before .before in
-    let first = second .before .before .before .before .before .before .before in
     let same = first .change-neighbour .kept .1 .0 in
     let one = first .change-neighbour .ensures _ (altering-a rd ac) in
     rewritten rd ac same one (second .change-neighbour2 .kept .1 .0) (second .change-neighbour2 .ensures _ (altering-b rd ac same one))

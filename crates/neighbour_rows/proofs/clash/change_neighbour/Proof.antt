@@ -34,7 +34,7 @@ part-change-row-end c = search needs
 
 change-row-requires : tie.Need-change-row-requires
 change-row-requires c κs =
-    let p = c .before .before .before .before .before in
+    let p : tie.Start = search in
     (p .pre .0, rw (group-lent 23 (p .args .neighbours .now) (p .args .b .0)) (p .pre .1 .ready))
 
 mul-degrees : tie.Need-mul-degrees
@@ -51,9 +51,9 @@ same-length-2 c = search needs
 
 returns : tie.Need-returns
 returns c =
+    let call : tie.After-change-row = search in
+    let p : tie.Start = search in
     λ banks al.
-    let call = c .before .before in
-    let p = call .before .before .before .before .before .before in
     let done = rw (group-lent 23 (p .args .neighbours .now) (p .args .b .0)) at (call .change-row .ensures .0) in
     rw (call .change-row .ensures .1) (altered al (call .change-row .last .1 .0) (done banks (al .ready)))
 

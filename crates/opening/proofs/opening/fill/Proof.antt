@@ -32,20 +32,22 @@ loop-less : tie.Need-loop-less Inv-loop μ-loop
 loop-less c = search needs
 
 loop-again : tie.Need-loop-again Inv-loop μ-loop
-loop-again c = (
-  search needs,
-  simp length-set (search needs),
-  ap (λ (l : List ℕ). set l (c .before .loop .i) (c .before .before .args .x)) (c .before .loop .inv .2) ∙ fill-more (c .before .loop .i)
-      (c .before .before .args .x) (now (c .before .before .args .cells)) (omega arith),
-)
+loop-again c =
+    let start : tie.Start Inv-loop μ-loop = search in (
+      search needs,
+      simp length-set (search needs),
+      ap (λ (l : List ℕ). set l (c .before .loop .i) (start .args .x)) (c .before .loop .inv .2) ∙ fill-more (c .before .loop .i)
+          (start .args .x) (now (start .args .cells)) (omega arith),
+    )
 
 same-length : tie.Need-same-length Inv-loop μ-loop
 same-length c = search needs
 
 returns : tie.Need-returns Inv-loop μ-loop
 returns c =
-    let e : c .before .loop .i ≡ c .before .before .args .n = omega arith in c .before .loop .inv .2 ∙ ap
-    (λ (k : ℕ). replicate k (c .before .before .args .x) ++ drop k (now (c .before .before .args .cells))) e
+    let start : tie.Start Inv-loop μ-loop = search in
+    let e : c .before .loop .i ≡ start .args .n = omega arith in c .before .loop .inv .2 ∙ ap
+    (λ (k : ℕ). replicate k (start .args .x) ++ drop k (now (start .args .cells))) e
 
 pub fill-spec : {M : Type 1} → statement M
 fill-spec =

@@ -31,10 +31,10 @@ same-length-5 c = search needs
 
 returns-2 : tie.Need-returns-2
 returns-2 c =
-    let at1 = c .before .before .before .before .before .before .before .before .before .before in
-    let at2 = at1 .before .before .before .before .before .before in
-    let at3 = at2 .before in
-    room-opened _ _ _ (at3 .room-number .ensures) (at2 .if1 .left) _ _ (at1 .open-core .ensures)
+    let after-open-core : tie.After-open-core = search in
+    let else1 : tie.Else1 = search in
+    let after-room-number : tie.After-room-number = search in
+    room-opened _ _ _ (after-room-number .room-number .ensures) (else1 .if1 .left) _ _ (after-open-core .open-core .ensures)
 
 pub open-all-spec : {M : Type 1} → statement M
 open-all-spec =

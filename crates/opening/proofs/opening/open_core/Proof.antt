@@ -41,28 +41,34 @@ mul-fill c = search needs
 
 fill-requires : tie.Need-fill-requires
 fill-requires c κs =
-    let test = c .before in
-    let n = test .before .before .before .before .before .before .before .before in
-    let a = n .before .before .before .before .before .before .args in
-    let room = sym (test .before .long-enough .ensures) ∙ not-false _ (test .if2 .left) in
+    let test : tie.Else2 = search in
+    let after-long-enough : tie.After-long-enough = search in
+    let n : tie.After-wide = search in
+    let start : tie.Start = search in
+    let a = start .args in
+    let room = sym (after-long-enough .long-enough .ensures) ∙ not-false _ (test .if2 .left) in
     let l = long (a .banks) (slicesOf (a .neighbours .now) (a .degrees .now) (a .waves .now) (a .counts .now) (a .ranks .now)) room in
     omega (arith, n .wide .ensures, l .neighbours)
 
 fill-requires-2 : tie.Need-fill-requires-2
 fill-requires-2 c κs =
-    let test = c .before .before .before .before .before in
-    let n = test .before .before .before .before .before .before .before .before in
-    let a = n .before .before .before .before .before .before .args in
-    let room = sym (test .before .long-enough .ensures) ∙ not-false _ (test .if2 .left) in
+    let test : tie.Else2 = search in
+    let after-long-enough : tie.After-long-enough = search in
+    let n : tie.After-wide = search in
+    let start : tie.Start = search in
+    let a = start .args in
+    let room = sym (after-long-enough .long-enough .ensures) ∙ not-false _ (test .if2 .left) in
     let l = long (a .banks) (slicesOf (a .neighbours .now) (a .degrees .now) (a .waves .now) (a .counts .now) (a .ranks .now)) room in
     omega (arith, n .wide .ensures, l .degrees)
 
 fill-requires-3 : tie.Need-fill-requires-3
 fill-requires-3 c κs =
-    let test = c .before .before .before .before .before .before .before .before .before in
-    let n = test .before .before .before .before .before .before .before .before in
-    let a = n .before .before .before .before .before .before .args in
-    let room = sym (test .before .long-enough .ensures) ∙ not-false _ (test .if2 .left) in
+    let test : tie.Else2 = search in
+    let after-long-enough : tie.After-long-enough = search in
+    let n : tie.After-wide = search in
+    let start : tie.Start = search in
+    let a = start .args in
+    let room = sym (after-long-enough .long-enough .ensures) ∙ not-false _ (test .if2 .left) in
     let l = long (a .banks) (slicesOf (a .neighbours .now) (a .degrees .now) (a .waves .now) (a .counts .now) (a .ranks .now)) room in
     omega (arith, n .wide .ensures, l .waves)
 
@@ -71,19 +77,23 @@ mul-fill-2 c = search needs
 
 fill-requires-4 : tie.Need-fill-requires-4
 fill-requires-4 c κs =
-    let test = c .before .before .before .before .before .before .before .before .before .before .before .before .before in
-    let n = test .before .before .before .before .before .before .before .before in
-    let a = n .before .before .before .before .before .before .args in
-    let room = sym (test .before .long-enough .ensures) ∙ not-false _ (test .if2 .left) in
+    let test : tie.Else2 = search in
+    let after-long-enough : tie.After-long-enough = search in
+    let n : tie.After-wide = search in
+    let start : tie.Start = search in
+    let a = start .args in
+    let room = sym (after-long-enough .long-enough .ensures) ∙ not-false _ (test .if2 .left) in
     let l = long (a .banks) (slicesOf (a .neighbours .now) (a .degrees .now) (a .waves .now) (a .counts .now) (a .ranks .now)) room in
     omega (arith, n .wide .ensures, l .counts)
 
 fill-requires-5 : tie.Need-fill-requires-5
 fill-requires-5 c κs =
-    let test = c .before .before .before .before .before .before .before .before .before .before .before .before .before .before .before .before .before in
-    let n = test .before .before .before .before .before .before .before .before in
-    let a = n .before .before .before .before .before .before .args in
-    let room = sym (test .before .long-enough .ensures) ∙ not-false _ (test .if2 .left) in
+    let test : tie.Else2 = search in
+    let after-long-enough : tie.After-long-enough = search in
+    let n : tie.After-wide = search in
+    let start : tie.Start = search in
+    let a = start .args in
+    let room = sym (after-long-enough .long-enough .ensures) ∙ not-false _ (test .if2 .left) in
     let l = long (a .banks) (slicesOf (a .neighbours .now) (a .degrees .now) (a .waves .now) (a .counts .now) (a .ranks .now)) room in
     omega (arith, n .wide .ensures, l .ranks)
 
@@ -107,17 +117,21 @@ same-length-10 c = search needs
 
 returns-3 : tie.Need-returns-3
 returns-3 c =
-    let five = c .before .before .before in
-    let four = five .before .before .before .before in
-    let three = four .before .before .before .before in
-    let two = three .before .before .before .before in
-    let one = two .before .before .before .before in
-    let test = one .before .before in
-    let n = test .before .before .before .before .before .before .before .before in
-    let a = n .before .before .before .before .before .before .args in
+    let five : tie.After-fill5 = search in
+    let four : tie.After-fill4 = search in
+    let three : tie.After-fill3 = search in
+    let two : tie.After-fill2 = search in
+    let one : tie.After-fill = search in
+    let test : tie.Else2 = search in
+    let after-long-enough : tie.After-long-enough = search in
+    let else1 : tie.Else1 = search in
+    let n : tie.After-wide = search in
+    let after-slice-known3 : tie.After-slice-known3 = search in
+    let start : tie.Start = search in
+    let a = start .args in
     opened-filled (a .banks) (n .wide .result) (a .neighbours .now) (a .degrees .now) (a .waves .now) (a .counts .now) (a .ranks .now) (a .tally)
-    (n .wide .ensures) (omega (arith, n .wide .ensures, test .before .before .before .before .before .before .before .if1 .left))
-    (sym (test .before .long-enough .ensures) ∙ not-false _ (test .if2 .left))
+    (n .wide .ensures) (omega (arith, n .wide .ensures, else1 .if1 .left))
+    (sym (after-long-enough .long-enough .ensures) ∙ not-false _ (test .if2 .left))
     (one .fill .ensures) (two .fill2 .ensures) (three .fill3 .ensures) (four .fill4 .ensures) (five .fill5 .ensures) (c .first-waves .ensures)
 
 pub open-core-spec : {M : Type 1} → statement M

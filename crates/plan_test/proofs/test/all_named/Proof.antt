@@ -21,7 +21,9 @@ named-right-requires : tie.Need-named-right-requires Inv-loop μ-loop
 named-right-requires c κs = search needs
 
 returns : tie.Need-returns Inv-loop μ-loop
-returns c = λ f. denied _ (c .before .named-right .result) (c .before .named-right .ensures) (c .if1 .taken) (f (c .before .before .before .loop .i) (omega arith))
+returns c =
+    let at-loop : tie.At-loop Inv-loop μ-loop = search in
+    λ f. denied _ (c .before .named-right .result) (c .before .named-right .ensures) (c .if1 .taken) (f (at-loop .loop .i) (omega arith))
 
 add-i : tie.Need-add-i Inv-loop μ-loop
 add-i c = search needs
@@ -30,7 +32,9 @@ loop-less : tie.Need-loop-less Inv-loop μ-loop
 loop-less c = search needs
 
 loop-again : tie.Need-loop-again Inv-loop μ-loop
-loop-again c = (search needs, below-more _ _ (c .before .before .before .loop .inv .1) (granted _ (c .before .named-right .result) (c .before .named-right .ensures) (c .if1 .left)))
+loop-again c =
+    let at-loop : tie.At-loop Inv-loop μ-loop = search in
+    (search needs, below-more _ _ (at-loop .loop .inv .1) (granted _ (c .before .named-right .result) (c .before .named-right .ensures) (c .if1 .left)))
 
 returns-2 : tie.Need-returns-2 Inv-loop μ-loop
 returns-2 c = λ i h. c .before .loop .inv .1 i (omega arith)

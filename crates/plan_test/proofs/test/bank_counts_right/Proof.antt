@@ -45,13 +45,14 @@ shared-slice-read-t21 c = search needs
 
 part-right-requires : tie.Need-part-right-requires
 part-right-requires c κs =
-    let at1 = c .before .before .before .before .before .before .before in
-    let p = at1 .pre in
-    (search needs, (search needs, p .0 .small (at1 .args .b .0) (p .1 .1 .1)))
+    let start : tie.Start = search in
+    let p = start .pre in
+    (search needs, (search needs, p .0 .small (start .args .b .0) (p .1 .1 .1)))
 
 returns : tie.Need-returns
 returns c =
-    let a = c .before .before .before .before .before .before .before .before .args in
+    let start : tie.Start = search in
+    let a = start .args in
     rw (group-lent 24 (a .counts .now) (a .b .0), group-lent 24 (a .cells .now) (a .b .0)) at (c .part-right .ensures)
 
 pub bank-counts-right-spec : {M : Type 1} → statement M

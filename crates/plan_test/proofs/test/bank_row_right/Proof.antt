@@ -36,8 +36,8 @@ row-right-requires c κs = search needs
 
 returns : tie.Need-returns
 returns c =
-    let at1 = c .before .before .before .before .before .before in
-    rw (group-lent 23 (at1 .args .neighbours .now) (at1 .args .b .0)) at (c .row-right .ensures)
+    let start : tie.Start = search in
+    rw (group-lent 23 (start .args .neighbours .now) (start .args .b .0)) at (c .row-right .ensures)
 
 pub bank-row-right-spec : {M : Type 1} → statement M
 bank-row-right-spec =

@@ -41,7 +41,8 @@ loop-less c = search needs
 
 loop-again : tie.Need-loop-again Inv-loop μ-loop
 loop-again c =
-    let at = c .before .before .before .before .loop in (
+    let at-loop : tie.At-loop Inv-loop μ-loop = search in
+    let at = at-loop .loop in (
       search needs,
       ⊎-elim
           (λ w. rw (w .1) (one-passed _ (at .c) (at .equal) (at .c) (at .inv .1) (w .0 .taken)))
@@ -50,10 +51,14 @@ loop-again c =
     )
 
 returns : tie.Need-returns Inv-loop μ-loop
-returns c = λ q. c .if2 .taken (omega (arith, c .before .before .loop .inv .1 .2 (λ k l. q k (omega arith))))
+returns c =
+    let at-loop : tie.At-loop Inv-loop μ-loop = search in
+    λ q. c .if2 .taken (omega (arith, at-loop .loop .inv .1 .2 (λ k l. q k (omega arith))))
 
 returns-2 : tie.Need-returns-2 Inv-loop μ-loop
-returns-2 c = λ k h. c .before .before .loop .inv .1 .1 (omega arith) k (omega arith)
+returns-2 c =
+    let at-loop : tie.At-loop Inv-loop μ-loop = search in
+    λ k h. at-loop .loop .inv .1 .1 (omega arith) k (omega arith)
 
 pub cells-equal-spec : {M : Type 1} → statement M
 cells-equal-spec =

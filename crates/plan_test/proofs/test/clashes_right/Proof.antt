@@ -16,11 +16,13 @@ abbrev μ-loop : tie.MeasureT-loop
 
 loop-holds : tie.Need-loop-holds Inv-loop μ-loop
 loop-holds c =
-    let at1 = c .before .before .before .before .before in
-    (search needs, seen-start (at1 .pre .0) (at1 .pre .1 .1 .1) (at1 .pre .1 .0))
+    let start : tie.Start Inv-loop μ-loop = search in
+    (search needs, seen-start (start .pre .0) (start .pre .1 .1 .1) (start .pre .1 .0))
 
 row-matched-requires : tie.Need-row-matched-requires Inv-loop μ-loop
-row-matched-requires c κs = (c .before .before .before .loop .inv .1, omega arith)
+row-matched-requires c κs =
+    let at-loop : tie.At-loop Inv-loop μ-loop = search in
+    (at-loop .loop .inv .1, omega arith)
 
 returns : tie.Need-returns Inv-loop μ-loop
 returns c = λ h. is-not _ _ _ (c .before .row-matched .result) (c .before .row-matched .ensures) (c .if1 .taken) (h .0)
@@ -35,18 +37,22 @@ loop-again : tie.Need-loop-again Inv-loop μ-loop
 loop-again c = (search needs, goes-on _ _ _ (c .before .row-matched .result) (c .before .row-matched .ensures) (c .if1 .left))
 
 slice-aggregate-counts-right : tie.Need-slice-aggregate-counts-right Inv-loop μ-loop
-slice-aggregate-counts-right c = omega (arith, c .before .before .loop .inv .1 .ground .long-cells)
+slice-aggregate-counts-right c =
+    let at-loop : tie.At-loop Inv-loop μ-loop = search in
+    omega (arith, at-loop .loop .inv .1 .ground .long-cells)
 
 counts-right-requires : tie.Need-counts-right-requires Inv-loop μ-loop
 counts-right-requires c κs =
-    let p = c .before .before .before .before .before .before .before .before .pre in
-    (p .1 .0, (omega (arith, p .0 .most, c .before .before .loop .inv .1 .ground .long-cells), p .1 .1 .0))
+    let at-loop : tie.At-loop Inv-loop μ-loop = search in
+    let start : tie.Start Inv-loop μ-loop = search in
+    let p = start .pre in
+    (p .1 .0, (omega (arith, p .0 .most, at-loop .loop .inv .1 .ground .long-cells), p .1 .1 .0))
 
 returns-2 : tie.Need-returns-2 Inv-loop μ-loop
 returns-2 c =
-    let at1 = c .before .before .before in
-    let at2 = at1 .before .before .before .before .before .before in
-    seen-end (omega arith) (at1 .loop .inv .1) (at2 .args .counts .now) (c .counts-right .result) (c .counts-right .ensures)
+    let at-loop : tie.At-loop Inv-loop μ-loop = search in
+    let start : tie.Start Inv-loop μ-loop = search in
+    seen-end (omega arith) (at-loop .loop .inv .1) (start .args .counts .now) (c .counts-right .result) (c .counts-right .ensures)
 
 pub clashes-right-spec : {M : Type 1} → statement M
 clashes-right-spec =

@@ -22,7 +22,9 @@ bank-counts-right-requires : tie.Need-bank-counts-right-requires Inv-loop μ-loo
 bank-counts-right-requires c κs = search needs
 
 returns : tie.Need-returns Inv-loop μ-loop
-returns c = λ f. denied _ (c .before .bank-counts-right .result) (c .before .bank-counts-right .ensures) (c .if1 .taken) (f (c .before .before .before .loop .b) (omega arith))
+returns c =
+    let at-loop : tie.At-loop Inv-loop μ-loop = search in
+    λ f. denied _ (c .before .bank-counts-right .result) (c .before .bank-counts-right .ensures) (c .if1 .taken) (f (at-loop .loop .b) (omega arith))
 
 add-b : tie.Need-add-b Inv-loop μ-loop
 add-b c = search needs
@@ -31,7 +33,9 @@ loop-less : tie.Need-loop-less Inv-loop μ-loop
 loop-less c = search needs
 
 loop-again : tie.Need-loop-again Inv-loop μ-loop
-loop-again c = (search needs, below-more _ _ (c .before .before .before .loop .inv .1) (granted _ (c .before .bank-counts-right .result) (c .before .bank-counts-right .ensures) (c .if1 .left)))
+loop-again c =
+    let at-loop : tie.At-loop Inv-loop μ-loop = search in
+    (search needs, below-more _ _ (at-loop .loop .inv .1) (granted _ (c .before .bank-counts-right .result) (c .before .bank-counts-right .ensures) (c .if1 .left)))
 
 returns-2 : tie.Need-returns-2 Inv-loop μ-loop
 returns-2 c = λ k h. c .before .loop .inv .1 k (omega arith)

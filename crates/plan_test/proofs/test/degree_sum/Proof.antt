@@ -25,9 +25,10 @@ shared-slice-read-total c = search needs
 
 add-total : tie.Need-add-total Inv-loop μ-loop
 add-total c =
-    let at1 = c .before .before .before in
-    let p = at1 .pre in
-    omega (arith, sum-below (at1 .args .degrees .now) (c .before .before .loop .i) (at1 .args .banks) (omega arith) (p .1 .1), p .1 .1 (c .before .before .loop .i) (omega arith))
+    let at-loop : tie.At-loop Inv-loop μ-loop = search in
+    let start : tie.Start Inv-loop μ-loop = search in
+    let p = start .pre in
+    omega (arith, sum-below (start .args .degrees .now) (at-loop .loop .i) (start .args .banks) (omega arith) (p .1 .1), p .1 .1 (at-loop .loop .i) (omega arith))
 
 add-i : tie.Need-add-i Inv-loop μ-loop
 add-i c = search needs
@@ -36,12 +37,16 @@ loop-less : tie.Need-loop-less Inv-loop μ-loop
 loop-less c = search needs
 
 loop-again : tie.Need-loop-again Inv-loop μ-loop
-loop-again c = (search needs, omega (arith, sum-next (c .before .before .before .args .degrees .now) (c .before .before .loop .i)))
+loop-again c =
+    let at-loop : tie.At-loop Inv-loop μ-loop = search in
+    let start : tie.Start Inv-loop μ-loop = search in
+    (search needs, omega (arith, sum-next (start .args .degrees .now) (at-loop .loop .i)))
 
 returns : tie.Need-returns Inv-loop μ-loop
 returns c =
-    let e : c .before .loop .i ≡ c .before .before .args .banks = omega arith in
-    c .before .loop .inv .1 ∙ ap (sum (c .before .before .args .degrees .now)) e
+    let start : tie.Start Inv-loop μ-loop = search in
+    let e : c .before .loop .i ≡ start .args .banks = omega arith in
+    c .before .loop .inv .1 ∙ ap (sum (start .args .degrees .now)) e
 
 pub degree-sum-spec : {M : Type 1} → statement M
 degree-sum-spec =

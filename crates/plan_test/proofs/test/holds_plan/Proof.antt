@@ -16,7 +16,9 @@ is-plan-requires : tie.Need-is-plan-requires
 is-plan-requires c κs = search needs
 
 returns-2 : tie.Need-returns-2
-returns-2 c = cap-granted _ _ (sym (not-false _ (c .before .if1 .left)) ∙ c .before .before .cap-fits .ensures) (c .is-plan .ensures)
+returns-2 c =
+    let after-cap-fits : tie.After-cap-fits = search in
+    cap-granted _ _ (sym (not-false _ (c .before .if1 .left)) ∙ after-cap-fits .cap-fits .ensures) (c .is-plan .ensures)
 
 pub holds-plan-spec : {M : Type 1} → statement M
 holds-plan-spec = tie.close (tie.spec cap-fits-requires returns is-plan-requires returns-2)

@@ -28,9 +28,9 @@ shared-slice-read-if1 c = search needs
 
 returns : tie.Need-returns Inv-loop μ-loop
 returns c =
-    let at1 = c .before .before .before in
-    let at2 = at1 .before in
-    λ p. p .below (at1 .loop .c) (omega (arith, at2 .wide .ensures)) (c .if1 .taken)
+    let at-loop : tie.At-loop Inv-loop μ-loop = search in
+    let after-wide : tie.After-wide Inv-loop μ-loop = search in
+    λ p. p .below (at-loop .loop .c) (omega (arith, after-wide .wide .ensures)) (c .if1 .taken)
 
 add-c : tie.Need-add-c Inv-loop μ-loop
 add-c c = search needs
@@ -39,7 +39,9 @@ loop-less : tie.Need-loop-less Inv-loop μ-loop
 loop-less c = search needs
 
 loop-again : tie.Need-loop-again Inv-loop μ-loop
-loop-again c = (search needs, below-more _ _ (c .before .before .before .loop .inv .1) (c .if1 .left))
+loop-again c =
+    let at-loop : tie.At-loop Inv-loop μ-loop = search in
+    (search needs, below-more _ _ (at-loop .loop .inv .1) (c .if1 .left))
 
 mul-if2 : tie.Need-mul-if2 Inv-loop μ-loop
 mul-if2 c = search needs
@@ -48,13 +50,15 @@ shared-slice-read-if2 : tie.Need-shared-slice-read-if2 Inv-loop μ-loop
 shared-slice-read-if2 c = search needs
 
 returns-2 : tie.Need-returns-2 Inv-loop μ-loop
-returns-2 c = λ p. c .if2 .taken (rw (c .before .before .before .before .wide .ensures) (p .at))
+returns-2 c =
+    let after-wide : tie.After-wide Inv-loop μ-loop = search in
+    λ p. c .if2 .taken (rw (after-wide .wide .ensures) (p .at))
 
 returns-3 : tie.Need-returns-3 Inv-loop μ-loop
 returns-3 c =
-    let at1 = c .before .before .before in
-    let at2 = at1 .before in
-    record { below = λ k l. at1 .loop .inv .1 k (omega (arith, at2 .wide .ensures)); at = rw (at2 .wide .ensures) at (c .if2 .left) }
+    let at-loop : tie.At-loop Inv-loop μ-loop = search in
+    let after-wide : tie.After-wide Inv-loop μ-loop = search in
+    record { below = λ k l. at-loop .loop .inv .1 k (omega (arith, after-wide .wide .ensures)); at = rw (after-wide .wide .ensures) at (c .if2 .left) }
 
 pub is-lowest-spec : {M : Type 1} → statement M
 is-lowest-spec =

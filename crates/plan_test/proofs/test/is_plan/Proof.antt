@@ -11,89 +11,119 @@ use Rattle.plan_test.proofs.test.is_plan.Tie as tie
 
 rows-right-requires : tie.Need-rows-right-requires
 rows-right-requires c κs =
-    let l = long _ _ (c .before .before .before .before .before .pre .1) in
+    let start : tie.Start = search in
+    let l = long _ _ (start .pre .1) in
     (l .neighbours, l .degrees)
 
 returns : tie.Need-returns
 returns c =
-    let p = c .before .before .before .before .before .before .before .pre in
+    let start : tie.Start = search in
+    let p = start .pre in
     refuses _ _ (p .0) (p .1) (λ h. denied _ (c .before .rows-right .result) (c .before .rows-right .ensures) (c .if1 .taken) (h .rows))
 
 all-under-requires : tie.Need-all-under-requires
-all-under-requires c κs = long _ _ (c .before .before .before .before .before .before .before .pre .1) .waves
+all-under-requires c κs =
+    let start : tie.Start = search in
+    long _ _ (start .pre .1) .waves
 
 returns-2 : tie.Need-returns-2
 returns-2 c =
-    let p = c .before .before .before .before .before .before .before .before .before .pre in
+    let start : tie.Start = search in
+    let p = start .pre in
     refuses _ _ (p .0) (p .1) (λ h. denied _ (c .before .all-under .result) (c .before .all-under .ensures) (c .if2 .taken) (h .small))
 
 add-all-under : tie.Need-add-all-under
 add-all-under c = search needs
 
 all-under-requires-2 : tie.Need-all-under-requires-2
-all-under-requires-2 c κs = long _ _ (c .before .before .before .before .before .before .before .before .before .pre .1) .ranks
+all-under-requires-2 c κs =
+    let start : tie.Start = search in
+    long _ _ (start .pre .1) .ranks
 
 returns-3 : tie.Need-returns-3
 returns-3 c =
-    let p = c .before .before .before .before .before .before .before .before .before .before .before .pre in
+    let start : tie.Start = search in
+    let p = start .pre in
     refuses _ _ (p .0) (p .1) (λ h. denied _ (c .before .all-under2 .result) (c .before .all-under2 .ensures) (c .if3 .taken) (h .ranks))
 
 clashes-right-requires : tie.Need-clashes-right-requires
 clashes-right-requires c κs =
-    let waves = c .before .before in
-    let rows = waves .before .before in
-    let p = rows .before .before .before .before .before .before .before .pre in
+    let waves : tie.Else2 = search in
+    let after-all-under : tie.After-all-under = search in
+    let rows : tie.Else1 = search in
+    let after-rows-right : tie.After-rows-right = search in
+    let start : tie.Start = search in
+    let p = start .pre in
     let l = long _ _ (p .1) in
-    let right = granted _ (rows .before .rows-right .result) (rows .before .rows-right .ensures) (rows .if1 .left) in
-    let small = granted _ (waves .before .all-under .result) (waves .before .all-under .ensures) (waves .if2 .left) in
+    let right = granted _ (after-rows-right .rows-right .result) (after-rows-right .rows-right .ensures) (rows .if1 .left) in
+    let small = granted _ (after-all-under .all-under .result) (after-all-under .all-under .ensures) (waves .if2 .left) in
     (rows-of (p .0) l right, (record { long = l .waves; small = small }, (l .counts, l .ranks)))
 
 returns-4 : tie.Need-returns-4
 returns-4 c =
-    let p = c .before .before .before .before .before .before .before .before .before .before .before .before .before .pre in
+    let start : tie.Start = search in
+    let p = start .pre in
     refuses _ _ (p .0) (p .1) (λ h. denied _ (c .before .clashes-right .result) (c .before .clashes-right .ensures) (c .if4 .taken) (h .symmetric, h .counts))
 
 degree-sum-requires : tie.Need-degree-sum-requires
 degree-sum-requires c κs =
-    let rows = c .before .before .before .before .before .before in
-    let p = rows .before .before .before .before .before .before .before .pre in
+    let rows : tie.Else1 = search in
+    let after-rows-right : tie.After-rows-right = search in
+    let start : tie.Start = search in
+    let p = start .pre in
     let l = long _ _ (p .1) in
-    let right = granted _ (rows .before .rows-right .result) (rows .before .rows-right .ensures) (rows .if1 .left) in
+    let right = granted _ (after-rows-right .rows-right .result) (after-rows-right .rows-right .ensures) (rows .if1 .left) in
     (p .0, (l .degrees, λ b h. omega (arith, right b h .few)))
 
 returns-5 : tie.Need-returns-5
 returns-5 c =
-    let p = c .before .before .before .before .before .before .before .before .before .before .before .before .before .before .before .before .pre in
-    refuses _ _ (p .0) (p .1) (λ h. c .if5 .taken (h .clashes ∙ ap (λ (z : ℕ). z / 2) (sym (c .before .before .degree-sum .ensures))))
+    let after-degree-sum : tie.After-degree-sum = search in
+    let else1 : tie.Else1 = search in
+    let start : tie.Start = search in
+    let p = start .pre in
+    refuses _ _ (p .0) (p .1) (λ h. c .if5 .taken (h .clashes ∙ ap (λ (z : ℕ). z / 2) (sym (after-degree-sum .degree-sum .ensures))))
 
 wave-count-requires : tie.Need-wave-count-requires
 wave-count-requires c κs =
-    let waves = c .before .before .before .before .before .before .before in
-    let p = waves .before .before .before .before .before .before .before .before .before .pre in
-    (long _ _ (p .1) .waves, granted _ (waves .before .all-under .result) (waves .before .all-under .ensures) (waves .if2 .left))
+    let waves : tie.Else2 = search in
+    let after-all-under : tie.After-all-under = search in
+    let start : tie.Start = search in
+    let p = start .pre in
+    (long _ _ (p .1) .waves, granted _ (after-all-under .all-under .result) (after-all-under .all-under .ensures) (waves .if2 .left))
 
 returns-6 : tie.Need-returns-6
 returns-6 c =
-    let p = c .before .before .before .before .before .before .before .before .before .before .before .before .before .before .before .before .before .before .before .pre in
-    refuses _ _ (p .0) (p .1) (λ h. c .if6 .taken (h .waves ∙ sym (c .before .before .wave-count .ensures)))
+    let after-wave-count : tie.After-wave-count = search in
+    let else2 : tie.Else2 = search in
+    let start : tie.Start = search in
+    let p = start .pre in
+    refuses _ _ (p .0) (p .1) (λ h. c .if6 .taken (h .waves ∙ sym (after-wave-count .wave-count .ensures)))
 
 returns-7 : tie.Need-returns-7
 returns-7 c =
-    let sums = c .before .before .before in
-    let counts = sums .before .before .before in
-    let ranks = counts .before .before in
-    let waves = ranks .before .before in
-    let rows = waves .before .before in
-    let p = rows .before .before .before .before .before .before .before .pre in
-    let met = granted _ (counts .before .clashes-right .result) (counts .before .clashes-right .ensures) (counts .if4 .left) in
+    let after-wave-count : tie.After-wave-count = search in
+    let sums : tie.Else5 = search in
+    let after-degree-sum : tie.After-degree-sum = search in
+    let counts : tie.Else4 = search in
+    let after-clashes-right : tie.After-clashes-right = search in
+    let ranks : tie.Else3 = search in
+    let after-all-under2 : tie.After-all-under2 = search in
+    let waves : tie.Else2 = search in
+    let after-all-under : tie.After-all-under = search in
+    let rows : tie.Else1 = search in
+    let after-rows-right : tie.After-rows-right = search in
+    let after-shared-slice-known3 : tie.After-shared-slice-known3 = search in
+    let start : tie.Start = search in
+    let p = start .pre in
+    let met = granted _ (after-clashes-right .clashes-right .result) (after-clashes-right .clashes-right .ensures) (counts .if4 .left) in
     accepts _ _ (p .0) (p .1) (record {
-      rows = granted _ (rows .before .rows-right .result) (rows .before .rows-right .ensures) (rows .if1 .left);
+      rows = granted _ (after-rows-right .rows-right .result) (after-rows-right .rows-right .ensures) (rows .if1 .left);
       symmetric = met .0;
-      small = granted _ (waves .before .all-under .result) (waves .before .all-under .ensures) (waves .if2 .left);
-      ranks = granted _ (ranks .before .all-under2 .result) (ranks .before .all-under2 .ensures) (ranks .if3 .left);
+      small = granted _ (after-all-under .all-under .result) (after-all-under .all-under .ensures) (waves .if2 .left);
+      ranks = granted _ (after-all-under2 .all-under2 .result) (after-all-under2 .all-under2 .ensures) (ranks .if3 .left);
       counts = met .1;
-      clashes = sums .if5 .left ∙ ap (λ (z : ℕ). z / 2) (sums .before .before .degree-sum .ensures);
-      waves = c .if6 .left ∙ c .before .before .wave-count .ensures;
+      clashes = sums .if5 .left ∙ ap (λ (z : ℕ). z / 2) (after-degree-sum .degree-sum .ensures);
+      waves = c .if6 .left ∙ after-wave-count .wave-count .ensures;
     })
 
 pub is-plan-spec : {M : Type 1} → statement M

@@ -18,9 +18,10 @@ returns-2 c = λ p. denied _ (c .before .is-lowest .result) (c .before .is-lowes
 
 returns-3 : tie.Need-returns-3
 returns-3 c =
-    let at1 = c .before .before .before in
+    let else1 : tie.Else1 = search in
+    let after-cells-equal : tie.After-cells-equal = search in
     record {
-      same = granted _ (at1 .cells-equal .result) (at1 .cells-equal .ensures) (c .before .before .if1 .left);
+      same = granted _ (after-cells-equal .cells-equal .result) (after-cells-equal .cells-equal .ensures) (else1 .if1 .left);
       lowest = granted _ (c .before .is-lowest .result) (c .before .is-lowest .ensures)
           (c .if2 .left);
     }

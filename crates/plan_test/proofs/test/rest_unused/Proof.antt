@@ -33,11 +33,11 @@ loop-less c = search needs
 
 loop-again : tie.Need-loop-again Inv-loop μ-loop
 loop-again c =
-    let at1 = c .before .before .before in
-    let at2 = at1 .before .before in
-    let a = at2 .args in
-    let free = at2 .pre .1 .1 in
-    let at = at1 .loop in (
+    let at-loop : tie.At-loop Inv-loop μ-loop = search in
+    let start : tie.Start Inv-loop μ-loop = search in
+    let a = start .args in
+    let free = start .pre .1 .1 in
+    let at = at-loop .loop in (
       search needs,
       ⊎-elim
           (λ w. rw (w .1) (unused-next (a .row .now) (a .named) (at .i) (at .unused) free (at .inv .1) (w .0 .taken)))
@@ -52,10 +52,14 @@ add-if2 : tie.Need-add-if2 Inv-loop μ-loop
 add-if2 c = search needs
 
 returns : tie.Need-returns Inv-loop μ-loop
-returns c = λ q. c .if2 .taken (omega (arith, c .before .wide .ensures, c .before .before .before .loop .inv .1 .2 (λ k l. q k (omega arith))))
+returns c =
+    let at-loop : tie.At-loop Inv-loop μ-loop = search in
+    λ q. c .if2 .taken (omega (arith, c .before .wide .ensures, at-loop .loop .inv .1 .2 (λ k l. q k (omega arith))))
 
 returns-2 : tie.Need-returns-2 Inv-loop μ-loop
-returns-2 c = λ k h. c .before .before .before .loop .inv .1 .1 (omega (arith, c .before .wide .ensures)) k (omega arith)
+returns-2 c =
+    let at-loop : tie.At-loop Inv-loop μ-loop = search in
+    λ k h. at-loop .loop .inv .1 .1 (omega (arith, c .before .wide .ensures)) k (omega arith)
 
 pub rest-unused-spec : {M : Type 1} → statement M
 rest-unused-spec =

@@ -16,19 +16,20 @@ returns-2 c = λ p. denied _ (c .before .all-named .result) (c .before .all-name
 
 rest-unused-requires : tie.Need-rest-unused-requires
 rest-unused-requires c κs =
-    let at1 = c .before .before .before .before in
+    let start : tie.Start = search in
     let named = granted _ (c .before .all-named .result) (c .before .all-named .ensures) (c .if2 .left) in
-    (at1 .pre, (omega arith, λ i l e. omega (arith, named i l .bank, at1 .fits .banks)))
+    (start .pre, (omega arith, λ i l e. omega (arith, named i l .bank, start .fits .banks)))
 
 returns-3 : tie.Need-returns-3
 returns-3 c = λ p. denied _ (c .before .rest-unused .result) (c .before .rest-unused .ensures) (c .if3 .taken) (p .rest)
 
 returns-4 : tie.Need-returns-4
 returns-4 c =
-    let at1 = c .before .before .before in
+    let else2 : tie.Else2 = search in
+    let after-all-named : tie.After-all-named = search in
     record {
       few = omega arith;
-      named = granted _ (at1 .all-named .result) (at1 .all-named .ensures) (c .before .before .if2 .left);
+      named = granted _ (after-all-named .all-named .result) (after-all-named .all-named .ensures) (else2 .if2 .left);
       rest = granted _ (c .before .rest-unused .result) (c .before .rest-unused .ensures) (c .if3 .left);
     }
 

@@ -23,8 +23,8 @@ mul-wide c = search needs
 
 shared-slice-read-wide : tie.Need-shared-slice-read-wide Inv-loop μ-loop
 shared-slice-read-wide c =
-    let at1 = c .before .before .before .before .before .before in
-    omega (arith, at1 .pre .0 .ground .rows .long-degrees, at1 .pre .1)
+    let start : tie.Start Inv-loop μ-loop = search in
+    omega (arith, start .pre .0 .ground .rows .long-degrees, start .pre .1)
 
 wide-requires : tie.Need-wide-requires Inv-loop μ-loop
 wide-requires c κs = search needs
@@ -34,23 +34,25 @@ mul-wide-2 c = search needs
 
 element-copy-out-wide : tie.Need-element-copy-out-wide Inv-loop μ-loop
 element-copy-out-wide c =
-    let at1 = c .before .before .before .before .before .before .before in
-    omega (arith, at1 .pre .0 .ground .rows .most, at1 .pre .1)
+    let start : tie.Start Inv-loop μ-loop = search in
+    omega (arith, start .pre .0 .ground .rows .most, start .pre .1)
 
 wide-requires-2 : tie.Need-wide-requires-2 Inv-loop μ-loop
 wide-requires-2 c κs = search needs
 
 loop-holds : tie.Need-loop-holds Inv-loop μ-loop
 loop-holds c =
-    let at1 = c .before .before .before .before .before .before .before .before .before in
-    let p = at1 .pre in
-    (omega (arith, c .wide2 .ensures, c .before .before .wide .ensures, p .0 .ground .within (at1 .args .b .0) (p .1)), walk-start (p .0) (p .1) (c .wide2 .ensures))
+    let after-wide : tie.After-wide Inv-loop μ-loop = search in
+    let start : tie.Start Inv-loop μ-loop = search in
+    let p = start .pre in
+    (omega (arith, c .wide2 .ensures, after-wide .wide .ensures, p .0 .ground .within (start .args .b .0) (p .1)), walk-start (p .0) (p .1) (c .wide2 .ensures))
 
 match-one-requires : tie.Need-match-one-requires Inv-loop μ-loop
 match-one-requires c κs =
-    let at1 = c .before .before .before in
-    let at2 = at1 .before .before .before in
-    (at1 .loop .inv .1, omega (arith, at2 .wide .ensures, c .before .before .loop-test .taken))
+    let in-loop : tie.In-loop Inv-loop μ-loop = search in
+    let at-loop : tie.At-loop Inv-loop μ-loop = search in
+    let after-wide : tie.After-wide Inv-loop μ-loop = search in
+    (at-loop .loop .inv .1, omega (arith, after-wide .wide .ensures, in-loop .loop-test .taken))
 
 returns : tie.Need-returns Inv-loop μ-loop
 returns c = is-not _ _ _ (c .before .match-one .result) (c .before .match-one .ensures) (c .if1 .taken)
@@ -66,10 +68,10 @@ loop-again c = (search needs, goes-on _ _ _ (c .before .match-one .result) (c .b
 
 returns-2 : tie.Need-returns-2 Inv-loop μ-loop
 returns-2 c =
-    let at1 = c .before .before .before .before in
-    let at2 = at1 .before .before .before .before .before .before .before in
-    let a = at2 .args in
-    let e : c .before .loop .i ≡ getD (a .degrees .now) (a .b .0) 0 = omega (arith, at1 .wide .ensures) in
+    let after-wide : tie.After-wide Inv-loop μ-loop = search in
+    let start : tie.Start Inv-loop μ-loop = search in
+    let a = start .args in
+    let e : c .before .loop .i ≡ getD (a .degrees .now) (a .b .0) 0 = omega (arith, after-wide .wide .ensures) in
     walk-end (rw e at (c .before .loop .inv .1))
 
 pub row-matched-spec : {M : Type 1} → statement M

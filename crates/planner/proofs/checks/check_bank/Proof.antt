@@ -15,15 +15,15 @@ returns c =
 
 returns-2 : tie.Need-returns-2
 returns-2 c =
-    let at1 = c .before .before .before in
-    let at2 = at1 .before in
-    (sym (bank-far _ _ _ (sym (at2 .check-plan .ensures .0) ∙ at1 .if1 .left) (c .if2 .taken)), λ z. absurd (omega (arith, z)))
+    let else1 : tie.Else1 = search in
+    let after-check-plan : tie.After-check-plan = search in
+    (sym (bank-far _ _ _ (sym (after-check-plan .check-plan .ensures .0) ∙ else1 .if1 .left) (c .if2 .taken)), λ z. absurd (omega (arith, z)))
 
 returns-3 : tie.Need-returns-3
 returns-3 c =
-    let at1 = c .before .before .before in
-    let at2 = at1 .before in
-    (sym (bank-fine _ _ _ (sym (at2 .check-plan .ensures .0) ∙ at1 .if1 .left) (c .if2 .left)), λ z. (at2 .check-plan .ensures .1 (at1 .if1 .left), c .if2 .left))
+    let else1 : tie.Else1 = search in
+    let after-check-plan : tie.After-check-plan = search in
+    (sym (bank-fine _ _ _ (sym (after-check-plan .check-plan .ensures .0) ∙ else1 .if1 .left) (c .if2 .left)), λ z. (after-check-plan .check-plan .ensures .1 (else1 .if1 .left), c .if2 .left))
 
 pub check-bank-spec : {M : Type 1} → statement M
 check-bank-spec = tie.close (tie.spec check-plan-requires returns returns-2 returns-3)

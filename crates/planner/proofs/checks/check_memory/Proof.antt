@@ -12,19 +12,22 @@ wide-requires c κs = search needs
 
 returns : tie.Need-returns
 returns c =
-    let a = c .before .before .before .before .before .before .before .before .before .args in
+    let start : tie.Start = search in
+    let a = start .args in
     let m = given (a .neighbours) (a .degrees) (a .waves) (a .counts) (a .ranks) (a .trail) (a .moved) (a .tally) in
     (sym (memory-many m (omega arith)), λ z. absurd (omega (arith, z)))
 
 returns-2 : tie.Need-returns-2
 returns-2 c =
-    let a = c .before .before .before .before .before .before .before .before .before .before .args in
+    let start : tie.Start = search in
+    let a = start .args in
     let m = given (a .neighbours) (a .degrees) (a .waves) (a .counts) (a .ranks) (a .trail) (a .moved) (a .tally) in
     (sym (trail-short m (omega arith) (omega arith)), λ z. absurd (omega (arith, z)))
 
 returns-3 : tie.Need-returns-3
 returns-3 c =
-    let a = c .before .before .before .before .before .before .before .before .before .before .before .args in
+    let start : tie.Start = search in
+    let a = start .args in
     let m = given (a .neighbours) (a .degrees) (a .waves) (a .counts) (a .ranks) (a .trail) (a .moved) (a .tally) in
     (sym (moved-short m (omega arith) (omega arith) (omega arith)), λ z. absurd (omega (arith, z)))
 
@@ -33,7 +36,8 @@ check-plan-requires c κs = search needs
 
 returns-4 : tie.Need-returns-4
 returns-4 c =
-    let a = c .before .before .before .before .before .before .before .before .before .before .before .before .args in
+    let start : tie.Start = search in
+    let a = start .args in
     let m = given (a .neighbours) (a .degrees) (a .waves) (a .counts) (a .ranks) (a .trail) (a .moved) (a .tally) in (
       c .check-plan .ensures .0 ∙ sym (memory-plan m (omega arith) (omega arith)),
       λ z. number-ready m (omega arith) (omega arith) (sym (c .check-plan .ensures .0) ∙ z),

@@ -25,15 +25,17 @@ holds-plan-requires c κs = (omega arith, sym (c .before .long-enough .ensures) 
 
 returns-3 : tie.Need-returns-3
 returns-3 c =
-    let at1 = c .before .before .before in (
-      sym (plan-none _ _ (omega arith) (sym (at1 .long-enough .ensures) ∙ not-false _ (c .before .before .if2 .left)) (sym (c .before .holds-plan .ensures) ∙ not-true _ (c .if3 .taken))),
+    let else2 : tie.Else2 = search in
+    let after-long-enough : tie.After-long-enough = search in (
+      sym (plan-none _ _ (omega arith) (sym (after-long-enough .long-enough .ensures) ∙ not-false _ (else2 .if2 .left)) (sym (c .before .holds-plan .ensures) ∙ not-true _ (c .if3 .taken))),
       λ z. absurd (omega (arith, z)),
     )
 
 returns-4 : tie.Need-returns-4
 returns-4 c =
-    let at1 = c .before .before .before in
-    let e = plan-fine _ _ (omega arith) (sym (at1 .long-enough .ensures) ∙ not-false _ (c .before .before .if2 .left)) (sym (c .before .holds-plan .ensures) ∙ not-false _ (c .if3 .left)) in
+    let else2 : tie.Else2 = search in
+    let after-long-enough : tie.After-long-enough = search in
+    let e = plan-fine _ _ (omega arith) (sym (after-long-enough .long-enough .ensures) ∙ not-false _ (else2 .if2 .left)) (sym (c .before .holds-plan .ensures) ∙ not-false _ (c .if3 .left)) in
     (sym e, λ z. number-plan _ _ e)
 
 pub check-plan-spec : {M : Type 1} → statement M

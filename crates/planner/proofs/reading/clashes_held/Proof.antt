@@ -19,17 +19,18 @@ mul-wide c = search needs
 
 shared-slice-read-wide : tie.Need-shared-slice-read-wide
 shared-slice-read-wide c =
-    let at1 = c .before .before .before .before .before .before .before in
-    omega (arith, degree-cell (at1 .pre .0 .1) (at1 .pre .1), c .before .wide .ensures)
+    let start : tie.Start = search in
+    omega (arith, degree-cell (start .pre .0 .1) (start .pre .1), c .before .wide .ensures)
 
 wide-requires-2 : tie.Need-wide-requires-2
 wide-requires-2 c κs = search needs
 
 add-end : tie.Need-add-end
 add-end c =
-    let at1 = c .before .before .before .before .before .before .before .before in
-    let d = ap (λ (k : ℕ). getD (at1 .args .degrees .now) k 0) (c .before .before .wide .ensures) in
-    omega (arith, few-cells (at1 .pre .0 .1) (at1 .pre .1), c .wide2 .ensures)
+    let after-wide : tie.After-wide = search in
+    let start : tie.Start = search in
+    let d = ap (λ (k : ℕ). getD (start .args .degrees .now) k 0) (after-wide .wide .ensures) in
+    omega (arith, few-cells (start .pre .0 .1) (start .pre .1), c .wide2 .ensures)
 
 mul-result : tie.Need-mul-result
 mul-result c = search needs
@@ -42,17 +43,18 @@ part-result-start c = search needs
 
 part-result-end : tie.Need-part-result-end
 part-result-end c =
-    let at1 = c .before .before .before .before .before .before .before .before in
-    let d = ap (λ (k : ℕ). getD (at1 .args .degrees .now) k 0) (c .before .before .wide .ensures) in
-    omega (arith, few-cells (at1 .pre .0 .1) (at1 .pre .1), row-cells (at1 .pre .0 .1) (at1 .pre .1), c .wide2 .ensures, c .before .before .wide .ensures)
+    let after-wide : tie.After-wide = search in
+    let start : tie.Start = search in
+    let d = ap (λ (k : ℕ). getD (start .args .degrees .now) k 0) (after-wide .wide .ensures) in
+    omega (arith, few-cells (start .pre .0 .1) (start .pre .1), row-cells (start .pre .0 .1) (start .pre .1), c .wide2 .ensures, after-wide .wide .ensures)
 
 returns : tie.Need-returns
 returns c =
-    let at1 = c .before .before .before in
-    let at2 = at1 .before .before .before .before .before .before in
+    let after-wide : tie.After-wide = search in
+    let start : tie.Start = search in
     λ G p.
-    row-part p (at2 .pre .1) (at1 .wide .result) (c .before .wide2 .result) (at1 .wide .ensures)
-    (c .before .wide2 .ensures ∙ ap (λ (k : ℕ). getD (at2 .args .degrees .now) k 0) (at1 .wide .ensures))
+    row-part p (start .pre .1) (after-wide .wide .result) (c .before .wide2 .result) (after-wide .wide .ensures)
+    (c .before .wide2 .ensures ∙ ap (λ (k : ℕ). getD (start .args .degrees .now) k 0) (after-wide .wide .ensures))
 
 pub clashes-held-spec : {M : Type 1} → statement M
 clashes-held-spec =

@@ -18,15 +18,18 @@ part-result-end : tie.Need-part-result-end
 part-result-end c = search needs
 
 returns : tie.Need-returns
-returns c = clashes-refused _ _ _ _ (c .before .before .check-bank .ensures .0) (c .before .if1 .taken)
+returns c =
+    let after-check-bank : tie.After-check-bank = search in
+    clashes-refused _ _ _ _ (after-check-bank .check-bank .ensures .0) (c .before .if1 .taken)
 
 clashes-held-requires : tie.Need-clashes-held-requires
 clashes-held-requires c κs = let h = c .before .check-bank .ensures .1 (c .if1 .left) in ((_, h .0), h .1)
 
 returns-2 : tie.Need-returns-2
 returns-2 c =
-    let h = c .before .before .check-bank .ensures .1 (c .before .if1 .left) in
-    c .clashes-held .ensures _ (h .0) ∙ clashes-found _ _ _ (sym (c .before .if1 .left) ∙ c .before .before .check-bank .ensures .0)
+    let after-check-bank : tie.After-check-bank = search in
+    let h = after-check-bank .check-bank .ensures .1 (c .before .if1 .left) in
+    c .clashes-held .ensures _ (h .0) ∙ clashes-found _ _ _ (sym (c .before .if1 .left) ∙ after-check-bank .check-bank .ensures .0)
 
 pub clashes-of-spec : {M : Type 1} → statement M
 clashes-of-spec =

@@ -22,16 +22,18 @@ mul-t12 c = search needs
 
 shared-slice-read-t14 : tie.Need-shared-slice-read-t14
 shared-slice-read-t14 c =
-    let at1 = c .before .before .before in
-    let h = at1 .check-bank .ensures .1 (c .before .before .if1 .left) in omega (arith, wave-cell (h .0) (h .1), c .before .wide .ensures)
+    let else1 : tie.Else1 = search in
+    let after-check-bank : tie.After-check-bank = search in
+    let h = after-check-bank .check-bank .ensures .1 (else1 .if1 .left) in omega (arith, wave-cell (h .0) (h .1), c .before .wide .ensures)
 
 returns-2 : tie.Need-returns-2
 returns-2 c =
-    let at1 = c .before .before .before in
-    let at2 = at1 .before .before .before .before .before .before in
-    let z = sym (c .before .before .if1 .left) ∙ at1 .check-bank .ensures .0 in
-    let h = at1 .check-bank .ensures .1 (c .before .before .if1 .left) in
-    (z, ap (λ (k : ℕ). getD (at2 .args .waves .now) k 0) (c .before .wide .ensures) ∙ plan-wave (h .0) (h .1) ∙ wave-found _ _ _ z)
+    let else1 : tie.Else1 = search in
+    let after-check-bank : tie.After-check-bank = search in
+    let start : tie.Start = search in
+    let z = sym (else1 .if1 .left) ∙ after-check-bank .check-bank .ensures .0 in
+    let h = after-check-bank .check-bank .ensures .1 (else1 .if1 .left) in
+    (z, ap (λ (k : ℕ). getD (start .args .waves .now) k 0) (c .before .wide .ensures) ∙ plan-wave (h .0) (h .1) ∙ wave-found _ _ _ z)
 
 pub wave-of-spec : {M : Type 1} → statement M
 wave-of-spec =

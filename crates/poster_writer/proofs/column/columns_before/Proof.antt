@@ -8,10 +8,14 @@ returns : tie.Need-returns
 returns c = omega (arith, length-low _ (c .if1 .taken))
 
 returns-2 : tie.Need-returns-2
-returns-2 c = omega (arith, length-decimal 1 _ (c .before .before .if1 .left) (c .if2 .taken))
+returns-2 c =
+    let else1 : tie.Else1 = search in
+    omega (arith, length-decimal 1 _ (else1 .if1 .left) (c .if2 .taken))
 
 returns-3 : tie.Need-returns-3
-returns-3 c = omega (arith, length-decimal 2 _ (c .before .before .if2 .left) (c .if3 .taken))
+returns-3 c =
+    let else2 : tie.Else2 = search in
+    omega (arith, length-decimal 2 _ (else2 .if2 .left) (c .if3 .taken))
 
 returns-4 : tie.Need-returns-4
 returns-4 c = omega (arith, length-decimal 3 _ (c .if3 .left) (omega arith))

@@ -15,15 +15,18 @@ columns-before-requires : tie.Need-columns-before-requires
 columns-before-requires c κs = search needs
 
 put-spaces-requires : tie.Need-put-spaces-requires
-put-spaces-requires c κs = omega (arith, c .columns-before .ensures, c .before .before .before .pre .1)
+put-spaces-requires c κs =
+    let start : tie.Start = search in
+    omega (arith, c .columns-before .ensures, start .pre .1)
 
 put-number-requires : tie.Need-put-number-requires
 put-number-requires c κs =
-    let p = c .before .before .before in
-    let start = p .before .before .before .before in
+    let p : tie.After-put-spaces = search in
+    let after-columns-before : tie.After-columns-before = search in
+    let start : tie.Start = search in
     let b = start .args .b .0 in
     let small = start .pre .0 in
-    let next = rw (p .before .columns-before .ensures) at (p .put-spaces .ensures .next) in
+    let next = rw (after-columns-before .columns-before .ensures) at (p .put-spaces .ensures .next) in
     omega (arith, few-digits 3 b (omega arith), length-spaces (5 - length (decimal b)), p .put-spaces .kept .0, start .pre .1)
 
 same-length : tie.Need-same-length
@@ -32,16 +35,18 @@ same-length c = search needs
 returns : tie.Need-returns
 unfolding rightAligned
 returns c =
-    let p = c .before .before .before .before .before .before in
-    let start = p .before .before .before .before in
+    let after-put-number : tie.After-put-number = search in
+    let p : tie.After-put-spaces = search in
+    let after-columns-before : tie.After-columns-before = search in
+    let start : tie.Start = search in
     let a = start .args in
     let digits = decimal (a .b .0) in
     let small = start .pre .0 in
     let room = start .pre .1 in
     let few = few-digits 3 (a .b .0) (omega arith) in
     let long = length-spaces (5 - length digits) in
-    let spaces = rw (p .before .columns-before .ensures) at (p .put-spaces .ensures) in
-    puts-then (replicate (5 - length digits) 32) digits (a .at) (a .out .now) (omega arith) _ _ _ _ spaces (c .before .before .put-number .ensures)
+    let spaces = rw (after-columns-before .columns-before .ensures) at (p .put-spaces .ensures) in
+    puts-then (replicate (5 - length digits) 32) digits (a .at) (a .out .now) (omega arith) _ _ _ _ spaces (after-put-number .put-number .ensures)
 
 pub put-aligned-spec : {M : Type 1} → statement M
 put-aligned-spec = tie.close (tie.spec columns-before-requires put-spaces-requires put-number-requires same-length returns)

@@ -17,10 +17,10 @@ put-spaces-requires c κs = search needs
 
 put-byte-requires : tie.Need-put-byte-requires
 put-byte-requires c κs =
-    let at1 = c .before .before .before in
-    let at2 = at1 .before .before .before in
-    let p = at1 .put-spaces in
-    let start = at2 in
+    let after-put-spaces : tie.After-put-spaces = search in
+    let at-start : tie.Start = search in
+    let p = after-put-spaces .put-spaces in
+    let start = at-start in
     omega (arith, length-spaces (40 - start .args .used), p .ensures .next, p .kept .0, start .pre .1)
 
 same-length : tie.Need-same-length
@@ -28,14 +28,15 @@ same-length c = search needs
 
 returns : tie.Need-returns
 returns c =
-    let at1 = c .before .before .before .before .before .before in
-    let at2 = at1 .before .before .before in
-    let p = at1 .put-spaces in
-    let start = at2 in
+    let after-put-byte : tie.After-put-byte = search in
+    let after-put-spaces : tie.After-put-spaces = search in
+    let at-start : tie.Start = search in
+    let p = after-put-spaces .put-spaces in
+    let start = at-start in
     let a = start .args in
     let long = length-spaces (40 - a .used) in
     let room = start .pre .1 in
-    puts-then (replicate (40 - a .used) 32) (10 ∷ []) (a .at) (a .out .now) (omega arith) _ _ _ _ (p .ensures) (c .before .before .put-byte .ensures)
+    puts-then (replicate (40 - a .used) 32) (10 ∷ []) (a .at) (a .out .now) (omega arith) _ _ _ _ (p .ensures) (after-put-byte .put-byte .ensures)
 
 pub put-end-spec : {M : Type 1} → statement M
 put-end-spec = tie.close (tie.spec sub-put-spaces put-spaces-requires put-byte-requires same-length returns)

@@ -23,8 +23,10 @@ loop-holds c = (puts-none _ _, omega arith, refl)
 
 put-byte-requires : tie.Need-put-byte-requires Inv-loop μ-loop
 put-byte-requires c κs =
-    let w = c .before .before .loop in
-    omega (arith, length-spaces (w .i), w .inv .0 .next, w .inv .2, c .before .before .before .before .pre)
+    let at-loop : tie.At-loop Inv-loop μ-loop = search in
+    let start : tie.Start Inv-loop μ-loop = search in
+    let w = at-loop .loop in
+    omega (arith, length-spaces (w .i), w .inv .0 .next, w .inv .2, start .pre)
 
 add-i : tie.Need-add-i Inv-loop μ-loop
 add-i c = search needs
@@ -34,16 +36,17 @@ loop-less c = search needs
 
 loop-again : tie.Need-loop-again Inv-loop μ-loop
 loop-again c =
-    let at1 = c .before .before .before .before in
-    let at2 = at1 .before in
-    let p = at2 in
+    let after-put-byte : tie.After-put-byte Inv-loop μ-loop = search in
+    let in-loop : tie.In-loop Inv-loop μ-loop = search in
+    let at-loop : tie.At-loop Inv-loop μ-loop = search in
+    let p = at-loop in
     let w = p .loop in
     let start = p .before .before in
     let a = start .args in
     let long = length-spaces (w .i) in
-    let test = at1 .loop-test .taken in
+    let test = in-loop .loop-test .taken in
     let room = start .pre in
-    let one = c .before .before .put-byte in
+    let one = after-put-byte .put-byte in
     let more = puts-then (replicate (w .i) 32) (32 ∷ []) (a .at) (a .out .now) (omega arith) _ _ _ _ (w .inv .0) (one .ensures) in
     (rw (replicate-next {A = ℕ} (w .i) 32) more, omega arith, one .kept .0 ∙ w .inv .2)
 
@@ -52,8 +55,9 @@ same-length c = search needs
 
 returns : tie.Need-returns Inv-loop μ-loop
 returns c =
+    let start : tie.Start Inv-loop μ-loop = search in
     let w = c .before .loop in
-    let e : w .i ≡ c .before .before .before .args .count = omega arith in
+    let e : w .i ≡ start .args .count = omega arith in
     rw e at (w .inv .0)
 
 pub put-spaces-spec : {M : Type 1} → statement M

@@ -33,11 +33,12 @@ shared-slice-read-t11 c = search needs
 
 put-aligned-requires : tie.Need-put-aligned-requires Inv-loop μ-loop
 put-aligned-requires c κs =
-    let at1 = c .before .before .before in
-    let at2 = at1 .before .before .before in
-    let w = at1 .loop in
-    let test = c .before .before .loop-test .taken in
-    let start = at2 in
+    let in-loop : tie.In-loop Inv-loop μ-loop = search in
+    let at-loop : tie.At-loop Inv-loop μ-loop = search in
+    let at-start : tie.Start Inv-loop μ-loop = search in
+    let w = at-loop .loop in
+    let test = in-loop .loop-test .taken in
+    let start = at-start in
     let banks = start .args .banks .now in
     let small = start .pre .0 in (
       small _ (in-cell (w .i) banks test),
@@ -52,21 +53,22 @@ loop-less c = search needs
 
 loop-again : tie.Need-loop-again Inv-loop μ-loop
 loop-again c =
-    let at1 = c .before .before .before .before .before in
-    let at2 = at1 .before in
-    let p = at2 in
+    let after-put-aligned : tie.After-put-aligned Inv-loop μ-loop = search in
+    let in-loop : tie.In-loop Inv-loop μ-loop = search in
+    let at-loop : tie.At-loop Inv-loop μ-loop = search in
+    let p = at-loop in
     let w = p .loop in
     let start = p .before .before .before in
     let a = start .args in
     let banks = a .banks .now in
     let small = start .pre .0 in
     let room = start .pre .1 in
-    let test = at1 .loop-test .taken in
+    let test = in-loop .loop-test .taken in
     let columns = joined (map rightAligned (take (w .i) banks)) in
     let bank = getD banks (w .i) 0 in
     let long = columns-before banks small (w .i) (w .inv .1) in
     let five = length-aligned bank (small _ (in-cell (w .i) banks test)) in
-    let one = c .before .before .put-aligned in
+    let one = after-put-aligned .put-aligned in
     let more = puts-then columns (rightAligned bank) (a .at) (a .out .now) (omega arith) _ _ _ _ (w .inv .0) (one .ensures) in
     (rw (columns-next banks (w .i) test) more, omega arith, one .kept .0 ∙ w .inv .2)
 
@@ -75,8 +77,9 @@ same-length c = search needs
 
 returns : tie.Need-returns Inv-loop μ-loop
 returns c =
+    let start : tie.Start Inv-loop μ-loop = search in
     let w = c .before .loop in
-    rw (take-all (w .i) (c .before .before .before .before .args .banks .now) (omega arith)) at (w .inv .0)
+    rw (take-all (w .i) (start .args .banks .now) (omega arith)) at (w .inv .0)
 
 pub put-banks-spec : {M : Type 1} → statement M
 put-banks-spec =

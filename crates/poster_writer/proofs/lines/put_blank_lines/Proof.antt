@@ -25,9 +25,10 @@ loop-holds c = (rw no-blanks (puts-none _ _), omega arith, refl)
 
 put-end-requires : tie.Need-put-end-requires Inv-loop μ-loop
 put-end-requires c κs =
-    let at1 = c .before .before .before .before in
-    let w = c .before .before .loop in
-    (omega arith, omega (arith, length-blanks (w .i), w .inv .0 .next, w .inv .2, c .before .loop-test .taken, at1 .pre))
+    let at-loop : tie.At-loop Inv-loop μ-loop = search in
+    let start : tie.Start Inv-loop μ-loop = search in
+    let w = at-loop .loop in
+    (omega arith, omega (arith, length-blanks (w .i), w .inv .0 .next, w .inv .2, c .before .loop-test .taken, start .pre))
 
 add-i : tie.Need-add-i Inv-loop μ-loop
 add-i c = search needs
@@ -37,16 +38,17 @@ loop-less c = search needs
 
 loop-again : tie.Need-loop-again Inv-loop μ-loop
 loop-again c =
-    let at1 = c .before .before .before .before in
-    let at2 = at1 .before in
-    let p = at2 in
+    let after-put-end : tie.After-put-end Inv-loop μ-loop = search in
+    let in-loop : tie.In-loop Inv-loop μ-loop = search in
+    let at-loop : tie.At-loop Inv-loop μ-loop = search in
+    let p = at-loop in
     let w = p .loop in
     let start = p .before .before in
     let a = start .args in
     let long = length-blanks (w .i) in
-    let test = at1 .loop-test .taken in
+    let test = in-loop .loop-test .taken in
     let room = start .pre in
-    let one = c .before .before .put-end in
+    let one = after-put-end .put-end in
     let lines = joined (replicate (w .i) (padded [])) in
     let size = length-blank in
     let more = puts-then lines (padded []) (a .at) (a .out .now) (omega arith) _ _ _ _ (w .inv .0) (rw (← blank-is) at (one .ensures)) in
@@ -57,8 +59,9 @@ same-length c = search needs
 
 returns : tie.Need-returns Inv-loop μ-loop
 returns c =
+    let start : tie.Start Inv-loop μ-loop = search in
     let w = c .before .loop in
-    let e : w .i ≡ c .before .before .before .args .count = omega arith in
+    let e : w .i ≡ start .args .count = omega arith in
     rw e at (w .inv .0)
 
 pub put-blank-lines-spec : {M : Type 1} → statement M

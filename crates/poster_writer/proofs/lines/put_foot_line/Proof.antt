@@ -13,15 +13,17 @@ use Rattle.poster_writer.proofs.lines.put_foot_line.Statement.{statemen
 use Rattle.poster_writer.proofs.lines.put_foot_line.Tie as tie
 
 put-foot-requires : tie.Need-put-foot-requires
-put-foot-requires c κs = omega (arith, c .before .before .pre .0, c .before .before .pre .1)
+put-foot-requires c κs =
+    let start : tie.Start = search in
+    omega (arith, start .pre .0, start .pre .1)
 
 sub-put-end : tie.Need-sub-put-end
 sub-put-end c = search needs
 
 put-end-requires : tie.Need-put-end-requires
 put-end-requires c κs =
-    let p = c .before .before .before in
-    let start = p .before .before .before in
+    let p : tie.After-put-foot = search in
+    let start : tie.Start = search in
     let foot = p .put-foot in
     (omega (arith, start .pre .0, foot .ensures .next), omega (arith, start .pre .1, foot .ensures .next, foot .kept .0))
 
@@ -31,15 +33,16 @@ same-length c = search needs
 returns : tie.Need-returns
 unfolding footLine padded
 returns c =
-    let p = c .before .before .before .before .before .before in
-    let start = p .before .before .before in
+    let after-put-end : tie.After-put-end = search in
+    let p : tie.After-put-foot = search in
+    let start : tie.Start = search in
     let a = start .args in
     let foot = p .put-foot .ensures in
     let text = footText (a .tally .banks) (a .tally .clashes) in
     let short = start .pre .0 in
     let room = start .pre .1 in
     let used : p .put-foot .result - a .at ≡ length text = omega (arith, foot .next) in
-    let end = rw used at (c .before .before .put-end .ensures) in
+    let end = rw used at (after-put-end .put-end .ensures) in
     puts-then text (replicate (40 - length text) 32 ++ (10 ∷ [])) (a .at) (a .out .now) (omega (arith, length-end (length text))) _ _ _ _ foot end
 
 pub put-foot-line-spec : {M : Type 1} → statement M

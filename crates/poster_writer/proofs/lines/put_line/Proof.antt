@@ -13,34 +13,34 @@ put-byte-requires-2 c κs = search needs
 
 put-banks-requires : tie.Need-put-banks-requires
 put-banks-requires c κs =
-    let at1 = c .before .before .before in
-    let at2 = at1 .before .before .before .before in
-    let at3 = at2 .before .before .before .before in
-    let q = at1 .put-byte2 in
-    let p = at2 .put-byte in
-    let start = at3 in
+    let after-put-byte2 : tie.After-put-byte2 = search in
+    let after-put-byte : tie.After-put-byte = search in
+    let at-start : tie.Start = search in
+    let q = after-put-byte2 .put-byte2 in
+    let p = after-put-byte .put-byte in
+    let start = at-start in
     (start .pre .0, omega (arith, p .ensures .next, p .kept .0, q .ensures .next, q .kept .0, start .pre .1, start .pre .2))
 
 sub-put-end : tie.Need-sub-put-end
 sub-put-end c =
-    let at1 = c .before .before .before in
-    let at2 = at1 .before .before .before .before in
-    let at3 = at2 .before .before .before .before in
-    let s = at1 .put-banks in
-    let q = at2 .put-byte2 in
-    let p = at3 .put-byte in
+    let after-put-banks : tie.After-put-banks = search in
+    let after-put-byte2 : tie.After-put-byte2 = search in
+    let after-put-byte : tie.After-put-byte = search in
+    let s = after-put-banks .put-banks in
+    let q = after-put-byte2 .put-byte2 in
+    let p = after-put-byte .put-byte in
     omega (arith, p .ensures .next, q .ensures .next, s .ensures .next)
 
 put-end-requires : tie.Need-put-end-requires
 put-end-requires c κs =
-    let at1 = c .before .before .before in
-    let at2 = at1 .before .before .before .before in
-    let at3 = at2 .before .before .before .before in
-    let at4 = at3 .before .before .before .before in
-    let s = at1 .put-banks in
-    let q = at2 .put-byte2 in
-    let p = at3 .put-byte in
-    let start = at4 in
+    let after-put-banks : tie.After-put-banks = search in
+    let after-put-byte2 : tie.After-put-byte2 = search in
+    let after-put-byte : tie.After-put-byte = search in
+    let at-start : tie.Start = search in
+    let s = after-put-banks .put-banks in
+    let q = after-put-byte2 .put-byte2 in
+    let p = after-put-byte .put-byte in
+    let start = at-start in
     let long = length-columns (start .args .banks .now) (start .pre .0) in
     let few = start .pre .1 in
     let room = start .pre .2 in (
@@ -53,17 +53,18 @@ same-length c = search needs
 
 returns : tie.Need-returns
 returns c =
-    let at1 = c .before .before .before .before .before .before in
-    let at2 = at1 .before .before .before .before in
-    let at3 = at2 .before .before .before .before in
-    let s = at1 .put-banks in
-    let q = at2 .put-byte2 in
-    let p = at3 in
+    let after-put-end : tie.After-put-end = search in
+    let after-put-banks : tie.After-put-banks = search in
+    let after-put-byte2 : tie.After-put-byte2 = search in
+    let after-put-byte : tie.After-put-byte = search in
+    let s = after-put-banks .put-banks in
+    let q = after-put-byte2 .put-byte2 in
+    let p = after-put-byte in
     let start = p .before .before .before .before in
     let a = start .args in
     let pre = start .pre in
     puts-line (a .mark) (a .banks .now) (pre .0) (pre .1) (a .at) (a .out .now) (pre .2) _ _ _ _ _ _ _ _ (p .put-byte .kept .0)
-    (p .put-byte .ensures) (q .ensures) (s .ensures) (c .before .before .put-end .ensures)
+    (p .put-byte .ensures) (q .ensures) (s .ensures) (after-put-end .put-end .ensures)
 
 pub put-line-spec : {M : Type 1} → statement M
 put-line-spec =

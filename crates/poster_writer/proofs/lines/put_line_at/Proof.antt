@@ -27,8 +27,8 @@ part-put-line-end c = search needs
 
 put-line-requires : tie.Need-put-line-requires
 put-line-requires c κs =
-    let p = c .before .before .before in
-    let start = p .before .before .before in
+    let p : tie.After-line-end = search in
+    let start : tie.Start = search in
     let fits = part-fits (start .args .banks .now) _ _ (start .pre .1) (p .line-end .ensures) in
     (fits .0, fits .1, start .pre .4)
 
@@ -37,14 +37,15 @@ same-length c = search needs
 
 returns : tie.Need-returns
 returns c =
-    let at1 = c .before .before .before .before in
-    let at2 = at1 .before .before in
-    let mark = at1 .mark-of .ensures in
-    let p = at2 in
+    let after-put-line : tie.After-put-line = search in
+    let after-mark-of : tie.After-mark-of = search in
+    let after-line-end : tie.After-line-end = search in
+    let mark = after-mark-of .mark-of .ensures in
+    let p = after-line-end in
     let start = p .before .before .before in
     let a = start .args in
     let banks = a .banks .now in
-    rw (line-at (a .c .0) banks (a .i) (start .pre .3), part-at banks (a .i) _ (p .line-end .ensures), ← mark) (c .before .before .put-line .ensures)
+    rw (line-at (a .c .0) banks (a .i) (start .pre .3), part-at banks (a .i) _ (p .line-end .ensures), ← mark) (after-put-line .put-line .ensures)
 
 pub put-line-at-spec : {M : Type 1} → statement M
 put-line-at-spec =

@@ -27,21 +27,23 @@ lines-for-requires c κs = search needs
 
 loop-holds : tie.Need-loop-holds Inv-loop μ-loop
 loop-holds c =
-    let a = c .before .before .before .args in
+    let start : tie.Start Inv-loop μ-loop = search in
+    let a = start .args in
     (rw (no-lines (linesWith (a .c .0) (a .banks .now))) (puts-none _ _), omega arith, refl)
 
 put-line-at-requires : tie.Need-put-line-at-requires Inv-loop μ-loop
 put-line-at-requires c κs =
-    let at1 = c .before .before .before in
-    let at2 = at1 .before .before .before in
-    let w = c .before .before .loop in
-    let start = at2 in
+    let at-loop : tie.At-loop Inv-loop μ-loop = search in
+    let after-lines-for : tie.After-lines-for Inv-loop μ-loop = search in
+    let at-start : tie.Start Inv-loop μ-loop = search in
+    let w = at-loop .loop in
+    let start = at-start in
     let a = start .args in
     let pre = start .pre in
     let banks = a .banks .now in
     let ls = linesWith (a .c .0) banks in
     let test = c .before .loop-test .taken in
-    let count = at1 .lines-for .ensures in
+    let count = after-lines-for .lines-for .ensures in
     let at-line : w .i < length ls = omega (arith, length-lines (a .c .0) banks, count, test) in
     let room = lines-room ls (w .i) at-line (wave-rows (a .c .0) banks (pre .1)) in
     (pre .0, pre .1, pre .2, omega (arith, count, test), omega (arith, w .inv .0 .next, w .inv .2, pre .3))
@@ -54,20 +56,21 @@ loop-less c = search needs
 
 loop-again : tie.Need-loop-again Inv-loop μ-loop
 loop-again c =
-    let at1 = c .before .before .before .before in
-    let at2 = at1 .before in
-    let p = at2 in
+    let after-put-line-at : tie.After-put-line-at Inv-loop μ-loop = search in
+    let in-loop : tie.In-loop Inv-loop μ-loop = search in
+    let at-loop : tie.At-loop Inv-loop μ-loop = search in
+    let p = at-loop in
     let w = p .loop in
     let start = p .before .before .before .before in
     let a = start .args in
     let pre = start .pre in
     let banks = a .banks .now in
     let ls = linesWith (a .c .0) banks in
-    let test = at1 .loop-test .taken in
+    let test = in-loop .loop-test .taken in
     let at-line : w .i < length ls = omega (arith, length-lines (a .c .0) banks, p .before .lines-for .ensures, test) in
     let room = lines-room ls (w .i) at-line (wave-rows (a .c .0) banks (pre .1)) in
     let fits = pre .3 in
-    let one = c .before .before .put-line-at in
+    let one = after-put-line-at .put-line-at in
     let more = puts-then (joined (take (w .i) ls)) (getD ls (w .i) []) (a .at) (a .out .now) (omega arith) _ _ _ _ (w .inv .0) (one .ensures) in
     (rw (lines-next ls (w .i) at-line) more, omega (arith, at-line), one .kept .0 ∙ w .inv .2)
 
@@ -76,11 +79,12 @@ same-length c = search needs
 
 returns : tie.Need-returns Inv-loop μ-loop
 returns c =
-    let at1 = c .before .before .before .before .before in
-    let a = at1 .args in
+    let after-lines-for : tie.After-lines-for Inv-loop μ-loop = search in
+    let start : tie.Start Inv-loop μ-loop = search in
+    let a = start .args in
     let w = c .before .loop in
     let ls = linesWith (a .c .0) (a .banks .now) in
-    let all : length ls ≤ w .i = omega (arith, length-lines (a .c .0) (a .banks .now), c .before .before .lines-for .ensures, c .loop-test .left) in
+    let all : length ls ≤ w .i = omega (arith, length-lines (a .c .0) (a .banks .now), after-lines-for .lines-for .ensures, c .loop-test .left) in
     rw (take-all (w .i) ls all) at (w .inv .0)
 
 pub put-wave-spec : {M : Type 1} → statement M

@@ -35,35 +35,41 @@ mul-length c = search needs
 
 returns-2 : tie.Need-returns-2
 returns-2 c =
-    let at1 = c .before .before .before in
-    let checked = at1 .check-plan .ensures in
-    let zero = c .before .before .if1 .left in
+    let else1 : tie.Else1 = search in
+    let after-check-plan : tie.After-check-plan = search in
+    let checked = after-check-plan .check-plan .ensures in
+    let zero = else1 .if1 .left in
     text-short poster _ _ _ (sym zero ∙ checked .0) (omega (arith, plan-bytes _ _ _ (checked .1 zero), c .before .count-lines .ensures .0, c .if2 .taken))
 
 put-waves-requires : tie.Need-put-waves-requires
 put-waves-requires c κs =
-    let at1 = c .before .before .before in
-    let at2 = at1 .before in
-    let plan = at2 .check-plan .ensures .1 (at1 .if1 .left) in (
+    let after-count-lines : tie.After-count-lines = search in
+    let else1 : tie.Else1 = search in
+    let after-check-plan : tie.After-check-plan = search in
+    let plan = after-check-plan .check-plan .ensures .1 (else1 .if1 .left) in (
       plan-most _ _ _ plan,
       plan-few _ _ _ plan,
       plan-room _ _ _ plan,
-      omega (arith, plan-text _ _ _ plan, c .before .before .count-lines .ensures .0, c .before .if2 .left),
+      omega (arith, plan-text _ _ _ plan, after-count-lines .count-lines .ensures .0, c .before .if2 .left),
     )
 
 put-foot-line-requires : tie.Need-put-foot-line-requires
 put-foot-line-requires c κs =
-    let at1 = c .before .before .before in
-    let at2 = at1 .before .before in
-    let p = at2 .before in
-    let waves = at1 .put-waves in
-    let plan = p .before .before .check-plan .ensures .1 (p .before .if1 .left) in
-    (plan-foot _ _ _ plan, omega (arith, plan-text _ _ _ plan, p .count-lines .ensures .0, at2 .if2 .left, waves .ensures .next, waves .kept .0))
+    let after-put-waves : tie.After-put-waves = search in
+    let else2 : tie.Else2 = search in
+    let p : tie.After-count-lines = search in
+    let else1 : tie.Else1 = search in
+    let after-check-plan : tie.After-check-plan = search in
+    let waves = after-put-waves .put-waves in
+    let plan = after-check-plan .check-plan .ensures .1 (else1 .if1 .left) in
+    (plan-foot _ _ _ plan, omega (arith, plan-text _ _ _ plan, p .count-lines .ensures .0, else2 .if2 .left, waves .ensures .next, waves .kept .0))
 
 mul-put-blank-lines : tie.Need-mul-put-blank-lines
 mul-put-blank-lines c =
-    let p = c .before .before .before .before .before .before .before .before .before .before in
-    let plan = p .before .before .check-plan .ensures .1 (p .before .if1 .left) in
+    let p : tie.After-count-lines = search in
+    let else1 : tie.Else1 = search in
+    let after-check-plan : tie.After-check-plan = search in
+    let plan = after-check-plan .check-plan .ensures .1 (else1 .if1 .left) in
     omega (arith, p .count-lines .ensures .1, plan-few _ _ _ plan)
 
 sub-put-blank-lines : tie.Need-sub-put-blank-lines
@@ -71,14 +77,16 @@ sub-put-blank-lines c = omega arith
 
 put-blank-lines-requires : tie.Need-put-blank-lines-requires
 put-blank-lines-requires c κs =
-    let at1 = c .before .before .before in
-    let at2 = at1 .before .before .before .before in
-    let at3 = at2 .before .before in
-    let p = at3 .before in
-    let foot = at1 .put-foot-line in
-    let waves = at2 .put-waves in
-    let room = at3 .if2 .left in
-    let plan = p .before .before .check-plan .ensures .1 (p .before .if1 .left) in
+    let after-put-foot-line : tie.After-put-foot-line = search in
+    let after-put-waves : tie.After-put-waves = search in
+    let else2 : tie.Else2 = search in
+    let p : tie.After-count-lines = search in
+    let else1 : tie.Else1 = search in
+    let after-check-plan : tie.After-check-plan = search in
+    let foot = after-put-foot-line .put-foot-line in
+    let waves = after-put-waves .put-waves in
+    let room = else2 .if2 .left in
+    let plan = after-check-plan .check-plan .ensures .1 (else1 .if1 .left) in
     let next = foot-bytes _ _ _ plan in
     omega (arith, plan-text _ _ _ plan, p .count-lines .ensures .0, room, waves .ensures .next, waves .kept .0, foot .ensures .next, foot .kept .0)
 
@@ -87,21 +95,24 @@ same-length c = search needs
 
 returns-3 : tie.Need-returns-3
 returns-3 c =
-    let at1 = c .before .before .before .before .before .before in
-    let at2 = at1 .before .before .before .before in
-    let at3 = at2 .before .before in
-    let p = at3 .before in
-    let foot = at1 .put-foot-line .ensures in
-    let waves = at2 .put-waves in
-    let room = at3 .if2 .left in
+    let after-put-blank-lines : tie.After-put-blank-lines = search in
+    let after-put-foot-line : tie.After-put-foot-line = search in
+    let after-put-waves : tie.After-put-waves = search in
+    let else2 : tie.Else2 = search in
+    let p : tie.After-count-lines = search in
+    let else1 : tie.Else1 = search in
+    let after-check-plan : tie.After-check-plan = search in
+    let foot = after-put-foot-line .put-foot-line .ensures in
+    let waves = after-put-waves .put-waves in
+    let room = else2 .if2 .left in
     let lines = p .count-lines .ensures .0 in
-    let zero = p .before .if1 .left in
-    let checked = p .before .before .check-plan .ensures in
+    let zero = else1 .if1 .left in
+    let checked = after-check-plan .check-plan .ensures in
     let plan = checked .1 zero in
     let bytes = plan-bytes _ _ _ plan in
     let written =
     poster-written _ _ _ plan _ (omega (arith, bytes, lines, room)) _ (ap (λ (n : ℕ). n + 1) lines) _ _ _ _ _ _ (waves .kept .0) (waves .ensures) foot
-    (c .before .before .put-blank-lines .ensures) in
+    (after-put-blank-lines .put-blank-lines .ensures) in
     text-done poster _ _ _ (sym zero ∙ checked .0) (omega (arith, bytes, lines, room)) _ _ (omega (arith, bytes, lines)) written
 
 pub write-poster-spec : {M : Type 1} → statement M

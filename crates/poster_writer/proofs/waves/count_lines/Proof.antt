@@ -32,8 +32,10 @@ loop-less c = search needs
 
 loop-again : tie.Need-loop-again Inv-loop μ-loop
 loop-again c =
-    let a = c .before .before .before .before .args in
-    let w = c .before .before .loop in
+    let at-loop : tie.At-loop Inv-loop μ-loop = search in
+    let start : tie.Start Inv-loop μ-loop = search in
+    let a = start .args in
+    let w = at-loop .loop in
     let counted = c .count-wave .ensures in (
       omega (arith, count-next (a .waves .now) (a .n) (w .c), w .inv .0, counted .0),
       omega (arith, w .inv .1, counted .1),
@@ -42,8 +44,9 @@ loop-again c =
 
 returns : tie.Need-returns Inv-loop μ-loop
 returns c =
+    let start : tie.Start Inv-loop μ-loop = search in
     let w = c .before .loop in
-    let e : w .c ≡ c .before .before .before .args .k = omega arith in
+    let e : w .c ≡ start .args .k = omega arith in
     (rw e at (w .inv .0), rw e at (w .inv .1))
 
 pub count-lines-spec : {M : Type 1} → statement M

@@ -15,14 +15,15 @@ gather-requires c κs = search needs
 
 lines-for-requires : tie.Need-lines-for-requires
 lines-for-requires c κs =
-    let at1 = c .before .before .before .before in
-    let a = at1 .args in
-    omega (arith, members-few (a .waves .now) (a .c .0) (a .n), c .before .gather .ensures .next, at1 .pre .0)
+    let start : tie.Start = search in
+    let a = start .args in
+    omega (arith, members-few (a .waves .now) (a .c .0) (a .n), c .before .gather .ensures .next, start .pre .0)
 
 returns : tie.Need-returns
 returns c =
-    let found = c .before .before .gather .ensures .next in
-    let start = c .before .before .before .before .before in
+    let after-gather : tie.After-gather = search in
+    let start : tie.Start = search in
+    let found = after-gather .gather .ensures .next in
     let a = start .args in
     let members = membersOf (a .waves .now) (a .c .0) (a .n) in
     let few = members-few (a .waves .now) (a .c .0) (a .n) in

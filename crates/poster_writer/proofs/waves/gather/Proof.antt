@@ -24,7 +24,8 @@ abbrev μ-loop : tie.MeasureT-loop
 
 loop-holds : tie.Need-loop-holds Inv-loop μ-loop
 loop-holds c =
-    let a = c .before .before .args in
+    let start : tie.Start Inv-loop μ-loop = search in
+    let a = start .args in
     (rw (members-none (a .waves .now) (a .c .0)) (puts-none _ _), omega arith, refl)
 
 cast-i : tie.Need-cast-i Inv-loop μ-loop
@@ -38,11 +39,12 @@ shared-slice-read-t13 c = search needs
 
 put-member-requires : tie.Need-put-member-requires Inv-loop μ-loop
 put-member-requires c κs =
-    let at1 = c .before .before .before in
-    let at2 = at1 .before .before .before in
-    let w = at1 .loop in
-    let test = c .before .before .loop-test .taken in
-    let start = at2 in
+    let in-loop : tie.In-loop Inv-loop μ-loop = search in
+    let at-loop : tie.At-loop Inv-loop μ-loop = search in
+    let at-start : tie.Start Inv-loop μ-loop = search in
+    let w = at-loop .loop in
+    let test = in-loop .loop-test .taken in
+    let start = at-start in
     let a = start .args in
     omega (arith, members-few (a .waves .now) (a .c .0) (w .b), w .inv .0 .next, w .inv .2, test, start .pre .1)
 
@@ -54,9 +56,10 @@ loop-less c = search needs
 
 loop-again : tie.Need-loop-again Inv-loop μ-loop
 loop-again c =
-    let at1 = c .before .before .before .before .before in
-    let at2 = at1 .before in
-    let p = at2 in
+    let after-put-member : tie.After-put-member Inv-loop μ-loop = search in
+    let in-loop : tie.In-loop Inv-loop μ-loop = search in
+    let at-loop : tie.At-loop Inv-loop μ-loop = search in
+    let p = at-loop in
     let w = p .loop in
     let start = p .before .before .before in
     let a = start .args in
@@ -64,9 +67,9 @@ loop-again c =
     let new = cond (eqb (getD ws (w .b) 0) (a .c .0)) (w .b ∷ []) [] in
     let few = members-few ws (a .c .0) (w .b) in
     let short = member-short (getD ws (w .b) 0) (a .c .0) (w .b) in
-    let test = at1 .loop-test .taken in
+    let test = in-loop .loop-test .taken in
     let room = start .pre .1 in
-    let one = c .before .before .put-member in
+    let one = after-put-member .put-member in
     let more = puts-then (membersOf ws (a .c .0) (w .b)) new 0 (a .banks .now) (omega arith) _ _ _ _ (w .inv .0) (one .ensures) in
     (rw (members-next ws (a .c .0) (w .b)) more, omega arith, one .kept .0 ∙ w .inv .2)
 
@@ -75,8 +78,9 @@ same-length c = search needs
 
 returns : tie.Need-returns Inv-loop μ-loop
 returns c =
+    let start : tie.Start Inv-loop μ-loop = search in
     let w = c .before .loop in
-    let e : w .b ≡ c .before .before .before .before .args .n = omega arith in
+    let e : w .b ≡ start .args .n = omega arith in
     rw e at (w .inv .0)
 
 pub gather-spec : {M : Type 1} → statement M

@@ -21,7 +21,9 @@ same-length : tie.Need-same-length
 same-length c = search needs
 
 returns-2 : tie.Need-returns-2
-returns-2 c = rw (member-same _ _ _ (c .if1 .left)) (puts-one _ _ _ (c .before .before .before .pre))
+returns-2 c =
+    let start : tie.Start = search in
+    rw (member-same _ _ _ (c .if1 .left)) (puts-one _ _ _ (start .pre))
 
 pub put-member-spec : {M : Type 1} → statement M
 put-member-spec = tie.close (tie.spec returns mul-banks slice-write-banks add-result same-length returns-2)

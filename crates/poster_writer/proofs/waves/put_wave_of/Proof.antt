@@ -21,16 +21,16 @@ part-put-wave-start c = search needs
 
 part-put-wave-end : tie.Need-part-put-wave-end
 part-put-wave-end c =
-    let p = c .before .before .before in
-    let start = p .before .before .before .before in
+    let p : tie.After-gather = search in
+    let start : tie.Start = search in
     let a = start .args in
     omega (arith, members-few (a .waves .now) (a .c .0) (a .n), p .gather .ensures .next, start .pre .1)
 
 put-wave-requires : tie.Need-put-wave-requires
 unfolding posterWave
 put-wave-requires c κs =
-    let p = c .before .before .before .before in
-    let start = p .before .before .before .before in
+    let p : tie.After-gather = search in
+    let start : tie.Start = search in
     let a = start .args in
     let ws = a .waves .now in
     let few = members-few ws (a .c .0) (a .n) in
@@ -43,8 +43,9 @@ same-length c = search needs
 returns : tie.Need-returns
 unfolding posterWave
 returns c =
-    let p = c .before .before .before .before .before .before .before in
-    rw (gathered _ _ _ _ (p .gather .ensures)) at (c .before .before .put-wave .ensures)
+    let after-put-wave : tie.After-put-wave = search in
+    let p : tie.After-gather = search in
+    rw (gathered _ _ _ _ (p .gather .ensures)) at (after-put-wave .put-wave .ensures)
 
 pub put-wave-of-spec : {M : Type 1} → statement M
 put-wave-of-spec =

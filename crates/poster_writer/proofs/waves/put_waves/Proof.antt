@@ -20,14 +20,16 @@ abbrev μ-loop : tie.MeasureT-loop
 
 loop-holds : tie.Need-loop-holds Inv-loop μ-loop
 loop-holds c =
-    let a = c .before .before .args in
+    let start : tie.Start Inv-loop μ-loop = search in
+    let a = start .args in
     (rw (waves-none (a .waves .now) (a .n)) (puts-none _ _), omega arith, refl)
 
 put-wave-of-requires : tie.Need-put-wave-of-requires Inv-loop μ-loop
 put-wave-of-requires c κs =
-    let at1 = c .before .before .before .before .before in
-    let w = c .before .before .loop in
-    let start = at1 in
+    let at-loop : tie.At-loop Inv-loop μ-loop = search in
+    let at-start : tie.Start Inv-loop μ-loop = search in
+    let w = at-loop .loop in
+    let start = at-start in
     let a = start .args in
     let pre = start .pre in
     let room = waves-room (a .waves .now) (a .n) (w .c) (a .k) (c .before .loop-test .taken) in
@@ -41,16 +43,17 @@ loop-less c = search needs
 
 loop-again : tie.Need-loop-again Inv-loop μ-loop
 loop-again c =
-    let at1 = c .before .before .before .before in
-    let at2 = at1 .before in
-    let p = at2 in
+    let after-put-wave-of : tie.After-put-wave-of Inv-loop μ-loop = search in
+    let in-loop : tie.In-loop Inv-loop μ-loop = search in
+    let at-loop : tie.At-loop Inv-loop μ-loop = search in
+    let p = at-loop in
     let w = p .loop in
     let start = p .before .before .before in
     let a = start .args in
     let ws = a .waves .now in
-    let room = waves-room ws (a .n) (w .c) (a .k) (at1 .loop-test .taken) in
+    let room = waves-room ws (a .n) (w .c) (a .k) (in-loop .loop-test .taken) in
     let fits = start .pre .3 in
-    let one = c .before .before .put-wave-of in
+    let one = after-put-wave-of .put-wave-of in
     let more =
     puts-then (posterWaves ws (a .n) (w .c)) (posterWave ws (a .n) (w .c)) 0 (a .out .now) (omega arith) _ _ _ _ (w .inv .0) (one .ensures) in
     (rw (waves-next ws (a .n) (w .c)) more, omega arith, one .kept .0 ∙ w .inv .2)
@@ -60,8 +63,9 @@ same-length c = search needs
 
 returns : tie.Need-returns Inv-loop μ-loop
 returns c =
+    let start : tie.Start Inv-loop μ-loop = search in
     let w = c .before .loop in
-    let e : w .c ≡ c .before .before .before .before .args .k = omega arith in
+    let e : w .c ≡ start .args .k = omega arith in
     rw e at (w .inv .0)
 
 pub put-waves-spec : {M : Type 1} → statement M

@@ -20,8 +20,9 @@ element-copy-out-place c = let line = c .before .pre .1 in omega (arith, line .b
 
 sub-word : tie.Need-sub-word
 sub-word c =
-    let line = c .before .before .pre .1 in
-    omega (arith, line .own-degree, line .keyed .small (c .before .before .args .v .0) (line .bank))
+    let start : tie.Start = search in
+    let line = start .pre .1 in
+    omega (arith, line .own-degree, line .keyed .small (start .args .v .0) (line .bank))
 
 cast-word : tie.Need-cast-word
 cast-word c = search needs
@@ -30,19 +31,30 @@ mul-word : tie.Need-mul-word
 mul-word c = search needs
 
 add-word : tie.Need-add-word
-add-word c = omega (arith, place-small (c .before .before .pre .1))
+add-word c =
+    let start : tie.Start = search in
+    omega (arith, place-small (start .pre .1))
 
 set-bit-requires : tie.Need-set-bit-requires
-set-bit-requires c κs = own-bits (c .before .before .before .pre .1)
+set-bit-requires c κs =
+    let start : tie.Start = search in
+    own-bits (start .pre .1)
 
 add-set-bit : tie.Need-add-set-bit
-add-set-bit c = omega (arith, place-small (c .before .before .before .before .before .pre .1))
+add-set-bit c =
+    let start : tie.Start = search in
+    omega (arith, place-small (start .pre .1))
 
 set-bit-requires-2 : tie.Need-set-bit-requires-2
-set-bit-requires-2 c κs = summary-bits (inside (c .before .before .before .before .before .pre .1)) (c .before .set-bit .ensures)
+set-bit-requires-2 c κs =
+    let start : tie.Start = search in
+    summary-bits (inside (start .pre .1)) (c .before .set-bit .ensures)
 
 returns : tie.Need-returns
-returns c = λ G line. enqueued line (c .before .before .before .before .before .before .args .put) (c .before .before .set-bit .ensures) (c .set-bit2 .ensures)
+returns c =
+    let after-set-bit : tie.After-set-bit = search in
+    let start : tie.Start = search in
+    λ G line. enqueued line (start .args .put) (after-set-bit .set-bit .ensures) (c .set-bit2 .ensures)
 
 pub enqueue-spec : {M : Type 1} → statement M
 enqueue-spec =

@@ -9,10 +9,14 @@ element-copy-out-if1 : tie.Need-element-copy-out-if1
 element-copy-out-if1 c = search needs
 
 first-of-degree-requires : tie.Need-first-of-degree-requires
-first-of-degree-requires c κs = let pre = c .before .before .before .pre in (pre .0, (pre .1, c .if1 .taken))
+first-of-degree-requires c κs =
+    let start : tie.Start = search in
+    let pre = start .pre in (pre .0, (pre .1, c .if1 .taken))
 
 returns : tie.Need-returns
-returns c = λ G wait. by-number wait (c .before .before .before .before .pre .1) (c .before .if1 .taken) (c .first-of-degree .ensures)
+returns c =
+    let start : tie.Start = search in
+    λ G wait. by-number wait (start .pre .1) (c .before .if1 .taken) (c .first-of-degree .ensures)
 
 mul-result : tie.Need-mul-result
 mul-result c = search needs
@@ -21,16 +25,24 @@ mul-result-2 : tie.Need-mul-result-2
 mul-result-2 c = search needs
 
 element-copy-out-result : tie.Need-element-copy-out-result
-element-copy-out-result c = omega (arith, c .before .before .before .pre .1 .inside)
+element-copy-out-result c =
+    let start : tie.Start = search in
+    omega (arith, start .pre .1 .inside)
 
 cast-result : tie.Need-cast-result
-cast-result c = let pre = c .before .before .before .before .pre in omega (arith, head-bit (pre .0 .1) (pre .1) .inside)
+cast-result c =
+    let start : tie.Start = search in
+    let pre = start .pre in omega (arith, head-bit (pre .0 .1) (pre .1) .inside)
 
 add-result : tie.Need-add-result
-add-result c = let pre = c .before .before .before .before .pre in omega (arith, head-bit (pre .0 .1) (pre .1) .inside)
+add-result c =
+    let start : tie.Start = search in
+    let pre = start .pre in omega (arith, head-bit (pre .0 .1) (pre .1) .inside)
 
 returns-2 : tie.Need-returns-2
-returns-2 c = λ G wait. by-rank wait (c .before .before .before .before .pre .1) (c .before .if1 .left)
+returns-2 c =
+    let start : tie.Start = search in
+    λ G wait. by-rank wait (start .pre .1) (c .before .if1 .left)
 
 pub first-place-spec : {M : Type 1} → statement M
 first-place-spec =

@@ -22,19 +22,22 @@ mul-result c = search needs
 
 cast-result : tie.Need-cast-result
 cast-result c =
-    let wait = c .before .before .pre .2 in
+    let start : tie.Start = search in
+    let wait = start .pre .2 in
     let first = c .before .first-summary .ensures in
     omega (arith, lowest-mark (wait .queue) first (summary-inside wait first) .inside)
 
 add-result : tie.Need-add-result
 add-result c =
-    let wait = c .before .before .pre .2 in
+    let start : tie.Start = search in
+    let wait = start .pre .2 in
     let first = c .before .first-summary .ensures in
     omega (arith, lowest-mark (wait .queue) first (summary-inside wait first) .inside)
 
 returns : tie.Need-returns
 returns c =
-    let wait = c .before .before .pre .2 in
+    let start : tie.Start = search in
+    let wait = start .pre .2 in
     let first = c .before .first-summary .ensures in
     head-word (wait .queue) first (summary-inside wait first)
 

@@ -34,68 +34,97 @@ mul-key c = search needs
 
 cast-key : tie.Need-cast-key Inv-loop μ-loop
 cast-key c =
-    let p = c .before .before .before .pre in
+    let start : tie.Start Inv-loop μ-loop = search in
+    let p = start .pre in
     omega (arith, head-lowest (p .0 .1) (p .1 .0) (p .1 .1) .inside)
 
 add-key : tie.Need-add-key Inv-loop μ-loop
 add-key c =
-    let p = c .before .before .before .pre in
+    let start : tie.Start Inv-loop μ-loop = search in
+    let p = start .pre in
     omega (arith, head-lowest (p .0 .1) (p .1 .0) (p .1 .1) .inside)
 
 key-requires : tie.Need-key-requires Inv-loop μ-loop
-key-requires c κs = first-key (c .before .before .before .pre .0 .1) (c .before .before .before .pre .1 .0) (c .before .before .before .pre .1 .1)
+key-requires c κs =
+    let start : tie.Start Inv-loop μ-loop = search in
+    first-key (start .pre .0 .1) (start .pre .1 .0) (start .pre .1 .1)
 
 shr-marks : tie.Need-shr-marks Inv-loop μ-loop
 shr-marks c = search needs
 
 loop-holds : tie.Need-loop-holds Inv-loop μ-loop
-loop-holds c = search-start (c .before .before .before .before .pre .0 .1) (c .before .before .before .before .pre .1 .0) (c .before .before .before .before .pre .1 .1) (c .key .ensures)
+loop-holds c =
+    let start : tie.Start Inv-loop μ-loop = search in
+    search-start (start .pre .0 .1) (start .pre .1 .0) (start .pre .1 .1) (c .key .ensures)
 
 returns : tie.Need-returns Inv-loop μ-loop
 returns c =
-    let p = c .before .before .before .before .before .before .before .pre in
-    search-zero (p .0 .1) (p .1 .0) (p .1 .1) (c .before .before .loop .inv) (c .if1 .taken)
+    let at-loop : tie.At-loop Inv-loop μ-loop = search in
+    let start : tie.Start Inv-loop μ-loop = search in
+    let p = start .pre in
+    search-zero (p .0 .1) (p .1 .0) (p .1 .1) (at-loop .loop .inv) (c .if1 .taken)
 
 cast-i : tie.Need-cast-i Inv-loop μ-loop
-cast-i c = omega (arith, search-lowest (c .before .before .loop .inv) (c .before .loop-test .taken) .inside)
+cast-i c =
+    let at-loop : tie.At-loop Inv-loop μ-loop = search in
+    omega (arith, search-lowest (at-loop .loop .inv) (c .before .loop-test .taken) .inside)
 
 add-bits : tie.Need-add-bits Inv-loop μ-loop
 add-bits c =
-    let low = search-lowest (c .before .before .loop .inv) (c .before .loop-test .taken) in
-    omega (arith, c .before .before .before .before .before .before .before .pre .1 .0 .inside, low .inside)
+    let at-loop : tie.At-loop Inv-loop μ-loop = search in
+    let start : tie.Start Inv-loop μ-loop = search in
+    let low = search-lowest (at-loop .loop .inv) (c .before .loop-test .taken) in
+    omega (arith, start .pre .1 .0 .inside, low .inside)
 
 mul-bits : tie.Need-mul-bits Inv-loop μ-loop
 mul-bits c =
-    let low = search-lowest (c .before .before .loop .inv) (c .before .loop-test .taken) in
-    omega (arith, c .before .before .before .before .before .before .before .pre .1 .0 .inside, low .inside)
+    let at-loop : tie.At-loop Inv-loop μ-loop = search in
+    let start : tie.Start Inv-loop μ-loop = search in
+    let low = search-lowest (at-loop .loop .inv) (c .before .loop-test .taken) in
+    omega (arith, start .pre .1 .0 .inside, low .inside)
 
 element-copy-out-bits : tie.Need-element-copy-out-bits Inv-loop μ-loop
 element-copy-out-bits c =
-    let low = search-lowest (c .before .before .loop .inv) (c .before .loop-test .taken) in
-    omega (arith, c .before .before .before .before .before .before .before .pre .1 .0 .inside, low .inside)
+    let at-loop : tie.At-loop Inv-loop μ-loop = search in
+    let start : tie.Start Inv-loop μ-loop = search in
+    let low = search-lowest (at-loop .loop .inv) (c .before .loop-test .taken) in
+    omega (arith, start .pre .1 .0 .inside, low .inside)
 
 mul-least-in-word : tie.Need-mul-least-in-word Inv-loop μ-loop
-mul-least-in-word c = omega (arith, search-lowest (c .before .before .before .loop .inv) (c .before .before .loop-test .taken) .inside)
+mul-least-in-word c =
+    let in-loop : tie.In-loop Inv-loop μ-loop = search in
+    let at-loop : tie.At-loop Inv-loop μ-loop = search in
+    omega (arith, search-lowest (at-loop .loop .inv) (in-loop .loop-test .taken) .inside)
 
 least-in-word-requires : tie.Need-least-in-word-requires Inv-loop μ-loop
 least-in-word-requires c κs =
-    let p = c .before .before .before .before .before .before .before .before .pre in
-    search-word (p .0 .1) (p .1 .0) (p .1 .1) (c .before .before .before .loop .inv) (c .before .before .loop-test .taken)
+    let in-loop : tie.In-loop Inv-loop μ-loop = search in
+    let at-loop : tie.At-loop Inv-loop μ-loop = search in
+    let start : tie.Start Inv-loop μ-loop = search in
+    let p = start .pre in
+    search-word (p .0 .1) (p .1 .0) (p .1 .1) (at-loop .loop .inv) (in-loop .loop-test .taken)
 
 sub-marks : tie.Need-sub-marks Inv-loop μ-loop
 sub-marks c = search needs
 
 loop-less : tie.Need-loop-less Inv-loop μ-loop
-loop-less c = search-less (c .before .before .before .before .loop .inv) (c .before .before .before .loop-test .taken)
+loop-less c =
+    let in-loop : tie.In-loop Inv-loop μ-loop = search in
+    let at-loop : tie.At-loop Inv-loop μ-loop = search in
+    search-less (at-loop .loop .inv) (in-loop .loop-test .taken)
 
 loop-again : tie.Need-loop-again Inv-loop μ-loop
 loop-again c =
-    let p = c .before .before .before .before .before .before .before .before .before .pre in
-    search-step (p .0 .1) (p .1 .0) (p .1 .1) (c .before .before .before .before .loop .inv) (c .before .before .before .loop-test .taken) (c .least-in-word .ensures)
+    let in-loop : tie.In-loop Inv-loop μ-loop = search in
+    let at-loop : tie.At-loop Inv-loop μ-loop = search in
+    let start : tie.Start Inv-loop μ-loop = search in
+    let p = start .pre in
+    search-step (p .0 .1) (p .1 .0) (p .1 .1) (at-loop .loop .inv) (in-loop .loop-test .taken) (c .least-in-word .ensures)
 
 returns-2 : tie.Need-returns-2 Inv-loop μ-loop
 returns-2 c =
-    let p = c .before .before .before .before .before .before .pre in
+    let start : tie.Start Inv-loop μ-loop = search in
+    let p = start .pre in
     search-end (p .0 .1) (p .1 .0) (p .1 .1) (c .before .loop .inv) (c .loop-test .left)
 
 pub first-of-degree-spec : {M : Type 1} → statement M

@@ -14,10 +14,14 @@ wide-requires : tie.Need-wide-requires
 wide-requires c κs = search needs
 
 mul-result : tie.Need-mul-result
-mul-result c = omega (arith, c .wide .ensures, c .before .shared-slice-known2 .given (c .before .before .before .args .x))
+mul-result c =
+    let start : tie.Start = search in
+    omega (arith, c .wide .ensures, c .before .shared-slice-known2 .given (start .args .x))
 
 add-result : tie.Need-add-result
-add-result c = omega (arith, c .wide .ensures, c .before .shared-slice-known2 .given (c .before .before .before .args .x))
+add-result c =
+    let start : tie.Start = search in
+    omega (arith, c .wide .ensures, c .before .shared-slice-known2 .given (start .args .x))
 
 returns : tie.Need-returns
 returns c = search needs

@@ -20,11 +20,14 @@ cast-low : tie.Need-cast-low Inv-loop μ-loop
 cast-low c = omega (arith, scan-lowest (c .before .loop .inv) (c .loop-test .taken) .inside)
 
 add-key : tie.Need-add-key Inv-loop μ-loop
-add-key c = omega (arith, c .before .before .before .pre .small, scan-lowest (c .before .loop .inv) (c .loop-test .taken) .inside)
+add-key c =
+    let start : tie.Start Inv-loop μ-loop = search in
+    omega (arith, start .pre .small, scan-lowest (c .before .loop .inv) (c .loop-test .taken) .inside)
 
 key-requires : tie.Need-key-requires Inv-loop μ-loop
 key-requires c κs =
-    let given = c .before .before .before .pre in
+    let start : tie.Start Inv-loop μ-loop = search in
+    let given = start .pre in
     let inv = c .before .loop .inv in
     (omega (arith, given .small, scan-lowest inv (c .loop-test .taken) .inside), scan-cell inv (c .loop-test .taken) given)
 
@@ -35,12 +38,16 @@ sub-rest : tie.Need-sub-rest Inv-loop μ-loop
 sub-rest c = search needs
 
 loop-less : tie.Need-loop-less Inv-loop μ-loop
-loop-less c = scan-less (c .before .before .before .loop .inv) (c .before .before .loop-test .taken)
+loop-less c =
+    let in-loop : tie.In-loop Inv-loop μ-loop = search in
+    let at-loop : tie.At-loop Inv-loop μ-loop = search in
+    scan-less (at-loop .loop .inv) (in-loop .loop-test .taken)
 
 loop-again : tie.Need-loop-again Inv-loop μ-loop
 loop-again c =
-    let turn = c .before .before in
-    scan-step (turn .before .loop .inv) (turn .loop-test .taken) (c .smaller .ensures ∙ ap (λ (x : ℕ). min (turn .before .loop .least) x) (c .before .key .ensures))
+    let turn : tie.In-loop Inv-loop μ-loop = search in
+    let at-loop : tie.At-loop Inv-loop μ-loop = search in
+    scan-step (at-loop .loop .inv) (turn .loop-test .taken) (c .smaller .ensures ∙ ap (λ (x : ℕ). min (at-loop .loop .least) x) (c .before .key .ensures))
 
 returns : tie.Need-returns Inv-loop μ-loop
 returns c = scan-end (rw (c .loop-test .left) at (c .before .loop .inv))

@@ -17,26 +17,38 @@ check-memory-requires c κs = search needs
 
 returns-2 : tie.Need-returns-2
 returns-2 c =
-    let test = c .before .before in
-    checked-memory _ _ _ (sym (test .before .head-number .ensures) ∙ test .if1 .left) _ (c .before .check-memory .ensures .0) (c .if2 .taken)
+    let test : tie.Else1 = search in
+    let after-head-number : tie.After-head-number = search in
+    checked-memory _ _ _ (sym (after-head-number .head-number .ensures) ∙ test .if1 .left) _ (c .before .check-memory .ensures .0) (c .if2 .taken)
 
 sub-fields-number : tie.Need-sub-fields-number
-sub-fields-number c = let test = c .before .before in size-first-field _ _ (sym (test .before .head-number .ensures) ∙ test .if1 .left)
+sub-fields-number c =
+    let test : tie.Else1 = search in
+    let after-head-number : tie.After-head-number = search in
+    size-first-field _ _ (sym (after-head-number .head-number .ensures) ∙ test .if1 .left)
 
 part-fields-number-start : tie.Need-part-fields-number-start
-part-fields-number-start c = let test = c .before .before in size-first-field _ _ (sym (test .before .head-number .ensures) ∙ test .if1 .left)
+part-fields-number-start c =
+    let test : tie.Else1 = search in
+    let after-head-number : tie.After-head-number = search in
+    size-first-field _ _ (sym (after-head-number .head-number .ensures) ∙ test .if1 .left)
 
 part-fields-number-end : tie.Need-part-fields-number-end
-part-fields-number-end c = let test = c .before .before in size-inside _ _ (sym (test .before .head-number .ensures) ∙ test .if1 .left)
+part-fields-number-end c =
+    let test : tie.Else1 = search in
+    let after-head-number : tie.After-head-number = search in
+    size-inside _ _ (sym (after-head-number .head-number .ensures) ∙ test .if1 .left)
 
 fields-number-requires : tie.Need-fields-number-requires
 fields-number-requires c κs = search needs
 
 returns-3 : tie.Need-returns-3
 returns-3 c =
-    let test = c .before .before in
-    let memory = test .before in
-    let head = sym (memory .before .before .head-number .ensures) ∙ memory .before .if1 .left in
+    let test : tie.Else2 = search in
+    let memory : tie.After-check-memory = search in
+    let else1 : tie.Else1 = search in
+    let after-head-number : tie.After-head-number = search in
+    let head = sym (after-head-number .head-number .ensures) ∙ else1 .if1 .left in
     checked-fields _ _ _ head (sym (memory .check-memory .ensures .0) ∙ test .if2 .left) (memory .check-memory .ensures .1 (test .if2 .left)) _
     (c .fields-number .ensures ∙ later-number _ _ head)
 

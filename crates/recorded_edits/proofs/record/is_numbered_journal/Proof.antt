@@ -20,7 +20,9 @@ is-numbered-requires : tie.Need-is-numbered-requires
 is-numbered-requires c κs = search needs
 
 returns : tie.Need-returns
-returns c = c .is-numbered .ensures ∙ ap numbered (later-part _ _ (c .before .before .before .pre))
+returns c =
+    let start : tie.Start = search in
+    c .is-numbered .ensures ∙ ap numbered (later-part _ _ (start .pre))
 
 pub is-numbered-journal-spec : {M : Type 1} → statement M
 is-numbered-journal-spec =

@@ -15,8 +15,8 @@ entry-bytes-requires c κs = search needs
 
 add-space-number : tie.Need-add-space-number
 add-space-number c =
-    let form = c .before in
-    let start = form .before .before in
+    let form : tie.After-is-numbered-journal = search in
+    let start : tie.Start = search in
     omega (arith, c .entry-bytes .ensures, entry-few (form .is-numbered-journal .result), size-few _ (start .args .journal .now) (start .pre))
 
 space-number-requires : tie.Need-space-number-requires
@@ -24,8 +24,9 @@ space-number-requires c κs = search needs
 
 returns : tie.Need-returns
 returns c =
-    let size = c .before in
-    space-next _ _ _ (size .before .is-numbered-journal .ensures) _ (size .entry-bytes .ensures) _ (c .space-number .ensures)
+    let size : tie.After-entry-bytes = search in
+    let after-is-numbered-journal : tie.After-is-numbered-journal = search in
+    space-next _ _ _ (after-is-numbered-journal .is-numbered-journal .ensures) _ (size .entry-bytes .ensures) _ (c .space-number .ensures)
 
 pub next-space-spec : {M : Type 1} → statement M
 next-space-spec =

@@ -35,93 +35,132 @@ same-length-7 c = refl
 
 returns : tie.Need-returns
 returns c =
-    let n = c .before in
-    rw (c .refuse .ensures .0, c .refuse .ensures .1) (record-refused _ _ _ _ _ _ _ (n .before .check-record .ensures) (λ z. omega (arith, n .if1 .taken)))
+    let n : tie.Then1 = search in
+    let after-check-record : tie.After-check-record = search in
+    rw (c .refuse .ensures .0, c .refuse .ensures .1) (record-refused _ _ _ _ _ _ _ (after-check-record .check-record .ensures) (λ z. omega (arith, n .if1 .taken)))
 
 next-space-requires : tie.Need-next-space-requires
-next-space-requires c κs = let n = c .before in n .before .check-record .ensures .head (n .if1 .left)
+next-space-requires c κs =
+    let n : tie.Else1 = search in
+    let after-check-record : tie.After-check-record = search in
+    after-check-record .check-record .ensures .head (n .if1 .left)
 
 edit-within-requires : tie.Need-edit-within-requires
-edit-within-requires c κs = let n = c .before .before .before .before .before .before .before .before in (_, n .before .check-record .ensures .ready (n .if1 .left))
+edit-within-requires c κs =
+    let n : tie.Else1 = search in
+    let after-check-record : tie.After-check-record = search in
+    (_, after-check-record .check-record .ensures .ready (n .if1 .left))
 
 refuse-requires-2 : tie.Need-refuse-requires-2
 refuse-requires-2 c κs = search needs
 
 same-length-8 : tie.Need-same-length-8
-same-length-8 c = search (c .before .before .before .before .before .before .before .before .before .before .before .before .before .before .before .edit-within .kept)
+same-length-8 c =
+    let after-edit-within : tie.After-edit-within = search in
+    search (after-edit-within .edit-within .kept)
 
 same-length-9 : tie.Need-same-length-9
-same-length-9 c = search (c .before .before .before .before .before .before .before .before .before .before .before .before .before .before .before .edit-within .kept)
+same-length-9 c =
+    let after-edit-within : tie.After-edit-within = search in
+    search (after-edit-within .edit-within .kept)
 
 same-length-10 : tie.Need-same-length-10
-same-length-10 c = search (c .before .before .before .before .before .before .before .before .before .before .before .before .before .before .before .edit-within .kept)
+same-length-10 c =
+    let after-edit-within : tie.After-edit-within = search in
+    search (after-edit-within .edit-within .kept)
 
 same-length-11 : tie.Need-same-length-11
-same-length-11 c = search (c .before .before .before .before .before .before .before .before .before .before .before .before .before .before .before .edit-within .kept)
+same-length-11 c =
+    let after-edit-within : tie.After-edit-within = search in
+    search (after-edit-within .edit-within .kept)
 
 same-length-12 : tie.Need-same-length-12
-same-length-12 c = search (c .before .before .before .before .before .before .before .before .before .before .before .before .before .before .before .edit-within .kept)
+same-length-12 c =
+    let after-edit-within : tie.After-edit-within = search in
+    search (after-edit-within .edit-within .kept)
 
 same-length-13 : tie.Need-same-length-13
-same-length-13 c = search (c .before .before .before .before .before .before .before .before .before .before .before .before .before .before .before .edit-within .kept)
+same-length-13 c =
+    let after-edit-within : tie.After-edit-within = search in
+    search (after-edit-within .edit-within .kept)
 
 same-length-14 : tie.Need-same-length-14
-same-length-14 c = search (c .before .before .before .before .before .before .before .before .before .before .before .before .before .before .before .edit-within .kept)
+same-length-14 c =
+    let after-edit-within : tie.After-edit-within = search in
+    search (after-edit-within .edit-within .kept)
 
 returns-2 : tie.Need-returns-2
 returns-2 c =
-    let at1 = c .before .before .before .before .before .before .before .before .before .before in
-    let e = at1 .before .before .before .before .before in
-    let s = e .before .before .before .before .before .before .before in
-    let n = s .before .before in
+    let e : tie.After-edit-within = search in
+    let s : tie.After-next-space = search in
+    let n : tie.Else1 = search in
+    let after-check-record : tie.After-check-record = search in
     let none = n .if1 .left in
-    let checked = n .before .check-record .ensures in
+    let checked = after-check-record .check-record .ensures in
     let made = e .edit-within .ensures _ (checked .ready none) in
     rw (c .refuse2 .ensures .0)
     (record-late _ _ _ _ _ _ _ checked none _ (s .next-space .ensures) made (c .before .if2 .taken) _ (c .refuse2 .ensures .1))
 
 record-entry-requires : tie.Need-record-entry-requires
 record-entry-requires c κs =
-    let at1 = c .before .before .before .before .before .before .before .before .before .before in
-    let e = at1 .before .before .before .before .before .before in
-    let s = e .before .before .before .before .before .before .before in
-    let n = s .before .before in
+    let else2 : tie.Else2 = search in
+    let e : tie.After-edit-within = search in
+    let s : tie.After-next-space = search in
+    let n : tie.Else1 = search in
+    let after-check-record : tie.After-check-record = search in
     let none = n .if1 .left in
-    let checked = n .before .check-record .ensures in
+    let checked = after-check-record .check-record .ensures in
     let made = e .edit-within .ensures _ (checked .ready none) in
-    record-room _ _ _ _ _ _ _ checked none _ (s .next-space .ensures) made (c .before .before .if2 .left)
+    record-room _ _ _ _ _ _ _ checked none _ (s .next-space .ensures) made (else2 .if2 .left)
 
 same-length-15 : tie.Need-same-length-15
-same-length-15 c = search (c .before .before .before .before .before .before .before .before .before .before .before .before .before .before .before .before .before .before .before .edit-within .kept)
+same-length-15 c =
+    let after-edit-within : tie.After-edit-within = search in
+    search (after-edit-within .edit-within .kept)
 
 same-length-16 : tie.Need-same-length-16
-same-length-16 c = search (c .before .before .before .before .before .before .before .before .before .before .before .before .before .before .before .before .before .before .before .edit-within .kept)
+same-length-16 c =
+    let after-edit-within : tie.After-edit-within = search in
+    search (after-edit-within .edit-within .kept)
 
 same-length-17 : tie.Need-same-length-17
-same-length-17 c = search (c .before .before .before .before .before .before .before .before .before .before .before .before .before .before .before .before .before .before .before .edit-within .kept)
+same-length-17 c =
+    let after-edit-within : tie.After-edit-within = search in
+    search (after-edit-within .edit-within .kept)
 
 same-length-18 : tie.Need-same-length-18
-same-length-18 c = search (c .before .before .before .before .before .before .before .before .before .before .before .before .before .before .before .before .before .before .before .edit-within .kept)
+same-length-18 c =
+    let after-edit-within : tie.After-edit-within = search in
+    search (after-edit-within .edit-within .kept)
 
 same-length-19 : tie.Need-same-length-19
-same-length-19 c = search (c .before .before .before .before .before .before .before .before .before .before .before .before .before .before .before .before .before .before .before .edit-within .kept)
+same-length-19 c =
+    let after-edit-within : tie.After-edit-within = search in
+    search (after-edit-within .edit-within .kept)
 
 same-length-20 : tie.Need-same-length-20
-same-length-20 c = search (c .before .before .before .before .before .before .before .before .before .before .before .before .before .before .before .before .before .before .before .edit-within .kept)
+same-length-20 c =
+    let after-edit-within : tie.After-edit-within = search in
+    search (after-edit-within .edit-within .kept)
 
 same-length-21 : tie.Need-same-length-21
-same-length-21 c = search (c .before .before .before .before .before .before .before .before .before .before .before .before .before .before .before .before .before .before .before .edit-within .kept)
+same-length-21 c =
+    let after-edit-within : tie.After-edit-within = search in
+    search (after-edit-within .edit-within .kept)
 
 returns-3 : tie.Need-returns-3
 returns-3 c =
-    let entry = c .before .before in
-    let e = entry .before .before .before .before .before .before .before .before .before .before .before .before .before .before .before .before .before in
-    let s = e .before .before .before .before .before .before .before in
-    let n = s .before .before in
+    let entry : tie.After-record-entry = search in
+    let else2 : tie.Else2 = search in
+    let after-counts : tie.After-counts = search in
+    let e : tie.After-edit-within = search in
+    let s : tie.After-next-space = search in
+    let n : tie.Else1 = search in
+    let after-check-record : tie.After-check-record = search in
     let none = n .if1 .left in
-    let checked = n .before .check-record .ensures in
+    let checked = after-check-record .check-record .ensures in
     let made = e .edit-within .ensures _ (checked .ready none) in
-    record-done _ _ _ _ _ _ _ checked none _ (s .next-space .ensures) made (entry .before .before .before .if2 .left) _ _
+    record-done _ _ _ _ _ _ _ checked none _ (s .next-space .ensures) made (else2 .if2 .left) _ _
     (entry .record-entry .ensures)
 
 pub record-core-spec : {M : Type 1} → statement M

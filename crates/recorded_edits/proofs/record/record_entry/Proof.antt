@@ -9,10 +9,14 @@ use Rattle.recorded_edits.proofs.record.record_entry.Statement.{stateme
 use Rattle.recorded_edits.proofs.record.record_entry.Tie as tie
 
 is-numbered-journal-requires : tie.Need-is-numbered-journal-requires
-is-numbered-journal-requires c κs = let start = c .before .before in start .pre .head
+is-numbered-journal-requires c κs =
+    let start : tie.Start = search in
+    start .pre .head
 
 sub-number : tie.Need-sub-number
-sub-number c = let start = c .before .before .before in size-first-field _ (start .args .journal .now) (start .pre .head)
+sub-number c =
+    let start : tie.Start = search in
+    size-first-field _ (start .args .journal .now) (start .pre .head)
 
 entry-bytes-requires : tie.Need-entry-bytes-requires
 entry-bytes-requires c κs = search needs
@@ -22,23 +26,23 @@ div-number c = search needs
 
 add-number : tie.Need-add-number
 add-number c =
-    let form = c .before in
-    let start = form .before .before .before in
+    let form : tie.After-is-numbered-journal = search in
+    let start : tie.Start = search in
     omega (arith, next-few _ _ (start .pre) _ (form .is-numbered-journal .ensures) _ (c .entry-bytes .ensures))
 
 put-entry-requires : tie.Need-put-entry-requires
 put-entry-requires c κs =
-    let size = c .before in
-    let form = size .before in
-    let start = form .before .before .before in
+    let size : tie.After-entry-bytes = search in
+    let form : tie.After-is-numbered-journal = search in
+    let start : tie.Start = search in
     let is = form .is-numbered-journal .ensures in
     (omega (arith, asks-room _ _ (start .pre) .0, ap entrySize is), next-few _ _ (start .pre) _ is _ (size .entry-bytes .ensures))
 
 cast-t15 : tie.Need-cast-t15
 cast-t15 c =
-    let put = c .before .before in
-    let form = put .before .before .before in
-    let start = form .before .before .before in
+    let put : tie.After-put-entry = search in
+    let form : tie.After-is-numbered-journal = search in
+    let start : tie.Start = search in
     let few = next-fits _ _ _ _ _ _ _ (put .put-entry .ensures) (omega (arith, asks-room _ _ (start .pre) .1, ap entrySize (form .is-numbered-journal .ensures))) in
     omega (arith, few)
 
@@ -47,10 +51,10 @@ same-length c = search needs
 
 returns : tie.Need-returns
 returns c =
-    let put = c .before .before in
-    let size = put .before .before in
-    let form = size .before in
-    let start = form .before .before .before in
+    let put : tie.After-put-entry = search in
+    let size : tie.After-entry-bytes = search in
+    let form : tie.After-is-numbered-journal = search in
+    let start : tie.Start = search in
     let is = form .is-numbered-journal .ensures in
     recorded-of _ _ _ _ _ _ _ _ is (next-bytes _ _ (start .pre) _ is _ (size .entry-bytes .ensures) _) (put .put-entry .ensures)
 

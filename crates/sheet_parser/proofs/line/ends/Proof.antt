@@ -21,8 +21,9 @@ returns-3 c = λ f. denied _ (c .before .byte-at .result) (c .before .byte-at .e
 
 returns-4 : tie.Need-returns-4
 returns-4 c =
+    let else1 : tie.Else1 = search in
     record {
-      going = not-false _ (c .before .before .before .before .if1 .left);
+      going = not-false _ (else1 .if1 .left);
       some = omega arith;
       feed = granted _ (c .before .byte-at .result) (c .before .byte-at .ensures) (c .if3 .left);
     }

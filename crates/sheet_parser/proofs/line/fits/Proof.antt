@@ -24,13 +24,17 @@ shared-slice-read-if3 c = search needs
 
 returns-3 : tie.Need-returns-3
 returns-3 c =
-    let a = c .before .before .before .before .before .before .before .before .args in
-    λ f. c .if3 .taken (ap (λ (k : ℕ). getD (a .cells .now) k 0) (c .before .before .wide .ensures) ∙ f .free)
+    let after-wide : tie.After-wide = search in
+    let start : tie.Start = search in
+    let a = start .args in
+    λ f. c .if3 .taken (ap (λ (k : ℕ). getD (a .cells .now) k 0) (after-wide .wide .ensures) ∙ f .free)
 
 returns-4 : tie.Need-returns-4
 returns-4 c =
-    let a = c .before .before .before .before .before .before .before .before .args in
-    record { high = omega arith; bank = omega arith; free = sym (ap (λ (k : ℕ). getD (a .cells .now) k 0) (c .before .before .wide .ensures)) ∙ c .if3 .left }
+    let after-wide : tie.After-wide = search in
+    let start : tie.Start = search in
+    let a = start .args in
+    record { high = omega arith; bank = omega arith; free = sym (ap (λ (k : ℕ). getD (a .cells .now) k 0) (after-wide .wide .ensures)) ∙ c .if3 .left }
 
 pub fits-spec : {M : Type 1} → statement M
 fits-spec =

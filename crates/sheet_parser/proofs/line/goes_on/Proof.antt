@@ -16,7 +16,9 @@ returns-2 : tie.Need-returns-2
 returns-2 c = λ f. denied _ (c .before .byte-at .result) (c .before .byte-at .ensures) (c .if2 .taken) (f .space)
 
 returns-3 : tie.Need-returns-3
-returns-3 c = record { going = not-false _ (c .before .before .if1 .left); space = granted _ (c .before .byte-at .result) (c .before .byte-at .ensures) (c .if2 .left) }
+returns-3 c =
+    let else1 : tie.Else1 = search in
+    record { going = not-false _ (else1 .if1 .left); space = granted _ (c .before .byte-at .result) (c .before .byte-at .ensures) (c .if2 .left) }
 
 pub goes-on-spec : {M : Type 1} → statement M
 goes-on-spec = tie.close (tie.spec returns byte-at-requires returns-2 returns-3)

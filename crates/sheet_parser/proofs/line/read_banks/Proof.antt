@@ -20,7 +20,9 @@ add-t7 : tie.Need-add-t7 Inv-loop μ-loop
 add-t7 c = search needs
 
 loop-holds : tie.Need-loop-holds Inv-loop μ-loop
-loop-holds c = (line-start _ (c .before .before .pre .0 .0) (c .before .before .pre .1), refl)
+loop-holds c =
+    let start : tie.Start Inv-loop μ-loop = search in
+    (line-start _ (start .pre .0 .0) (start .pre .1), refl)
 
 goes-on-requires : tie.Need-goes-on-requires Inv-loop μ-loop
 goes-on-requires c κs = search needs
@@ -30,10 +32,12 @@ add-take-bank c = search needs
 
 take-bank-requires : tie.Need-take-bank-requires Inv-loop μ-loop
 take-bank-requires c κs =
-    let test = c .before .before in
-    let go = yes-says _ (test .before .goes-on .result) (test .before .goes-on .ensures) (test .if1 .taken) in
-    let loop = test .before .before in
-    let en = loop .before .before .before .pre .0 .1 in
+    let test : tie.Then1 Inv-loop μ-loop = search in
+    let after-goes-on : tie.After-goes-on Inv-loop μ-loop = search in
+    let loop : tie.At-loop Inv-loop μ-loop = search in
+    let start : tie.Start Inv-loop μ-loop = search in
+    let go = yes-says _ (after-goes-on .goes-on .result) (after-goes-on .goes-on .ensures) (test .if1 .taken) in
+    let en = start .pre .0 .1 in
     (omega (arith, go .space .inside), record { most = en .most; long = omega (arith, en .long, loop .loop .inv .1) })
 
 loop-less : tie.Need-loop-less Inv-loop μ-loop
@@ -41,11 +45,13 @@ loop-less c = search needs
 
 loop-again : tie.Need-loop-again Inv-loop μ-loop
 loop-again c =
-    let call = c .before .before in
-    let test = call .before .before .before in
-    let go = yes-says _ (test .before .goes-on .result) (test .before .goes-on .ensures) (test .if1 .taken) in
-    let loop = test .before .before in
-    let en = loop .before .before .before .pre .0 .1 in (
+    let call : tie.After-take-bank Inv-loop μ-loop = search in
+    let test : tie.Then1 Inv-loop μ-loop = search in
+    let after-goes-on : tie.After-goes-on Inv-loop μ-loop = search in
+    let loop : tie.At-loop Inv-loop μ-loop = search in
+    let start : tie.Start Inv-loop μ-loop = search in
+    let go = yes-says _ (after-goes-on .goes-on .result) (after-goes-on .goes-on .ensures) (test .if1 .taken) in
+    let en = start .pre .0 .1 in (
       line-again (record { most = en .most; long = omega (arith, en .long, loop .loop .inv .1) }) (loop .loop .inv .0) go (call .take-bank .ensures),
       omega (arith, call .take-bank .kept, loop .loop .inv .1),
     )
@@ -54,7 +60,9 @@ same-length : tie.Need-same-length Inv-loop μ-loop
 same-length c = search needs
 
 returns : tie.Need-returns Inv-loop μ-loop
-returns c = record { reading = c .before .before .loop .inv .0; over = no-says _ (c .before .goes-on .result) (c .before .goes-on .ensures) (c .if1 .left) }
+returns c =
+    let at-loop : tie.At-loop Inv-loop μ-loop = search in
+    record { reading = at-loop .loop .inv .0; over = no-says _ (c .before .goes-on .result) (c .before .goes-on .ensures) (c .if1 .left) }
 
 pub read-banks-spec : {M : Type 1} → statement M
 read-banks-spec =

@@ -13,16 +13,19 @@ byte-at-requires c κs = search needs
 
 returns : tie.Need-returns
 returns c =
-    let found = c .before .before .letter in
+    let after-letter : tie.After-letter = search in
+    let found = after-letter .letter in
     let none = denied _ (c .before .byte-at .result) (c .before .byte-at .ensures) (c .if1 .taken) in
     no-letter _ (λ b. none (rw (found .ensures) b))
 
 read-banks-requires : tie.Need-read-banks-requires
 read-banks-requires c κs =
-    let test = c .before in
-    let found = test .before .before .letter in
-    let b = granted _ (test .before .byte-at .result) (test .before .byte-at .ensures) (test .if1 .left) in
-    let entry = test .before .before .before .before .before in
+    let test : tie.Else1 = search in
+    let after-byte-at : tie.After-byte-at = search in
+    let after-letter : tie.After-letter = search in
+    let entry : tie.Start = search in
+    let found = after-letter .letter in
+    let b = granted _ (after-byte-at .byte-at .result) (after-byte-at .byte-at .ensures) (test .if1 .left) in
     ((rw (found .ensures) at b, entry .pre .0 .1), entry .pre .1)
 
 ends-requires : tie.Need-ends-requires
@@ -33,7 +36,7 @@ same-length c = search needs
 
 returns-2 : tie.Need-returns-2
 returns-2 c =
-    let banks = c .before .before .before .before in
+    let banks : tie.After-read-banks = search in
     line-none (banks .read-banks .ensures) (denied _ (c .before .ends .result) (c .before .ends .ensures) (c .if2 .taken))
 
 add-t12 : tie.Need-add-t12
@@ -44,9 +47,10 @@ same-length-2 c = search needs
 
 returns-3 : tie.Need-returns-3
 returns-3 c =
-    let test = c .before in
-    let banks = test .before .before .before .before in
-    line-whole (banks .read-banks .ensures) (granted _ (test .before .ends .result) (test .before .ends .ensures) (test .if2 .left))
+    let test : tie.Else2 = search in
+    let after-ends : tie.After-ends = search in
+    let banks : tie.After-read-banks = search in
+    line-whole (banks .read-banks .ensures) (granted _ (after-ends .ends .result) (after-ends .ends .ensures) (test .if2 .left))
 
 pub read-line-spec : {M : Type 1} → statement M
 read-line-spec =

@@ -12,8 +12,8 @@ read-number-requires c κs = search needs
 
 returns : tie.Need-returns
 returns c =
-    let number = c .before .before in
-    let entry = number .before .before .before in
+    let number : tie.After-read-number = search in
+    let entry : tie.Start = search in
     no-bank (entry .pre .0) (number .read-number .ensures .none (not-true _ (c .if1 .taken))) (entry .pre .1)
 
 fits-requires : tie.Need-fits-requires
@@ -24,9 +24,9 @@ same-length c = search needs
 
 returns-2 : tie.Need-returns-2
 returns-2 c =
-    let test = c .before .before .before in
-    let number = test .before .before in
-    let entry = number .before .before .before in
+    let test : tie.Else1 = search in
+    let number : tie.After-read-number = search in
+    let entry : tie.Start = search in
     other-bank (entry .pre .0) (number .read-number .ensures .some (not-false _ (test .if1 .left)))
     (denied _ (c .before .fits2 .result) (c .before .fits2 .ensures) (c .if2 .taken))
 
@@ -38,16 +38,18 @@ mul-cells c = search needs
 
 slice-write-cells : tie.Need-slice-write-cells
 slice-write-cells c =
-    let test = c .before in
-    let entry = test .before .before .before .before .before .before .before .before in
-    let f = granted _ (test .before .fits2 .result) (test .before .fits2 .ensures) (test .if2 .left) in
+    let test : tie.Else2 = search in
+    let after-fits2 : tie.After-fits2 = search in
+    let entry : tie.Start = search in
+    let f = granted _ (after-fits2 .fits2 .result) (after-fits2 .fits2 .ensures) (test .if2 .left) in
     omega (arith, f .bank, entry .pre .1 .long, c .wide .ensures)
 
 add-t17 : tie.Need-add-t17
 add-t17 c =
-    let test = c .before in
-    let entry = test .before .before .before .before .before .before .before .before in
-    let f = granted _ (test .before .fits2 .result) (test .before .fits2 .ensures) (test .if2 .left) in
+    let test : tie.Else2 = search in
+    let after-fits2 : tie.After-fits2 = search in
+    let entry : tie.Start = search in
+    let f = granted _ (after-fits2 .fits2 .result) (after-fits2 .fits2 .ensures) (test .if2 .left) in
     omega (arith, f .bank, entry .pre .1 .most)
 
 same-length-2 : tie.Need-same-length-2
@@ -55,11 +57,13 @@ same-length-2 c = search needs
 
 returns-3 : tie.Need-returns-3
 returns-3 c =
-    let test = c .before in
-    let known = test .before .before .before in
-    let number = known .before .before in
-    let f = granted _ (test .before .fits2 .result) (test .before .fits2 .ensures) (test .if2 .left) in
-    takes (number .before .before .before .pre .0) (number .read-number .ensures .some (not-false _ (known .if1 .left))) (c .wide .ensures) f
+    let test : tie.Else2 = search in
+    let after-fits2 : tie.After-fits2 = search in
+    let known : tie.Else1 = search in
+    let number : tie.After-read-number = search in
+    let start : tie.Start = search in
+    let f = granted _ (after-fits2 .fits2 .result) (after-fits2 .fits2 .ensures) (test .if2 .left) in
+    takes (start .pre .0) (number .read-number .ensures .some (not-false _ (known .if1 .left))) (c .wide .ensures) f
 
 pub take-bank-spec : {M : Type 1} → statement M
 take-bank-spec =

@@ -11,7 +11,9 @@ add-t6 : tie.Need-add-t6
 add-t6 c = search needs
 
 returns : tie.Need-returns
-returns c = zero-alone (c .before .before .before .pre) (c .if1 .taken)
+returns c =
+    let start : tie.Start = search in
+    zero-alone (start .pre) (c .if1 .taken)
 
 read-digits-requires : tie.Need-read-digits-requires
 read-digits-requires c κs = search needs

@@ -20,10 +20,14 @@ digit-at-requires-2 : tie.Need-digit-at-requires-2
 digit-at-requires-2 c κs = search needs
 
 returns-2 : tie.Need-returns-2
-returns-2 c = none-read (c .before .before .read-first .ensures .whole (yes-says _ (c .before .digit-at2 .result) (c .before .digit-at2 .ensures) (c .if2 .taken)))
+returns-2 c =
+    let after-read-first : tie.After-read-first = search in
+    none-read (after-read-first .read-first .ensures .whole (yes-says _ (c .before .digit-at2 .result) (c .before .digit-at2 .ensures) (c .if2 .taken)))
 
 returns-3 : tie.Need-returns-3
-returns-3 c = number-read (number-at (c .before .before .read-first .ensures) (no-says _ (c .before .digit-at2 .result) (c .before .digit-at2 .ensures) (c .if2 .left)))
+returns-3 c =
+    let after-read-first : tie.After-read-first = search in
+    number-read (number-at (after-read-first .read-first .ensures) (no-says _ (c .before .digit-at2 .result) (c .before .digit-at2 .ensures) (c .if2 .left)))
 
 pub read-number-spec : {M : Type 1} → statement M
 read-number-spec =

@@ -35,9 +35,11 @@ shared-slice-read-if2-2 c = search needs
 
 returns-2 : tie.Need-returns-2 Inv-loop μ-loop
 returns-2 c =
-    let loop = c .before .before .before .before in
-    let a = loop .before .before .args in
-    differs (a .s .now) (a .at) (a .text .now) (loop .loop .i) (c .before .before .before .loop-test .taken) (c .if2 .taken)
+    let in-loop : tie.In-loop Inv-loop μ-loop = search in
+    let loop : tie.At-loop Inv-loop μ-loop = search in
+    let start : tie.Start Inv-loop μ-loop = search in
+    let a = start .args in
+    differs (a .s .now) (a .at) (a .text .now) (loop .loop .i) (in-loop .loop-test .taken) (c .if2 .taken)
 
 add-i : tie.Need-add-i Inv-loop μ-loop
 add-i c = search needs
@@ -47,13 +49,16 @@ loop-less c = search needs
 
 loop-again : tie.Need-loop-again Inv-loop μ-loop
 loop-again c =
-    let loop = c .before .before .before .before in
-    let a = loop .before .before .args in
-    (search needs, stands-next (a .s .now) (a .at) (a .text .now) (loop .loop .i) (c .before .before .before .loop-test .taken) (omega arith) (loop .loop .inv .1) (c .if2 .left))
+    let in-loop : tie.In-loop Inv-loop μ-loop = search in
+    let loop : tie.At-loop Inv-loop μ-loop = search in
+    let start : tie.Start Inv-loop μ-loop = search in
+    let a = start .args in
+    (search needs, stands-next (a .s .now) (a .at) (a .text .now) (loop .loop .i) (in-loop .loop-test .taken) (omega arith) (loop .loop .inv .1) (c .if2 .left))
 
 returns-3 : tie.Need-returns-3 Inv-loop μ-loop
 returns-3 c =
-    let a = c .before .before .before .args in
+    let start : tie.Start Inv-loop μ-loop = search in
+    let a = start .args in
     stands-all (a .s .now) (a .at) (a .text .now) (c .before .loop .i) (omega arith) (c .before .loop .inv .1)
 
 pub text-at-spec : {M : Type 1} → statement M

@@ -27,8 +27,10 @@ shared-slice-read-if1 c = search needs
 
 returns : tie.Need-returns Inv-loop μ-loop
 returns c =
-    let loop = c .before .before .before in
-    λ all. let h = all (loop .loop .i) (omega (arith, c .before .before .loop-test .taken, loop .before .wide .ensures)) in omega (arith, c .if1 .taken)
+    let in-loop : tie.In-loop Inv-loop μ-loop = search in
+    let loop : tie.At-loop Inv-loop μ-loop = search in
+    let after-wide : tie.After-wide Inv-loop μ-loop = search in
+    λ all. let h = all (loop .loop .i) (omega (arith, in-loop .loop-test .taken, after-wide .wide .ensures)) in omega (arith, c .if1 .taken)
 
 add-i : tie.Need-add-i Inv-loop μ-loop
 add-i c = search needs
@@ -37,10 +39,15 @@ loop-less : tie.Need-loop-less Inv-loop μ-loop
 loop-less c = search needs
 
 loop-again : tie.Need-loop-again Inv-loop μ-loop
-loop-again c = (omega (arith, c .before .before .loop-test .taken), below-more _ _ (c .before .before .before .loop .inv .1) (c .if1 .left))
+loop-again c =
+    let in-loop : tie.In-loop Inv-loop μ-loop = search in
+    let at-loop : tie.At-loop Inv-loop μ-loop = search in
+    (omega (arith, in-loop .loop-test .taken), below-more _ _ (at-loop .loop .inv .1) (c .if1 .left))
 
 returns-2 : tie.Need-returns-2 Inv-loop μ-loop
-returns-2 c = λ b h. c .before .loop .inv .1 b (omega (arith, c .loop-test .left, c .before .before .wide .ensures))
+returns-2 c =
+    let after-wide : tie.After-wide Inv-loop μ-loop = search in
+    λ b h. c .before .loop .inv .1 b (omega (arith, c .loop-test .left, after-wide .wide .ensures))
 
 pub all-named-spec : {M : Type 1} → statement M
 all-named-spec =

@@ -16,7 +16,9 @@ sub-if1 : tie.Need-sub-if1
 sub-if1 c = search needs
 
 returns : tie.Need-returns
-returns c = let a = c .before .before .before .args in foot-short (a .tally .banks) (a .tally .clashes) (c .before .foot-length .ensures .0) (a .s .now) (a .at) (c .if1 .taken)
+returns c =
+    let start : tie.Start = search in
+    let a = start .args in foot-short (a .tally .banks) (a .tally .clashes) (c .before .foot-length .ensures .0) (a .s .now) (a .at) (c .if1 .taken)
 
 slice-aggregate-put-foot : tie.Need-slice-aggregate-put-foot
 slice-aggregate-put-foot c = search needs
@@ -44,21 +46,25 @@ text-at-requires c κs = search needs
 
 returns-2 : tie.Need-returns-2
 returns-2 c =
-    let byte = c .before .before .before .before .before in
-    let foot = byte .before .before .before in
-    let size = foot .before .before in
-    let bytes = size .before .foot-length .ensures in
-    let a = size .before .before .before .args in
+    let byte : tie.After-put-byte = search in
+    let foot : tie.After-put-foot = search in
+    let size : tie.Else1 = search in
+    let after-foot-length : tie.After-foot-length = search in
+    let start : tie.Start = search in
+    let bytes = after-foot-length .foot-length .ensures in
+    let a = start .args in
     foot-differs (a .tally .banks) (a .tally .clashes) (bytes .0) (omega (arith, bytes .1)) (foot .put-foot .ensures) (byte .put-byte .ensures) (a .s .now) (a .at)
     (size .if1 .left) (denied _ (c .before .text-at .result) (c .before .text-at .ensures) (c .if2 .taken))
 
 returns-3 : tie.Need-returns-3
 returns-3 c =
-    let byte = c .before .before .before .before .before in
-    let foot = byte .before .before .before in
-    let size = foot .before .before in
-    let bytes = size .before .foot-length .ensures in
-    let a = size .before .before .before .args in
+    let byte : tie.After-put-byte = search in
+    let foot : tie.After-put-foot = search in
+    let size : tie.Else1 = search in
+    let after-foot-length : tie.After-foot-length = search in
+    let start : tie.Start = search in
+    let bytes = after-foot-length .foot-length .ensures in
+    let a = start .args in
     foot-stands (a .tally .banks) (a .tally .clashes) (bytes .0) (omega (arith, bytes .1)) (foot .put-foot .ensures) (byte .put-byte .ensures) (a .s .now) (a .at)
     (size .if1 .left) (granted _ (c .before .text-at .result) (c .before .text-at .ensures) (c .if2 .left))
 

@@ -20,31 +20,40 @@ read-number-requires : tie.Need-read-number-requires
 read-number-requires c κs = search needs
 
 returns-2 : tie.Need-returns-2
-returns-2 c = no-count (c .before .before .read-number .ensures .none (not-true _ (c .if2 .taken)))
+returns-2 c =
+    let after-read-number : tie.After-read-number = search in
+    no-count (after-read-number .read-number .ensures .none (not-true _ (c .if2 .taken)))
 
 returns-3 : tie.Need-returns-3
-returns-3 c = many-waves (c .before .before .before .before .read-number .ensures .some (not-false _ (c .before .before .if2 .left))) (c .if3 .taken)
+returns-3 c =
+    let else2 : tie.Else2 = search in
+    let after-read-number : tie.After-read-number = search in
+    many-waves (after-read-number .read-number .ensures .some (not-false _ (else2 .if2 .left))) (c .if3 .taken)
 
 byte-at-requires : tie.Need-byte-at-requires
 byte-at-requires c κs = search needs
 
 returns-4 : tie.Need-returns-4
 returns-4 c =
-    let test = c .before .before .before .before in
-    no-feed (test .before .before .read-number .ensures .some (not-false _ (test .if2 .left))) (denied _ (c .before .byte-at .result) (c .before .byte-at .ensures) (c .if4 .taken))
+    let test : tie.Else2 = search in
+    let after-read-number : tie.After-read-number = search in
+    no-feed (after-read-number .read-number .ensures .some (not-false _ (test .if2 .left))) (denied _ (c .before .byte-at .result) (c .before .byte-at .ensures) (c .if4 .taken))
 
 add-t8 : tie.Need-add-t8
-add-t8 c = let feed = granted _ (c .before .before .byte-at .result) (c .before .before .byte-at .ensures) (c .before .if4 .left) in omega (arith, feed .inside)
+add-t8 c =
+    let feed = (let feeds : tie.After-byte-at = search in granted _ (feeds .byte-at .result) (feeds .byte-at .ensures) (c .before .if4 .left)) in
+    omega (arith, feed .inside)
 
 returns-5 : tie.Need-returns-5
 returns-5 c =
-    let feeds = c .before .before in
-    let most = feeds .before in
-    let counts = most .before .before in
-    let number = counts .before .before in
-    let begins = number .before in
+    let feeds : tie.After-byte-at = search in
+    let most : tie.Else3 = search in
+    let counts : tie.Else2 = search in
+    let number : tie.After-read-number = search in
+    let begins : tie.Else1 = search in
+    let after-text-at : tie.After-text-at = search in
     let count = number .read-number .ensures .some (not-false _ (counts .if2 .left)) in
-    let word = granted _ (begins .before .text-at .result) (begins .before .text-at .ensures) (begins .if1 .left) in
+    let word = granted _ (after-text-at .text-at .result) (after-text-at .text-at .ensures) (begins .if1 .left) in
     let feed = granted _ (feeds .byte-at .result) (feeds .byte-at .ensures) (c .before .if4 .left) in
     head-read count word (most .if3 .left) feed
 

@@ -20,12 +20,15 @@ abbrev μ-loop : tie.MeasureT-loop
 μ-loop s from n k cells₀ next₀ c₀ cells next c = k - c
 
 loop-holds : tie.Need-loop-holds Inv-loop μ-loop
-loop-holds c = (lines-none (c .before .before .pre .0 .0) (c .before .before .pre .1), omega arith, refl)
+loop-holds c =
+    let start : tie.Start Inv-loop μ-loop = search in
+    (lines-none (start .pre .0 .0) (start .pre .1), omega arith, refl)
 
 read-line-requires : tie.Need-read-line-requires Inv-loop μ-loop
 read-line-requires c κs =
-    let loop = c .before .before in
-    let en = c .before .before .before .before .before .pre .0 .1 in
+    let loop : tie.At-loop Inv-loop μ-loop = search in
+    let start : tie.Start Inv-loop μ-loop = search in
+    let en = start .pre .0 .1 in
     let few = loop .loop .inv .0 .few in (
       (omega (arith, c .before .loop-test .taken), record { most = en .most; long = omega (arith, en .long, loop .loop .inv .2) }),
       none-yet (loop .loop .inv .0) (c .before .loop-test .taken),
@@ -39,9 +42,10 @@ same-length c = search needs
 
 returns : tie.Need-returns Inv-loop μ-loop
 returns c =
-    let line = c .before .before .before .before in
-    let test = line .before .before in
-    let read = test .before .loop .inv .0 in
+    let line : tie.After-read-line Inv-loop μ-loop = search in
+    let test : tie.In-loop Inv-loop μ-loop = search in
+    let at-loop : tie.At-loop Inv-loop μ-loop = search in
+    let read = at-loop .loop .inv .0 in
     let none = line .read-line .ensures .none (not-true _ (c .if1 .taken)) in
     record { some = never-true; none = λ e. no-lines read (test .loop-test .taken) none; fault = fault-line read (test .loop-test .taken) none }
 
@@ -53,9 +57,9 @@ loop-less c = search needs
 
 loop-again : tie.Need-loop-again Inv-loop μ-loop
 loop-again c =
-    let line = c .before .before .before .before in
-    let test = line .before .before in
-    let loop = test .before in (
+    let line : tie.After-read-line Inv-loop μ-loop = search in
+    let test : tie.In-loop Inv-loop μ-loop = search in
+    let loop : tie.At-loop Inv-loop μ-loop = search in (
       lines-more (loop .loop .inv .0) (test .loop-test .taken) (line .read-line .ensures .some (not-false _ (c .if1 .left))),
       omega (arith, test .loop-test .taken),
       omega (arith, line .read-line .kept, loop .loop .inv .2),
@@ -69,8 +73,9 @@ same-length-2 c = search needs
 
 returns-2 : tie.Need-returns-2 Inv-loop μ-loop
 returns-2 c =
-    let loop = c .before in
-    let all : loop .loop .c ≡ loop .before .before .before .args .k = omega (arith, c .loop-test .left, loop .loop .inv .1) in
+    let loop : tie.At-loop Inv-loop μ-loop = search in
+    let start : tie.Start Inv-loop μ-loop = search in
+    let all : loop .loop .c ≡ start .args .k = omega (arith, c .loop-test .left, loop .loop .inv .1) in
     let read = rw all at (loop .loop .inv .0) in
     record { some = λ e. read; none = never-false; fault = fault-foot read }
 

@@ -13,13 +13,14 @@ read-head-requires c κs = search needs
 
 returns : tie.Need-returns
 returns c =
-    let none = c .before .before .read-head .ensures .none (not-true _ (c .if1 .taken)) in
+    let after-read-head : tie.After-read-head = search in
+    let none = after-read-head .read-head .ensures .none (not-true _ (c .if1 .taken)) in
     record { some = never-true; none = λ e. no-head none; fault = λ e. fault-head _ none }
 
 read-lines-requires : tie.Need-read-lines-requires
 read-lines-requires c κs =
-    let head = c .before .before .before in
-    let entry = head .before .before .before in
+    let head : tie.After-read-head = search in
+    let entry : tie.Start = search in
     ((head .read-head .ensures .some (not-false _ (c .before .if1 .left)), entry .pre .0), entry .pre .1)
 
 same-length : tie.Need-same-length
@@ -27,21 +28,26 @@ same-length c = search needs
 
 returns-2 : tie.Need-returns-2
 returns-2 c =
-    let body = c .before .before .before .before .read-lines .ensures in
+    let after-read-lines : tie.After-read-lines = search in
+    let body = after-read-lines .read-lines .ensures in
     record { some = never-true; none = λ e. body .none (not-true _ (c .if2 .taken)) _; fault = λ e. body .fault }
 
 foot-at-requires : tie.Need-foot-at-requires
-foot-at-requires c κs = c .before .before .before .before .read-lines .ensures .some (not-false _ (c .if2 .left)) .inside
+foot-at-requires c κs =
+    let after-read-lines : tie.After-read-lines = search in
+    after-read-lines .read-lines .ensures .some (not-false _ (c .if2 .left)) .inside
 
 same-length-2 : tie.Need-same-length-2
 same-length-2 c = search needs
 
 returns-3 : tie.Need-returns-3
 returns-3 c =
-    let body = c .before .before .before .before .before .before .read-lines .ensures in
+    let else2 : tie.Else2 = search in
+    let after-read-lines : tie.After-read-lines = search in
+    let body = after-read-lines .read-lines .ensures in
     record {
       some = never-true;
-      none = λ e. no-foot (body .some (not-false _ (c .before .before .if2 .left))) (denied _ (c .before .foot-at .result) (c .before .foot-at .ensures) (c .if3 .taken));
+      none = λ e. no-foot (body .some (not-false _ (else2 .if2 .left))) (denied _ (c .before .foot-at .result) (c .before .foot-at .ensures) (c .if3 .taken));
       fault = λ e. body .fault;
     }
 
@@ -53,10 +59,12 @@ same-length-3 c = search needs
 
 returns-4 : tie.Need-returns-4
 returns-4 c =
-    let body = c .before .before .before .before .before .before .before .before .before .read-lines .ensures in
+    let else2 : tie.Else2 = search in
+    let after-read-lines : tie.After-read-lines = search in
+    let body = after-read-lines .read-lines .ensures in
     record {
       some = never-true;
-      none = λ e. not-all (body .some (not-false _ (c .before .before .before .before .before .if2 .left))) (denied _ (c .before .all-named .result) (c .before .all-named .ensures) (c .if4 .taken));
+      none = λ e. not-all (body .some (not-false _ (else2 .if2 .left))) (denied _ (c .before .all-named .result) (c .before .all-named .ensures) (c .if4 .taken));
       fault = λ e. body .fault;
     }
 
@@ -65,8 +73,12 @@ same-length-4 c = search needs
 
 returns-5 : tie.Need-returns-5
 returns-5 c =
-    let read = c .before .before .before .before .before .before .before .before .before .read-lines .ensures .some (not-false _ (c .before .before .before .before .before .if2 .left)) in
-    let foot = granted _ (c .before .before .before .before .foot-at .result) (c .before .before .before .before .foot-at .ensures) (c .before .before .before .if3 .left) in
+    let else3 : tie.Else3 = search in
+    let after-foot-at : tie.After-foot-at = search in
+    let else2 : tie.Else2 = search in
+    let after-read-lines : tie.After-read-lines = search in
+    let read = after-read-lines .read-lines .ensures .some (not-false _ (else2 .if2 .left)) in
+    let foot = granted _ (after-foot-at .foot-at .result) (after-foot-at .foot-at .ensures) (else3 .if3 .left) in
     let all = granted _ (c .before .all-named .result) (c .before .all-named .ensures) (c .if4 .left) in
     record { some = λ e. sheet-done read foot all; none = never-false; fault = never-false }
 

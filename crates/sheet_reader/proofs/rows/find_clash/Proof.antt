@@ -22,13 +22,16 @@ loop-holds : tie.Need-loop-holds Inv-loop μ-loop
 loop-holds c = (omega arith, λ x h. absurd (omega arith))
 
 find-partner-requires : tie.Need-find-partner-requires Inv-loop μ-loop
-find-partner-requires c κs = (c .before .before .before .before .before .pre .0, (c .before .before .before .before .before .pre .1, c .loop-test .taken))
+find-partner-requires c κs =
+    let start : tie.Start Inv-loop μ-loop = search in
+    (start .pre .0, (start .pre .1, c .loop-test .taken))
 
 returns : tie.Need-returns Inv-loop μ-loop
 returns c =
-    let test = c .before .before in
-    let loop = test .before in
-    pair-found _ _ (omega (arith, banks-are (loop .before .before .before .before .pre .0), test .loop-test .taken)) (loop .loop .inv .1) (c .before .find-partner .ensures) (c .if1 .taken)
+    let test : tie.In-loop Inv-loop μ-loop = search in
+    let loop : tie.At-loop Inv-loop μ-loop = search in
+    let start : tie.Start Inv-loop μ-loop = search in
+    pair-found _ _ (omega (arith, banks-are (start .pre .0), test .loop-test .taken)) (loop .loop .inv .1) (c .before .find-partner .ensures) (c .if1 .taken)
 
 add-b : tie.Need-add-b Inv-loop μ-loop
 add-b c = search needs
@@ -37,10 +40,15 @@ loop-less : tie.Need-loop-less Inv-loop μ-loop
 loop-less c = search needs
 
 loop-again : tie.Need-loop-again Inv-loop μ-loop
-loop-again c = (omega (arith, c .before .before .loop-test .taken), below-more _ _ (c .before .before .before .loop .inv .1) (sym (c .before .find-partner .ensures .found-is) ∙ c .if1 .left))
+loop-again c =
+    let in-loop : tie.In-loop Inv-loop μ-loop = search in
+    let at-loop : tie.At-loop Inv-loop μ-loop = search in
+    (omega (arith, in-loop .loop-test .taken), below-more _ _ (at-loop .loop .inv .1) (sym (c .before .find-partner .ensures .found-is) ∙ c .if1 .left))
 
 returns-2 : tie.Need-returns-2 Inv-loop μ-loop
-returns-2 c = pair-none _ _ (λ x h. c .before .loop .inv .1 x (omega (arith, banks-are (c .before .before .before .before .before .pre .0), c .loop-test .left)))
+returns-2 c =
+    let start : tie.Start Inv-loop μ-loop = search in
+    pair-none _ _ (λ x h. c .before .loop .inv .1 x (omega (arith, banks-are (start .pre .0), c .loop-test .left)))
 
 pub find-clash-spec : {M : Type 1} → statement M
 find-clash-spec =

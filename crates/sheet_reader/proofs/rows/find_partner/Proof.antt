@@ -29,7 +29,7 @@ mul-wide c = search needs
 
 shared-slice-read-wide : tie.Need-shared-slice-read-wide Inv-loop μ-loop
 shared-slice-read-wide c =
-    let entry = c .before .before .before .before .before in
+    let entry : tie.Start Inv-loop μ-loop = search in
     let r = row-degrees (entry .pre .0) (entry .pre .1 .1) in
     omega (arith, c .before .wide .ensures, entry .pre .1 .1)
 
@@ -47,29 +47,26 @@ loop-holds c = (omega arith, scan-start _ _)
 
 add-v : tie.Need-add-v Inv-loop μ-loop
 add-v c =
-    let loop = c .before in
-    let second = loop .before .before in
-    let first = second .before .before in
-    let entry = first .before .before .before .before in
+    let second : tie.After-wide2 Inv-loop μ-loop = search in
+    let first : tie.After-wide Inv-loop μ-loop = search in
+    let entry : tie.Start Inv-loop μ-loop = search in
     let h : first .wide .result < entry .args .n = omega (arith, entry .pre .1 .1, first .wide .ensures) in
     omega (arith, row-few (entry .pre .0) h, row-most (entry .pre .0) h, c .loop-test .taken, second .wide2 .ensures)
 
 mul-v : tie.Need-mul-v Inv-loop μ-loop
 mul-v c =
-    let loop = c .before in
-    let second = loop .before .before in
-    let first = second .before .before in
-    let entry = first .before .before .before .before in
+    let second : tie.After-wide2 Inv-loop μ-loop = search in
+    let first : tie.After-wide Inv-loop μ-loop = search in
+    let entry : tie.Start Inv-loop μ-loop = search in
     let h : first .wide .result < entry .args .n = omega (arith, entry .pre .1 .1, first .wide .ensures) in
     omega (arith, row-few (entry .pre .0) h, row-most (entry .pre .0) h, c .loop-test .taken, second .wide2 .ensures)
 
 shared-slice-read-v : tie.Need-shared-slice-read-v Inv-loop μ-loop
 shared-slice-read-v c =
-    let test = c .before in
-    let loop = test .before in
-    let second = loop .before .before in
-    let first = second .before .before in
-    let entry = first .before .before .before .before in
+    let test : tie.In-loop Inv-loop μ-loop = search in
+    let second : tie.After-wide2 Inv-loop μ-loop = search in
+    let first : tie.After-wide Inv-loop μ-loop = search in
+    let entry : tie.Start Inv-loop μ-loop = search in
     let h : first .wide .result < entry .args .n = omega (arith, entry .pre .1 .1, first .wide .ensures) in
     omega (arith, row-few (entry .pre .0) h, row-cells (entry .pre .0) h, test .loop-test .taken, second .wide2 .ensures)
 
@@ -78,35 +75,35 @@ wide-requires-3 c κs = search needs
 
 mul-if1 : tie.Need-mul-if1 Inv-loop μ-loop
 mul-if1 c =
-    let test = c .before .before in
-    let loop = test .before in
-    let second = loop .before .before in
-    let first = second .before .before in
-    let entry = first .before .before .before .before in
+    let test : tie.In-loop Inv-loop μ-loop = search in
+    let loop : tie.At-loop Inv-loop μ-loop = search in
+    let second : tie.After-wide2 Inv-loop μ-loop = search in
+    let first : tie.After-wide Inv-loop μ-loop = search in
+    let entry : tie.Start Inv-loop μ-loop = search in
     let h : first .wide .result < entry .args .n = omega (arith, entry .pre .1 .1, first .wide .ensures) in
     let l : loop .loop .i < getD (entry .args .degrees .now) (first .wide .result) 0 = omega (arith, test .loop-test .taken, second .wide2 .ensures) in
     omega (arith, cell-bank (entry .pre .0) h l, c .wide3 .ensures, row-most (entry .pre .0) h)
 
 shared-slice-read-if1 : tie.Need-shared-slice-read-if1 Inv-loop μ-loop
 shared-slice-read-if1 c =
-    let third = c .before in
-    let test = third .before .before in
-    let loop = test .before in
-    let second = loop .before .before in
-    let first = second .before .before in
-    let entry = first .before .before .before .before in
+    let third : tie.After-wide3 Inv-loop μ-loop = search in
+    let test : tie.In-loop Inv-loop μ-loop = search in
+    let loop : tie.At-loop Inv-loop μ-loop = search in
+    let second : tie.After-wide2 Inv-loop μ-loop = search in
+    let first : tie.After-wide Inv-loop μ-loop = search in
+    let entry : tie.Start Inv-loop μ-loop = search in
     let h : first .wide .result < entry .args .n = omega (arith, entry .pre .1 .1, first .wide .ensures) in
     let l : loop .loop .i < getD (entry .args .degrees .now) (first .wide .result) 0 = omega (arith, test .loop-test .taken, second .wide2 .ensures) in
     omega (arith, cell-bank (entry .pre .0) h l, third .wide3 .ensures, entry .pre .1 .0)
 
 returns : tie.Need-returns Inv-loop μ-loop
 returns c =
-    let third = c .before .before in
-    let test = third .before .before in
-    let loop = test .before in
-    let second = loop .before .before in
-    let first = second .before .before in
-    let entry = first .before .before .before .before in
+    let third : tie.After-wide3 Inv-loop μ-loop = search in
+    let test : tie.In-loop Inv-loop μ-loop = search in
+    let loop : tie.At-loop Inv-loop μ-loop = search in
+    let second : tie.After-wide2 Inv-loop μ-loop = search in
+    let first : tie.After-wide Inv-loop μ-loop = search in
+    let entry : tie.Start Inv-loop μ-loop = search in
     let h : first .wide .result < entry .args .n = omega (arith, entry .pre .1 .1, first .wide .ensures) in
     let l : loop .loop .i < getD (entry .args .degrees .now) (first .wide .result) 0 = omega (arith, test .loop-test .taken, second .wide2 .ensures) in
     let cells = entry .args .cells .now in
@@ -121,12 +118,12 @@ loop-less c = search needs
 
 loop-again : tie.Need-loop-again Inv-loop μ-loop
 loop-again c =
-    let third = c .before .before in
-    let test = third .before .before in
-    let loop = test .before in
-    let second = loop .before .before in
-    let first = second .before .before in
-    let entry = first .before .before .before .before in
+    let third : tie.After-wide3 Inv-loop μ-loop = search in
+    let test : tie.In-loop Inv-loop μ-loop = search in
+    let loop : tie.At-loop Inv-loop μ-loop = search in
+    let second : tie.After-wide2 Inv-loop μ-loop = search in
+    let first : tie.After-wide Inv-loop μ-loop = search in
+    let entry : tie.Start Inv-loop μ-loop = search in
     let h : first .wide .result < entry .args .n = omega (arith, entry .pre .1 .1, first .wide .ensures) in
     let l : loop .loop .i < getD (entry .args .degrees .now) (first .wide .result) 0 = omega (arith, test .loop-test .taken, second .wide2 .ensures) in
     let cells = entry .args .cells .now in (
@@ -136,10 +133,10 @@ loop-again c =
 
 returns-2 : tie.Need-returns-2 Inv-loop μ-loop
 returns-2 c =
-    let loop = c .before in
-    let second = loop .before .before in
-    let first = second .before .before in
-    let entry = first .before .before .before .before in
+    let loop : tie.At-loop Inv-loop μ-loop = search in
+    let second : tie.After-wide2 Inv-loop μ-loop = search in
+    let first : tie.After-wide Inv-loop μ-loop = search in
+    let entry : tie.Start Inv-loop μ-loop = search in
     let h : first .wide .result < entry .args .n = omega (arith, entry .pre .1 .1, first .wide .ensures) in
     partner-of (first .wide .ensures) (partner-none (entry .pre .0) h (waveIn (entry .args .cells .now)) (loop .loop .inv .1) (omega (arith, c .loop-test .left, second .wide2 .ensures)))
 

@@ -14,25 +14,25 @@ slice-aggregate-put-text c = search needs
 
 put-text-requires : tie.Need-put-text-requires
 put-text-requires c κs =
-    let start = c .before .before .before in
+    let start : tie.Start = search in
     omega (arith, length-head (start .args .k), start .pre)
 
 put-number-requires : tie.Need-put-number-requires
 put-number-requires c κs =
-    let at1 = c .before .before .before in
-    let at2 = at1 .before .before .before .before in
-    let p = at1 .put-text in
-    let start = at2 in
+    let after-put-text : tie.After-put-text = search in
+    let at-start : tie.Start = search in
+    let p = after-put-text .put-text in
+    let start = at-start in
     omega (arith, length-head (start .args .k), start .pre, p .ensures .next, p .kept .0)
 
 put-byte-requires : tie.Need-put-byte-requires
 put-byte-requires c κs =
-    let at1 = c .before .before .before in
-    let at2 = at1 .before .before .before .before in
-    let at3 = at2 .before .before .before .before in
-    let q = at1 .put-number in
-    let p = at2 .put-text in
-    let start = at3 in
+    let after-put-number : tie.After-put-number = search in
+    let after-put-text : tie.After-put-text = search in
+    let at-start : tie.Start = search in
+    let q = after-put-number .put-number in
+    let p = after-put-text .put-text in
+    let start = at-start in
     omega (arith, length-head (start .args .k), start .pre, p .ensures .next, p .kept .0, q .ensures .next, q .kept .0)
 
 same-length : tie.Need-same-length
@@ -41,17 +41,18 @@ same-length c = search needs
 returns : tie.Need-returns
 unfolding headText
 returns c =
-    let at1 = c .before .before .before .before .before .before in
-    let at2 = at1 .before .before .before .before in
-    let at3 = at2 .before .before .before .before in
-    let q = at1 .put-number in
-    let p = at2 .put-text in
-    let start = at3 in
+    let after-put-byte : tie.After-put-byte = search in
+    let after-put-number : tie.After-put-number = search in
+    let after-put-text : tie.After-put-text = search in
+    let at-start : tie.Start = search in
+    let q = after-put-number .put-number in
+    let p = after-put-text .put-text in
+    let start = at-start in
     let k = start .args .k in
     let long = length-head k in
     let fits = start .pre in
     puts-three (87 ∷ 65 ∷ 86 ∷ 69 ∷ 83 ∷ 32 ∷ []) (decimal k) (10 ∷ []) 0 (start .args .out .now) (omega arith) _ _ _ _ _ _ (p .kept .0)
-    (p .ensures) (q .ensures) (c .before .before .put-byte .ensures)
+    (p .ensures) (q .ensures) (after-put-byte .put-byte .ensures)
 
 pub put-head-spec : {M : Type 1} → statement M
 put-head-spec =

@@ -11,14 +11,14 @@ use Rattle.sheet_writer.proofs.lines.put_last.Tie as tie
 
 put-foot-requires : tie.Need-put-foot-requires
 put-foot-requires c κs =
-    let start = c .before .before in
+    let start : tie.Start = search in
     let t = start .args .tally in
     omega (arith, length-last (t .banks) (t .clashes), start .pre)
 
 put-byte-requires : tie.Need-put-byte-requires
 put-byte-requires c κs =
-    let p = c .before .before .before in
-    let start = p .before .before .before in
+    let p : tie.After-put-foot = search in
+    let start : tie.Start = search in
     let t = start .args .tally in
     omega (arith, length-last (t .banks) (t .clashes), start .pre, p .put-foot .ensures .next, p .put-foot .kept .0)
 
@@ -28,14 +28,15 @@ same-length c = search needs
 returns : tie.Need-returns
 unfolding lastText
 returns c =
-    let p = c .before .before .before .before .before .before in
-    let start = p .before .before .before in
+    let after-put-byte : tie.After-put-byte = search in
+    let p : tie.After-put-foot = search in
+    let start : tie.Start = search in
     let a = start .args in
     let n = a .tally .banks in
     let m = a .tally .clashes in
     let long = length-last n m in
     let fits = start .pre in
-    puts-then (footText n m) (10 ∷ []) (a .at) (a .out .now) (omega arith) _ _ _ _ (p .put-foot .ensures) (c .before .before .put-byte .ensures)
+    puts-then (footText n m) (10 ∷ []) (a .at) (a .out .now) (omega arith) _ _ _ _ (p .put-foot .ensures) (after-put-byte .put-byte .ensures)
 
 pub put-last-spec : {M : Type 1} → statement M
 put-last-spec = tie.close (tie.spec put-foot-requires put-byte-requires same-length returns)

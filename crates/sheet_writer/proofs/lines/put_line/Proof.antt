@@ -16,27 +16,27 @@ letter-requires c κs = search needs
 
 put-byte-requires : tie.Need-put-byte-requires
 put-byte-requires c κs =
-    let start = c .before .before .before .before in
+    let start : tie.Start = search in
     let a = start .args in
     omega (arith, length-wave (a .waves .now) (a .n) (a .c .0), start .pre .2)
 
 put-members-requires : tie.Need-put-members-requires
 put-members-requires c κs =
-    let at1 = c .before .before .before in
-    let at2 = at1 .before .before .before .before .before in
-    let p = at1 .put-byte in
-    let start = at2 in
+    let after-put-byte : tie.After-put-byte = search in
+    let at-start : tie.Start = search in
+    let p = after-put-byte .put-byte in
+    let start = at-start in
     let a = start .args in
     (start .pre .1, omega (arith, length-wave (a .waves .now) (a .n) (a .c .0), start .pre .2, p .ensures .next, p .kept .0))
 
 put-byte-requires-2 : tie.Need-put-byte-requires-2
 put-byte-requires-2 c κs =
-    let at1 = c .before .before .before in
-    let at2 = at1 .before .before .before .before in
-    let at3 = at2 .before .before .before .before .before in
-    let q = at1 .put-members in
-    let p = at2 .put-byte in
-    let start = at3 in
+    let after-put-members : tie.After-put-members = search in
+    let after-put-byte : tie.After-put-byte = search in
+    let at-start : tie.Start = search in
+    let q = after-put-members .put-members in
+    let p = after-put-byte .put-byte in
+    let start = at-start in
     let a = start .args in
     omega (arith, length-wave (a .waves .now) (a .n) (a .c .0), start .pre .2, p .ensures .next, p .kept .0, q .ensures .next, q .kept .0)
 
@@ -46,10 +46,11 @@ same-length c = search needs
 returns : tie.Need-returns
 unfolding sheetWave lineText membersText
 returns c =
-    let at1 = c .before .before .before .before .before .before in
-    let at2 = at1 .before .before .before .before in
-    let q = at1 .put-members in
-    let p = at2 in
+    let after-put-byte2 : tie.After-put-byte2 = search in
+    let after-put-members : tie.After-put-members = search in
+    let after-put-byte : tie.After-put-byte = search in
+    let q = after-put-members .put-members in
+    let p = after-put-byte in
     let start = p .before .before .before .before .before in
     let a = start .args in
     let ws = a .waves .now in
@@ -57,7 +58,7 @@ returns c =
     let long = length-wave ws (a .n) (a .c .0) in
     let fits = start .pre .2 in
     puts-three (getD letters (a .c .0) 0 ∷ []) (membersText ws (a .c .0) (a .n)) (10 ∷ []) (a .at) (a .out .now) (omega arith) _ _ _ _ _ _
-    (p .put-byte .kept .0) first (q .ensures) (c .before .before .put-byte2 .ensures)
+    (p .put-byte .kept .0) first (q .ensures) (after-put-byte2 .put-byte2 .ensures)
 
 pub put-line-spec : {M : Type 1} → statement M
 put-line-spec =

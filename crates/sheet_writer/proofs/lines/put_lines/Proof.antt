@@ -20,14 +20,16 @@ abbrev μ-loop : tie.MeasureT-loop
 
 loop-holds : tie.Need-loop-holds Inv-loop μ-loop
 loop-holds c =
-    let a = c .before .before .args in
+    let start : tie.Start Inv-loop μ-loop = search in
+    let a = start .args in
     (rw (waves-none (a .waves .now) (a .n)) (puts-none _ _), omega arith, refl)
 
 put-line-requires : tie.Need-put-line-requires Inv-loop μ-loop
 put-line-requires c κs =
-    let at1 = c .before .before .before .before .before in
-    let w = c .before .before .loop in
-    let start = at1 in
+    let at-loop : tie.At-loop Inv-loop μ-loop = search in
+    let at-start : tie.Start Inv-loop μ-loop = search in
+    let w = at-loop .loop in
+    let start = at-start in
     let a = start .args in
     let room = waves-room (a .waves .now) (a .n) (w .c) (a .k) (c .before .loop-test .taken) in
     (omega (arith, start .pre .0), start .pre .1, omega (arith, w .inv .0 .next, w .inv .2, start .pre .2))
@@ -40,16 +42,17 @@ loop-less c = search needs
 
 loop-again : tie.Need-loop-again Inv-loop μ-loop
 loop-again c =
-    let at1 = c .before .before .before .before in
-    let at2 = at1 .before in
-    let p = at2 in
+    let after-put-line : tie.After-put-line Inv-loop μ-loop = search in
+    let in-loop : tie.In-loop Inv-loop μ-loop = search in
+    let at-loop : tie.At-loop Inv-loop μ-loop = search in
+    let p = at-loop in
     let w = p .loop in
     let start = p .before .before .before in
     let a = start .args in
     let ws = a .waves .now in
-    let room = waves-room ws (a .n) (w .c) (a .k) (at1 .loop-test .taken) in
+    let room = waves-room ws (a .n) (w .c) (a .k) (in-loop .loop-test .taken) in
     let fits = start .pre .2 in
-    let one = c .before .before .put-line in
+    let one = after-put-line .put-line in
     let more =
     puts-then (sheetWaves ws (a .n) (w .c)) (sheetWave ws (a .n) (w .c)) (a .at) (a .out .now) (omega arith) _ _ _ _ (w .inv .0) (one .ensures) in
     (rw (waves-next ws (a .n) (w .c)) more, omega arith, one .kept .0 ∙ w .inv .2)
@@ -59,8 +62,9 @@ same-length c = search needs
 
 returns : tie.Need-returns Inv-loop μ-loop
 returns c =
+    let start : tie.Start Inv-loop μ-loop = search in
     let w = c .before .loop in
-    let e : w .c ≡ c .before .before .before .before .args .k = omega arith in
+    let e : w .c ≡ start .args .k = omega arith in
     rw e at (w .inv .0)
 
 pub put-lines-spec : {M : Type 1} → statement M

@@ -12,23 +12,24 @@ use Rattle.sheet_writer.proofs.lines.put_member.Tie as tie
 
 returns : tie.Need-returns
 returns c =
-    let a = c .before .before .before .before .args in
+    let start : tie.Start = search in
+    let a = start .args in
     rw (member-other (a .w .0) (a .c .0) (a .b .0) (search needs)) (puts-none _ _)
 
 put-byte-requires : tie.Need-put-byte-requires
 put-byte-requires c κs =
-    let start = c .before .before .before .before .before in
+    let start : tie.Start = search in
     let a = start .args in
     omega (arith, ap length (member-same (a .w .0) (a .c .0) (a .b .0) (omega (arith, c .before .if1 .left))), start .pre)
 
 put-number-requires : tie.Need-put-number-requires
 put-number-requires c κs =
-    let at1 = c .before .before .before in
-    let at2 = at1 .before .before in
-    let at3 = at2 .before .before .before .before in
-    let p = at1 .put-byte in
-    let test = at2 .if1 .left in
-    let start = at3 in
+    let after-put-byte : tie.After-put-byte = search in
+    let else1 : tie.Else1 = search in
+    let at-start : tie.Start = search in
+    let p = after-put-byte .put-byte in
+    let test = else1 .if1 .left in
+    let start = at-start in
     let a = start .args in
     omega (arith, ap length (member-same (a .w .0) (a .c .0) (a .b .0) (omega arith)), start .pre, p .ensures .next, p .kept .0)
 
@@ -37,18 +38,19 @@ same-length c = search needs
 
 returns-2 : tie.Need-returns-2
 returns-2 c =
-    let at1 = c .before .before .before .before .before .before in
-    let at2 = at1 .before .before in
-    let at3 = at2 .before .before .before .before in
-    let p = at1 .put-byte in
-    let test = at2 .if1 .left in
-    let start = at3 in
+    let after-put-number : tie.After-put-number = search in
+    let after-put-byte : tie.After-put-byte = search in
+    let else1 : tie.Else1 = search in
+    let at-start : tie.Start = search in
+    let p = after-put-byte .put-byte in
+    let test = else1 .if1 .left in
+    let start = at-start in
     let a = start .args in
     let fits = start .pre in
     let e = member-same (a .w .0) (a .c .0) (a .b .0) (omega arith) in
     let long = ap length e in
     rw e
-    (puts-then (32 ∷ []) (decimal (a .b .0)) (a .at) (a .out .now) (omega arith) _ _ _ _ (p .ensures) (c .before .before .put-number .ensures))
+    (puts-then (32 ∷ []) (decimal (a .b .0)) (a .at) (a .out .now) (omega arith) _ _ _ _ (p .ensures) (after-put-number .put-number .ensures))
 
 pub put-member-spec : {M : Type 1} → statement M
 put-member-spec =

@@ -20,7 +20,8 @@ abbrev μ-loop : tie.MeasureT-loop
 
 loop-holds : tie.Need-loop-holds Inv-loop μ-loop
 loop-holds c =
-    let a = c .before .before .args in
+    let start : tie.Start Inv-loop μ-loop = search in
+    let a = start .args in
     (rw (members-none (a .waves .now) (a .c .0)) (puts-none _ _), omega arith, refl)
 
 cast-i : tie.Need-cast-i Inv-loop μ-loop
@@ -34,12 +35,13 @@ shared-slice-read-t14 c = search needs
 
 put-member-requires : tie.Need-put-member-requires Inv-loop μ-loop
 put-member-requires c κs =
-    let at1 = c .before .before .before in
-    let at2 = at1 .before .before .before in
-    let w = at1 .loop in
-    let start = at2 in
+    let in-loop : tie.In-loop Inv-loop μ-loop = search in
+    let at-loop : tie.At-loop Inv-loop μ-loop = search in
+    let at-start : tie.Start Inv-loop μ-loop = search in
+    let w = at-loop .loop in
+    let start = at-start in
     let a = start .args in
-    let room = members-room (a .waves .now) (a .c .0) (w .b) (a .n) (c .before .before .loop-test .taken) in
+    let room = members-room (a .waves .now) (a .c .0) (w .b) (a .n) (in-loop .loop-test .taken) in
     omega (arith, w .inv .0 .next, w .inv .2, start .pre .1)
 
 add-b : tie.Need-add-b Inv-loop μ-loop
@@ -50,16 +52,17 @@ loop-less c = search needs
 
 loop-again : tie.Need-loop-again Inv-loop μ-loop
 loop-again c =
-    let at1 = c .before .before .before .before .before in
-    let at2 = at1 .before in
-    let p = at2 in
+    let after-put-member : tie.After-put-member Inv-loop μ-loop = search in
+    let in-loop : tie.In-loop Inv-loop μ-loop = search in
+    let at-loop : tie.At-loop Inv-loop μ-loop = search in
+    let p = at-loop in
     let w = p .loop in
     let start = p .before .before .before in
     let a = start .args in
     let ws = a .waves .now in
-    let room = members-room ws (a .c .0) (w .b) (a .n) (at1 .loop-test .taken) in
+    let room = members-room ws (a .c .0) (w .b) (a .n) (in-loop .loop-test .taken) in
     let fits = start .pre .1 in
-    let one = c .before .before .put-member in
+    let one = after-put-member .put-member in
     let more =
     puts-then (membersText ws (a .c .0) (w .b)) (memberText (getD ws (w .b) 0) (a .c .0) (w .b)) (a .at) (a .out .now) (omega arith) _ _ _ _ (w .inv .0) (one .ensures) in
     (rw (members-next ws (a .c .0) (w .b)) more, omega arith, one .kept .0 ∙ w .inv .2)
@@ -69,8 +72,9 @@ same-length c = search needs
 
 returns : tie.Need-returns Inv-loop μ-loop
 returns c =
+    let start : tie.Start Inv-loop μ-loop = search in
     let w = c .before .loop in
-    let e : w .b ≡ c .before .before .before .before .args .n = omega arith in
+    let e : w .b ≡ start .args .n = omega arith in
     rw e at (w .inv .0)
 
 pub put-members-spec : {M : Type 1} → statement M

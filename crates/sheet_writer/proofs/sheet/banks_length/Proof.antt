@@ -12,7 +12,9 @@ mul-result : tie.Need-mul-result
 mul-result c = search needs
 
 returns : tie.Need-returns
-returns c = closed-form _ _ (c .before .before .pre) (omega arith)
+returns c =
+    let start : tie.Start = search in
+    closed-form _ _ (start .pre) (omega arith)
 
 mul-result-2 : tie.Need-mul-result-2
 mul-result-2 c = search needs
@@ -21,7 +23,9 @@ sub-result : tie.Need-sub-result
 sub-result c = search needs
 
 returns-2 : tie.Need-returns-2
-returns-2 c = closed-form _ _ (c .before .before .before .pre) (omega arith)
+returns-2 c =
+    let start : tie.Start = search in
+    closed-form _ _ (start .pre) (omega arith)
 
 mul-result-3 : tie.Need-mul-result-3
 mul-result-3 c = search needs
@@ -30,7 +34,9 @@ sub-result-2 : tie.Need-sub-result-2
 sub-result-2 c = search needs
 
 returns-3 : tie.Need-returns-3
-returns-3 c = closed-form _ _ (c .before .before .before .before .pre) (omega arith)
+returns-3 c =
+    let start : tie.Start = search in
+    closed-form _ _ (start .pre) (omega arith)
 
 mul-result-4 : tie.Need-mul-result-4
 mul-result-4 c = search needs
@@ -39,7 +45,9 @@ sub-result-3 : tie.Need-sub-result-3
 sub-result-3 c = search needs
 
 returns-4 : tie.Need-returns-4
-returns-4 c = closed-form _ _ (c .before .before .before .before .pre) (omega arith)
+returns-4 c =
+    let start : tie.Start = search in
+    closed-form _ _ (start .pre) (omega arith)
 
 pub banks-length-spec : {M : Type 1} → statement M
 banks-length-spec =

@@ -31,64 +31,75 @@ add-length-2 c = search needs
 
 returns-2 : tie.Need-returns-2
 returns-2 c =
-    let p = c .before in
-    let q = p .before in
-    let zero = q .before .if1 .left in
-    let checked = q .before .before .check-plan .ensures in
+    let p : tie.After-foot-length = search in
+    let q : tie.After-waves-length = search in
+    let else1 : tie.Else1 = search in
+    let after-check-plan : tie.After-check-plan = search in
+    let zero = else1 .if1 .left in
+    let checked = after-check-plan .check-plan .ensures in
     let bytes = sheet-bytes _ _ _ (checked .1 zero) _ _ (q .waves-length .ensures .0) (p .foot-length .ensures .0) in
     text-short sheet _ _ _ (sym zero ∙ checked .0) (omega (arith, bytes, c .if2 .taken))
 
 put-head-requires : tie.Need-put-head-requires
 put-head-requires c κs =
-    let p = c .before .before in
-    let q = p .before in
-    let plan = q .before .before .check-plan .ensures .1 (q .before .if1 .left) in
+    let p : tie.After-foot-length = search in
+    let q : tie.After-waves-length = search in
+    let else1 : tie.Else1 = search in
+    let after-check-plan : tie.After-check-plan = search in
+    let plan = after-check-plan .check-plan .ensures .1 (else1 .if1 .left) in
     let bytes = sheet-bytes _ _ _ plan _ _ (q .waves-length .ensures .0) (p .foot-length .ensures .0) in
     omega (arith, sheet-parts _ _ _ plan, bytes, c .before .if2 .left)
 
 put-lines-requires : tie.Need-put-lines-requires
 put-lines-requires c κs =
-    let at1 = c .before .before .before in
-    let at2 = at1 .before .before in
-    let p = at2 .before in
-    let q = p .before in
-    let head = at1 .put-head in
-    let plan = q .before .before .check-plan .ensures .1 (q .before .if1 .left) in
+    let after-put-head : tie.After-put-head = search in
+    let else2 : tie.Else2 = search in
+    let p : tie.After-foot-length = search in
+    let q : tie.After-waves-length = search in
+    let else1 : tie.Else1 = search in
+    let after-check-plan : tie.After-check-plan = search in
+    let head = after-put-head .put-head in
+    let plan = after-check-plan .check-plan .ensures .1 (else1 .if1 .left) in
     let bytes = sheet-bytes _ _ _ plan _ _ (q .waves-length .ensures .0) (p .foot-length .ensures .0) in (
       plan-few _ _ _ plan,
       plan-room _ _ _ plan,
-      omega (arith, sheet-parts _ _ _ plan, bytes, at2 .if2 .left, head .ensures .next, head .kept .0),
+      omega (arith, sheet-parts _ _ _ plan, bytes, else2 .if2 .left, head .ensures .next, head .kept .0),
     )
 
 put-last-requires : tie.Need-put-last-requires
 put-last-requires c κs =
-    let at1 = c .before .before .before in
-    let at2 = at1 .before .before .before .before in
-    let at3 = at2 .before .before in
-    let p = at3 .before in
-    let q = p .before in
-    let lines = at1 .put-lines in
-    let head = at2 .put-head in
-    let plan = q .before .before .check-plan .ensures .1 (q .before .if1 .left) in
+    let after-put-lines : tie.After-put-lines = search in
+    let after-put-head : tie.After-put-head = search in
+    let else2 : tie.Else2 = search in
+    let p : tie.After-foot-length = search in
+    let q : tie.After-waves-length = search in
+    let else1 : tie.Else1 = search in
+    let after-check-plan : tie.After-check-plan = search in
+    let lines = after-put-lines .put-lines in
+    let head = after-put-head .put-head in
+    let plan = after-check-plan .check-plan .ensures .1 (else1 .if1 .left) in
     let bytes = sheet-bytes _ _ _ plan _ _ (q .waves-length .ensures .0) (p .foot-length .ensures .0) in
-    omega (arith, sheet-parts _ _ _ plan, bytes, at3 .if2 .left, head .ensures .next, head .kept .0, lines .ensures .next, lines .kept .0)
+    omega (arith, sheet-parts _ _ _ plan, bytes, else2 .if2 .left, head .ensures .next, head .kept .0, lines .ensures .next, lines .kept .0)
 
 same-length : tie.Need-same-length
 same-length c = search needs
 
 returns-3 : tie.Need-returns-3
 returns-3 c =
-    let last = c .before .before .put-last in
-    let at1 = c .before .before .before .before .before .before in
-    let at2 = at1 .before .before .before .before in
-    let at3 = at2 .before .before in
-    let p = at3 .before in
-    let q = p .before in
-    let lines = at1 .put-lines in
-    let head = at2 .put-head in
-    let room = at3 .if2 .left in
-    let zero = q .before .if1 .left in
-    let checked = q .before .before .check-plan .ensures in
+    let after-put-last : tie.After-put-last = search in
+    let after-put-lines : tie.After-put-lines = search in
+    let after-put-head : tie.After-put-head = search in
+    let else2 : tie.Else2 = search in
+    let p : tie.After-foot-length = search in
+    let q : tie.After-waves-length = search in
+    let else1 : tie.Else1 = search in
+    let after-check-plan : tie.After-check-plan = search in
+    let last = after-put-last .put-last in
+    let lines = after-put-lines .put-lines in
+    let head = after-put-head .put-head in
+    let room = else2 .if2 .left in
+    let zero = else1 .if1 .left in
+    let checked = after-check-plan .check-plan .ensures in
     let plan = checked .1 zero in
     let bytes = sheet-bytes _ _ _ plan _ _ (q .waves-length .ensures .0) (p .foot-length .ensures .0) in
     let written = sheet-written _ _ _ plan _ (omega (arith, bytes, room)) _ _ _ _ _ _ (head .kept .0) (head .ensures) (lines .ensures) (last .ensures) in

@@ -46,8 +46,9 @@ loop-less c = search needs
 
 loop-again : tie.Need-loop-again Inv-loop μ-loop
 loop-again c =
-    let w = c .before .before .loop in
-    let start = c .before .before .before in
+    let at-loop : tie.At-loop Inv-loop μ-loop = search in
+    let start : tie.Start Inv-loop μ-loop = search in
+    let w = at-loop .loop in
     let cells = start .args .cells .now in
     let long = length-take-le (w .i) cells (omega (arith, start .pre .0)) in
     let puts = copied-puts cells (w .i) _ _ _ _ (omega (arith, start .pre .0)) (w .inv .0) in
@@ -64,8 +65,9 @@ same-length c = search needs
 
 returns : tie.Need-returns Inv-loop μ-loop
 returns c =
+    let start : tie.Start Inv-loop μ-loop = search in
     let w = c .before .loop in
-    let e : w .i ≡ c .before .before .args .size = omega arith in
+    let e : w .i ≡ start .args .size = omega arith in
     rw e at (w .inv .0)
 
 pub put-cells-spec : {M : Type 1} → statement M

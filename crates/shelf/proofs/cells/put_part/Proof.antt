@@ -24,8 +24,9 @@ same-length c = search needs
 
 returns : tie.Need-returns
 returns c =
-    let at1 = c .before .before .before .before .before .before .before in
-    copied-front (at1 .args .place .now) (at1 .args .start) (at1 .args .size) _ _ _ (at1 .pre .1) (c .before .before .put-cells .ensures)
+    let after-put-cells : tie.After-put-cells = search in
+    let start : tie.Start = search in
+    copied-front (start .args .place .now) (start .args .start) (start .args .size) _ _ _ (start .pre .1) (after-put-cells .put-cells .ensures)
 
 pub put-part-spec : {M : Type 1} → statement M
 put-part-spec =

@@ -20,7 +20,10 @@ same-bytes-requires-2 : tie.Need-same-bytes-requires-2
 same-bytes-requires-2 c κs = search needs
 
 returns-2 : tie.Need-returns-2
-returns-2 c = place-second _ _ _ (c .before .before .before .before .same-bytes .ensures) (c .before .before .before .if1 .left) (c .before .same-bytes2 .ensures) (c .if2 .taken)
+returns-2 c =
+    let else1 : tie.Else1 = search in
+    let after-same-bytes : tie.After-same-bytes = search in
+    place-second _ _ _ (after-same-bytes .same-bytes .ensures) (else1 .if1 .left) (c .before .same-bytes2 .ensures) (c .if2 .taken)
 
 slice-aggregate-same-bytes-3 : tie.Need-slice-aggregate-same-bytes-3
 slice-aggregate-same-bytes-3 c = search needs
@@ -30,16 +33,20 @@ same-bytes-requires-3 c κs = search needs
 
 returns-3 : tie.Need-returns-3
 returns-3 c =
-    let second = c .before .before .before in
-    let first = second .before .before .before in
-    place-third _ _ _ _ (first .before .same-bytes .ensures) (first .if1 .left) (second .before .same-bytes2 .ensures) (second .if2 .left)
+    let second : tie.Else2 = search in
+    let after-same-bytes2 : tie.After-same-bytes2 = search in
+    let first : tie.Else1 = search in
+    let after-same-bytes : tie.After-same-bytes = search in
+    place-third _ _ _ _ (after-same-bytes .same-bytes .ensures) (first .if1 .left) (after-same-bytes2 .same-bytes2 .ensures) (second .if2 .left)
     (c .before .same-bytes3 .ensures) (c .if3 .taken)
 
 returns-4 : tie.Need-returns-4
 returns-4 c =
-    let second = c .before .before .before in
-    let first = second .before .before .before in
-    place-none _ _ _ _ (first .before .same-bytes .ensures) (first .if1 .left) (second .before .same-bytes2 .ensures) (second .if2 .left)
+    let second : tie.Else2 = search in
+    let after-same-bytes2 : tie.After-same-bytes2 = search in
+    let first : tie.Else1 = search in
+    let after-same-bytes : tie.After-same-bytes = search in
+    place-none _ _ _ _ (after-same-bytes .same-bytes .ensures) (first .if1 .left) (after-same-bytes2 .same-bytes2 .ensures) (second .if2 .left)
     (c .before .same-bytes3 .ensures) (c .if3 .left)
 
 pub place-of-spec : {M : Type 1} → statement M

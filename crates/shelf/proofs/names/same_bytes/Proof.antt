@@ -28,7 +28,9 @@ shared-slice-read-if2-2 : tie.Need-shared-slice-read-if2-2 Inv-loop μ-loop
 shared-slice-read-if2-2 c = search needs
 
 returns-2 : tie.Need-returns-2 Inv-loop μ-loop
-returns-2 c = let w = c .before .before .before .before .loop in sym (w .inv .0 ∙ same-not _ _ (w .i) (omega arith) (omega arith) (c .if2 .taken))
+returns-2 c =
+    let at-loop : tie.At-loop Inv-loop μ-loop = search in
+    let w = at-loop .loop in sym (w .inv .0 ∙ same-not _ _ (w .i) (omega arith) (omega arith) (c .if2 .taken))
 
 add-i : tie.Need-add-i Inv-loop μ-loop
 add-i c = search needs
@@ -38,7 +40,8 @@ loop-less c = search needs
 
 loop-again : tie.Need-loop-again Inv-loop μ-loop
 loop-again c =
-    let w = c .before .before .before .before .loop in
+    let at-loop : tie.At-loop Inv-loop μ-loop = search in
+    let w = at-loop .loop in
     (w .inv .0 ∙ same-next _ _ (w .i) (omega arith) (omega arith) (omega arith), omega arith, w .inv .2)
 
 returns-3 : tie.Need-returns-3 Inv-loop μ-loop

@@ -14,9 +14,10 @@ tally-in-requires c κs = search needs
 
 returns : tie.Need-returns
 returns c =
-    let told = c .before .before in
-    let at1 = told .before .before .before in
-    holds-other (at1 .args .banks) (at1 .args .place .now) _ (rw (told .before .wide .ensures) at (told .tally-in .ensures)) (c .if1 .taken)
+    let told : tie.After-tally-in = search in
+    let after-wide : tie.After-wide = search in
+    let start : tie.Start = search in
+    holds-other (start .args .banks) (start .args .place .now) _ (rw (after-wide .wide .ensures) at (told .tally-in .ensures)) (c .if1 .taken)
 
 mul-degree : tie.Need-mul-degree
 mul-degree c = search needs
@@ -104,37 +105,43 @@ part-holds-plan-end-5 c = search needs
 
 holds-plan-requires : tie.Need-holds-plan-requires
 holds-plan-requires c κs =
-    let at1 = c .before .before .before .before .before .before .before .before .before .before in
-    let n = c .before .before .before .before .before .before .before .before .wide .result in
-    let t = c .before .before .before .before .before .before .before .tally-in in
-    let cells = at1 .args .place .now in
+    let else1 : tie.Else1 = search in
+    let after-tally-in : tie.After-tally-in = search in
+    let after-wide : tie.After-wide = search in
+    let start : tie.Start = search in
+    let n = after-wide .wide .result in
+    let t = after-tally-in .tally-in in
+    let cells = start .args .place .now in
     let degree = 1 + n * 23 in
     let wave = degree + n in
     let count = wave + n in
     let tally-at = count + n * 24 in
     let rank = tally-at + 3 in
-    let is-n = c .before .before .before .before .before .before .before .before .wide .ensures in
-    let banks = c .before .before .before .before .before .if1 .left in
-    let parts = slices-from (at1 .args .banks) degree wave count tally-at rank (rank + n) cells
+    let is-n = after-wide .wide .ensures in
+    let banks = else1 .if1 .left in
+    let parts = slices-from (start .args .banks) degree wave count tally-at rank (rank + n) cells
     (omega arith) (omega arith) (omega arith) (omega arith) (omega arith) (omega arith) in
-    (omega (arith, banks), rw (banks, parts) (slices-long (at1 .args .banks) cells (at1 .pre .1)))
+    (omega (arith, banks), rw (banks, parts) (slices-long (start .args .banks) cells (start .pre .1)))
 
 returns-2 : tie.Need-returns-2
 returns-2 c =
-    let at1 = c .before .before .before .before .before .before .before .before .before .before .before in
-    let n = c .before .before .before .before .before .before .before .before .before .wide .result in
-    let t = c .before .before .before .before .before .before .before .before .tally-in in
-    let cells = at1 .args .place .now in
+    let else1 : tie.Else1 = search in
+    let after-tally-in : tie.After-tally-in = search in
+    let after-wide : tie.After-wide = search in
+    let start : tie.Start = search in
+    let n = after-wide .wide .result in
+    let t = after-tally-in .tally-in in
+    let cells = start .args .place .now in
     let degree = 1 + n * 23 in
     let wave = degree + n in
     let count = wave + n in
     let tally-at = count + n * 24 in
     let rank = tally-at + 3 in
-    let is-n = c .before .before .before .before .before .before .before .before .before .wide .ensures in
-    let banks = c .before .before .before .before .before .before .if1 .left in
-    let parts = slices-from (at1 .args .banks) degree wave count tally-at rank (rank + n) cells
+    let is-n = after-wide .wide .ensures in
+    let banks = else1 .if1 .left in
+    let parts = slices-from (start .args .banks) degree wave count tally-at rank (rank + n) cells
     (omega arith) (omega arith) (omega arith) (omega arith) (omega arith) (omega arith) in
-    holds-here (at1 .args .banks) cells _ (t .result) (rw is-n at (t .ensures)) banks (rw parts at (c .holds-plan .ensures))
+    holds-here (start .args .banks) cells _ (t .result) (rw is-n at (t .ensures)) banks (rw parts at (c .holds-plan .ensures))
 
 pub holds-in-spec : {M : Type 1} → statement M
 holds-in-spec =

@@ -8,18 +8,22 @@ shared-slice-read-used : tie.Need-shared-slice-read-used
 shared-slice-read-used c = search needs
 
 returns : tie.Need-returns
-returns c = let at1 = c .before .before .before in right-unused (at1 .args .banks) (at1 .args .place .now) (c .if1 .taken)
+returns c =
+    let start : tie.Start = search in
+    right-unused (start .args .banks) (start .args .place .now) (c .if1 .taken)
 
 returns-2 : tie.Need-returns-2
-returns-2 c = let at1 = c .before .before .before .before in right-above (at1 .args .banks) (at1 .args .place .now) (c .before .if1 .left) (c .if2 .taken)
+returns-2 c =
+    let start : tie.Start = search in
+    right-above (start .args .banks) (start .args .place .now) (c .before .if1 .left) (c .if2 .taken)
 
 holds-in-requires : tie.Need-holds-in-requires
 holds-in-requires c κs = search needs
 
 returns-3 : tie.Need-returns-3
 returns-3 c =
-    let at1 = c .before .before .before .before .before in
-    right-used (at1 .args .banks) (at1 .args .place .now) _ (c .before .if2 .left) (c .holds-in .ensures)
+    let start : tie.Start = search in
+    right-used (start .args .banks) (start .args .place .now) _ (c .before .if2 .left) (c .holds-in .ensures)
 
 pub place-right-spec : {M : Type 1} → statement M
 place-right-spec =

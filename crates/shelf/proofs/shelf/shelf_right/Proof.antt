@@ -33,10 +33,11 @@ place-right-requires c κs = search needs
 
 returns : tie.Need-returns
 returns c =
-    let at1 = c .before .before .before .before .before in
-    let n = at1 .args .banks in
-    let shelf = at1 .args .shelf .now in
-    let noon = c .before .before .before .place-size .result in
+    let after-place-size : tie.After-place-size = search in
+    let start : tie.Start = search in
+    let n = start .args .banks in
+    let shelf = start .args .shelf .now in
+    let noon = after-place-size .place-size .result in
     let first = right-at n shelf 0 0 noon _ (omega arith) (omega arith) (c .before .place-right .ensures) in
     shelf-first n shelf _ first (not-true _ (c .if1 .taken))
 
@@ -57,13 +58,16 @@ place-right-requires-2 c κs = search needs
 
 returns-2 : tie.Need-returns-2
 returns-2 c =
-    let at1 = c .before .before .before .before .before .before .before .before in
-    let n = at1 .args .banks in
-    let shelf = at1 .args .shelf .now in
-    let noon = c .before .before .before .before .before .before .place-size .result in
-    let first = right-at n shelf 0 0 noon _ (omega arith) (omega arith) (c .before .before .before .before .place-right .ensures) in
+    let else1 : tie.Else1 = search in
+    let after-place-right : tie.After-place-right = search in
+    let after-place-size : tie.After-place-size = search in
+    let start : tie.Start = search in
+    let n = start .args .banks in
+    let shelf = start .args .shelf .now in
+    let noon = after-place-size .place-size .result in
+    let first = right-at n shelf 0 0 noon _ (omega arith) (omega arith) (after-place-right .place-right .ensures) in
     let second = right-at n shelf 1 noon (noon + noon) _ (omega arith) (omega arith) (c .before .place-right2 .ensures) in
-    shelf-second n shelf _ _ first (not-false _ (c .before .before .before .if1 .left)) second (not-true _ (c .if2 .taken))
+    shelf-second n shelf _ _ first (not-false _ (else1 .if1 .left)) second (not-true _ (c .if2 .taken))
 
 mul-place-right-3 : tie.Need-mul-place-right-3
 mul-place-right-3 c = search needs
@@ -82,14 +86,19 @@ place-right-requires-3 c κs = search needs
 
 returns-3 : tie.Need-returns-3
 returns-3 c =
-    let at1 = c .before .before .before .before .before .before .before .before .before .before in
-    let n = at1 .args .banks in
-    let shelf = at1 .args .shelf .now in
-    let noon = c .before .before .before .before .before .before .before .before .place-size .result in
-    let first = right-at n shelf 0 0 noon _ (omega arith) (omega arith) (c .before .before .before .before .before .before .place-right .ensures) in
-    let second = right-at n shelf 1 noon (noon + noon) _ (omega arith) (omega arith) (c .before .before .before .place-right2 .ensures) in
+    let else2 : tie.Else2 = search in
+    let after-place-right2 : tie.After-place-right2 = search in
+    let else1 : tie.Else1 = search in
+    let after-place-right : tie.After-place-right = search in
+    let after-place-size : tie.After-place-size = search in
+    let start : tie.Start = search in
+    let n = start .args .banks in
+    let shelf = start .args .shelf .now in
+    let noon = after-place-size .place-size .result in
+    let first = right-at n shelf 0 0 noon _ (omega arith) (omega arith) (after-place-right .place-right .ensures) in
+    let second = right-at n shelf 1 noon (noon + noon) _ (omega arith) (omega arith) (after-place-right2 .place-right2 .ensures) in
     let third = right-at n shelf 2 (noon + noon) (noon + noon + noon) _ (omega arith) (omega arith) (c .place-right3 .ensures) in
-    shelf-third n shelf _ _ _ first (not-false _ (c .before .before .before .before .before .if1 .left)) second (not-false _ (c .before .before .if2 .left)) third
+    shelf-third n shelf _ _ _ first (not-false _ (else1 .if1 .left)) second (not-false _ (else2 .if2 .left)) third
 
 pub shelf-right-spec : {M : Type 1} → statement M
 shelf-right-spec =

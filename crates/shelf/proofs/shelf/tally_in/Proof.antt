@@ -54,7 +54,9 @@ shared-slice-read-t18 : tie.Need-shared-slice-read-t18
 shared-slice-read-t18 c = search needs
 
 returns : tie.Need-returns
-returns c = let at1 = c .before .before .before .before in tally-from (at1 .args .n) _ _ (at1 .args .place .now) (omega arith) (omega arith)
+returns c =
+    let start : tie.Start = search in
+    tally-from (start .args .n) _ _ (start .args .place .now) (omega arith) (omega arith)
 
 pub tally-in-spec : {M : Type 1} → statement M
 tally-in-spec =

@@ -17,7 +17,9 @@ slice-read-if1 : tie.Need-slice-read-if1
 slice-read-if1 c = search needs
 
 returns : tie.Need-returns
-returns c = keeps _ _ _ (c .before .before .before .before .lowest-free .ensures) (c .if1 .taken)
+returns c =
+    let after-lowest-free : tie.After-lowest-free = search in
+    keeps _ _ _ (after-lowest-free .lowest-free .ensures) (c .if1 .taken)
 
 mul-waves : tie.Need-mul-waves
 mul-waves c = search needs
@@ -29,7 +31,9 @@ same-length : tie.Need-same-length
 same-length c = search needs
 
 returns-2 : tie.Need-returns-2
-returns-2 c = gets _ _ _ (c .before .before .before .before .lowest-free .ensures) (c .if1 .left)
+returns-2 c =
+    let after-lowest-free : tie.After-lowest-free = search in
+    gets _ _ _ (after-lowest-free .lowest-free .ensures) (c .if1 .left)
 
 pub assign-colour-spec : {M : Type 1} → statement M
 assign-colour-spec =

@@ -37,13 +37,19 @@ loop-less : tie.Need-loop-less Inv-loop μ-loop
 loop-less c = search needs
 
 loop-again : tie.Need-loop-again Inv-loop μ-loop
-loop-again c = (omega arith, one-more (c .before .before .loop .inv .1) (omega arith))
+loop-again c =
+    let at-loop : tie.At-loop Inv-loop μ-loop = search in
+    (omega arith, one-more (at-loop .loop .inv .1) (omega arith))
 
 cast-t12 : tie.Need-cast-t12 Inv-loop μ-loop
-cast-t12 c = omega (arith, first-small (all-cells (c .before .loop .inv) (c .loop-test .left)) (c .before .before .pre .0))
+cast-t12 c =
+    let start : tie.Start Inv-loop μ-loop = search in
+    omega (arith, first-small (all-cells (c .before .loop .inv) (c .loop-test .left)) (start .pre .0))
 
 returns : tie.Need-returns Inv-loop μ-loop
-returns c = first-lowest (all-cells (c .before .loop .inv) (c .loop-test .left)) (c .before .before .pre .0)
+returns c =
+    let start : tie.Start Inv-loop μ-loop = search in
+    first-lowest (all-cells (c .before .loop .inv) (c .loop-test .left)) (start .pre .0)
 
 pub lowest-free-spec : {M : Type 1} → statement M
 lowest-free-spec =

@@ -7,20 +7,27 @@ use Rattle.steps.proofs.can_step.can_step.Statement.{statement}
 use Rattle.steps.proofs.can_step.can_step.Tie as tie
 
 add-next : tie.Need-add-next
-add-next c = let wk = c .before .before .before .before .before .before .before .before .pre .1 .working in omega (arith, wk .room, wk .shown .few)
+add-next c =
+    let start : tie.Start = search in
+    let wk = start .pre .1 .working in omega (arith, wk .room, wk .shown .few)
 
 dequeue-requires : tie.Need-dequeue-requires
-dequeue-requires c κs = (_, c .before .before .before .before .before .before .before .before .before .pre .1 .waiting)
+dequeue-requires c κs =
+    let start : tie.Start = search in
+    (_, start .pre .1 .waiting)
 
 cast-at : tie.Need-cast-at
 cast-at c = search needs
 
 mul-trail : tie.Need-mul-trail
-mul-trail c = let wk = c .before .before .before .before .before .before .before .before .before .before .before .pre .1 .working in omega (arith, wk .room, wk .shown .few)
+mul-trail c =
+    let start : tie.Start = search in
+    let wk = start .pre .1 .working in omega (arith, wk .room, wk .shown .few)
 
 slice-write-trail : tie.Need-slice-write-trail
 slice-write-trail c =
-    let st = c .before .before .before .before .before .before .before .before .before .before .before .pre .1 in
+    let start : tie.Start = search in
+    let st = start .pre .1 in
     let wk = st .working in
     omega (arith, taken-less wk (c .before .dequeue .ensures _ (st .waiting)), wk .wide-trail)
 
@@ -29,18 +36,23 @@ mul-t23 c = search needs
 
 slice-read-t26 : tie.Need-slice-read-t26
 slice-read-t26 c =
-    let st = c .before .before .before .before .before .before .before .before .before .before .before .before .pre .1 in
-    omega (arith, c .before .before .dequeue .ensures _ (st .waiting) .next .bank, st .working .wide-waves)
+    let after-dequeue : tie.After-dequeue = search in
+    let start : tie.Start = search in
+    let st = start .pre .1 in
+    omega (arith, after-dequeue .dequeue .ensures _ (st .waiting) .next .bank, st .working .wide-waves)
 
 collect-colours-requires : tie.Need-collect-colours-requires
 collect-colours-requires c κs =
-    let st = c .before .before .before .before .before .before .before .before .before .before .before .before .before .pre .1 in
-    counts-in (st .working) (c .before .before .before .dequeue .ensures _ (st .waiting))
+    let after-dequeue : tie.After-dequeue = search in
+    let start : tie.Start = search in
+    let st = start .pre .1 in
+    counts-in (st .working) (after-dequeue .dequeue .ensures _ (st .waiting))
 
 assign-colour-requires : tie.Need-assign-colour-requires
 assign-colour-requires c κs =
-    let out = c .before .before .before .before .before in
-    let st = out .before .before .before .before .before .before .before .before .before .before .pre .1 in
+    let out : tie.After-dequeue = search in
+    let start : tie.Start = search in
+    let st = start .pre .1 in
     let wk = st .working in
     let dq = out .dequeue .ensures _ (st .waiting) in
     let col = c .before .collect-colours .ensures _ _ (indexed wk dq) (dq .next .bank) in
@@ -51,34 +63,40 @@ mul-t23-2 c = search needs
 
 slice-read-t26-2 : tie.Need-slice-read-t26-2
 slice-read-t26-2 c =
-    let asg = c .before .before .before in
-    let out = asg .before .before .before .before .before .before in
-    let st = out .before .before .before .before .before .before .before .before .before .before .pre .1 in
+    let asg : tie.After-assign-colour = search in
+    let out : tie.After-dequeue = search in
+    let start : tie.Start = search in
+    let st = start .pre .1 in
     omega (arith, out .dequeue .ensures _ (st .waiting) .next .bank, st .working .wide-waves, asg .assign-colour .kept .0)
 
 list-moved-requires : tie.Need-list-moved-requires
 list-moved-requires c κs =
-    let out = c .before .before .before .before .before .before .before .before .before .before in
-    let st = out .before .before .before .before .before .before .before .before .before .before .pre .1 in
+    let out : tie.After-dequeue = search in
+    let start : tie.Start = search in
+    let st = start .pre .1 in
     let wk = st .working in
     omega (arith, taken-less wk (out .dequeue .ensures _ (st .waiting)), wk .few, wk .wide-moved)
 
 notify-colours-requires : tie.Need-notify-colours-requires
 notify-colours-requires c κs =
-    let asg = c .before .before .before .before .before .before .before .before .before in
-    let col = asg .before .before in
-    let out = col .before .before .before .before in
-    let st = out .before .before .before .before .before .before .before .before .before .before .pre .1 in
+    let asg : tie.After-assign-colour = search in
+    let col : tie.After-collect-colours = search in
+    let out : tie.After-dequeue = search in
+    let after-top : tie.After-top = search in
+    let start : tie.Start = search in
+    let st = start .pre .1 in
     let wk = st .working in
     let dq = out .dequeue .ensures _ (st .waiting) in
     (_, notifiable wk dq (col .collect-colours .ensures _ _ (indexed wk dq) (dq .next .bank)) (asg .assign-colour .ensures))
 
 highest-after-requires : tie.Need-highest-after-requires
 highest-after-requires c κs =
-    let asg = c .before .before .before .before .before .before .before .before .before .before .before .before in
-    let col = asg .before .before in
-    let out = col .before .before .before .before in
-    let st = out .before .before .before .before .before .before .before .before .before .before .pre .1 in
+    let asg : tie.After-assign-colour = search in
+    let col : tie.After-collect-colours = search in
+    let out : tie.After-dequeue = search in
+    let after-top : tie.After-top = search in
+    let start : tie.Start = search in
+    let st = start .pre .1 in
     let wk = st .working in
     let dq = out .dequeue .ensures _ (st .waiting) in
     let cells = notifiable wk dq (col .collect-colours .ensures _ _ (indexed wk dq) (dq .next .bank)) (asg .assign-colour .ensures) .movable _ (dq .next .bank) in
@@ -98,11 +116,11 @@ same-length-4 c = search needs
 
 returns : tie.Need-returns
 returns c =
-    let ask = c .before .before .before in
-    let lst = ask .before .before .before .before .before in
-    let asg = lst .before .before .before .before .before in
-    let col = asg .before .before in
-    let out = col .before .before .before .before in
+    let ask : tie.After-notify-colours = search in
+    let lst : tie.After-list-moved = search in
+    let asg : tie.After-assign-colour = search in
+    let col : tie.After-collect-colours = search in
+    let out : tie.After-dequeue = search in
     let mv = lst .list-moved .ensures in
     λ e st.
     let wk = st .working in

@@ -26,7 +26,9 @@ part-result-end : tie.Need-part-result-end
 part-result-end c = search needs
 
 returns : tie.Need-returns
-returns c = λ G ws ix bank. collects G ws _ _ (c .before .before .pre) ix bank
+returns c =
+    let start : tie.Start = search in
+    λ G ws ix bank. collects G ws _ _ (start .pre) ix bank
 
 pub collect-colours-spec : {M : Type 1} → statement M
 collect-colours-spec =

@@ -34,7 +34,9 @@ slice-read-fewer : tie.Need-slice-read-fewer
 slice-read-fewer c = omega arith
 
 sub-fewer : tie.Need-sub-fewer
-sub-fewer c = omega (arith, at-most (c .before .before .before .before .args .notified) _ (c .before .before .before .before .pre .some))
+sub-fewer c =
+    let start : tie.Start = search in
+    omega (arith, at-most (start .args .notified) _ (start .pre .some))
 
 mul-more : tie.Need-mul-more
 mul-more c = omega arith
@@ -43,7 +45,9 @@ slice-read-more : tie.Need-slice-read-more
 slice-read-more c = omega arith
 
 add-more : tie.Need-add-more
-add-more c = omega (arith, at-most-one (c .before .before .before .before .before .args .notified))
+add-more c =
+    let start : tie.Start = search in
+    omega (arith, at-most-one (start .args .notified))
 
 mul-counts : tie.Need-mul-counts
 mul-counts c = omega arith
@@ -61,7 +65,9 @@ same-length : tie.Need-same-length
 same-length c = simp length-set
 
 returns : tie.Need-returns
-returns c = let a = c .before .before .before .before .before .args in moved-if (a .notified) (a .counts .now) (a .v .0) (a .old .0) (a .new .0)
+returns c =
+    let start : tie.Start = search in
+    let a = start .args in moved-if (a .notified) (a .counts .now) (a .v .0) (a .old .0) (a .new .0)
 
 pub move-count-spec : {M : Type 1} → statement M
 move-count-spec =

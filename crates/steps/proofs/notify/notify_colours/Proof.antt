@@ -22,48 +22,65 @@ abbrev μ-loop : tie.MeasureT-loop
 μ-loop neighbours degrees counts₀ ranks queue₀ b changed old new at degree rank end i₀ counts queue i = end - i
 
 returns : tie.Need-returns Inv-loop μ-loop
-returns c = λ G nf. none-notified nf _ (λ x. rw (not-true (c .before .before .before .before .before .args .changed) (c .if1 .taken)) refl)
+returns c =
+    let start : tie.Start Inv-loop μ-loop = search in
+    λ G nf. none-notified nf _ (λ x. rw (not-true (start .args .changed) (c .if1 .taken)) refl)
 
 cast-at : tie.Need-cast-at Inv-loop μ-loop
 cast-at c = search needs
 
 mul-degree : tie.Need-mul-degree Inv-loop μ-loop
-mul-degree c = let nf = c .before .before .before .before .before .before .pre .1 in omega (arith, nf .bank, nf .shown .few)
+mul-degree c =
+    let start : tie.Start Inv-loop μ-loop = search in
+    let nf = start .pre .1 in omega (arith, nf .bank, nf .shown .few)
 
 shared-slice-read-degree : tie.Need-shared-slice-read-degree Inv-loop μ-loop
-shared-slice-read-degree c = let nf = c .before .before .before .before .before .before .before .pre .1 in omega (arith, nf .bank, nf .shown .wide-degrees)
+shared-slice-read-degree c =
+    let start : tie.Start Inv-loop μ-loop = search in
+    let nf = start .pre .1 in omega (arith, nf .bank, nf .shown .wide-degrees)
 
 mul-rank : tie.Need-mul-rank Inv-loop μ-loop
-mul-rank c = let nf = c .before .before .before .before .before .before .before .pre .1 in omega (arith, nf .bank, nf .shown .few)
+mul-rank c =
+    let start : tie.Start Inv-loop μ-loop = search in
+    let nf = start .pre .1 in omega (arith, nf .bank, nf .shown .few)
 
 shared-slice-read-rank : tie.Need-shared-slice-read-rank Inv-loop μ-loop
-shared-slice-read-rank c = let nf = c .before .before .before .before .before .before .before .before .pre .1 in omega (arith, nf .bank, nf .shown .ranked .wide)
+shared-slice-read-rank c =
+    let start : tie.Start Inv-loop μ-loop = search in
+    let nf = start .pre .1 in omega (arith, nf .bank, nf .shown .ranked .wide)
 
 cast-end : tie.Need-cast-end Inv-loop μ-loop
-cast-end c = omega (arith, few-neighbours (c .before .before .before .before .before .before .before .before .pre .1))
+cast-end c =
+    let start : tie.Start Inv-loop μ-loop = search in
+    omega (arith, few-neighbours (start .pre .1))
 
 loop-holds : tie.Need-loop-holds Inv-loop μ-loop
 loop-holds c = (omega arith, refl, λ s nt. nt)
 
 notify-one-requires : tie.Need-notify-one-requires Inv-loop μ-loop
 notify-one-requires c κs =
-    let loop = c .before .before .before in
-    let at = loop .before .before .before .before in
-    let start = start-notifying (not-false _ (at .if1 .left)) (at .before .before .before .before .before .pre .1) in
-    ((_, loop .loop .inv .2 _ start), (c .before .before .loop-test .taken, (refl, refl)))
+    let in-loop : tie.In-loop Inv-loop μ-loop = search in
+    let loop : tie.At-loop Inv-loop μ-loop = search in
+    let at : tie.Else1 Inv-loop μ-loop = search in
+    let at-start : tie.Start Inv-loop μ-loop = search in
+    let start = start-notifying (not-false _ (at .if1 .left)) (at-start .pre .1) in
+    ((_, loop .loop .inv .2 _ start), (in-loop .loop-test .taken, (refl, refl)))
 
 add-i : tie.Need-add-i Inv-loop μ-loop
 add-i c =
-    let test = c .before .before .before .before .before in
-    omega (arith, few-neighbours (test .before .before .before .before .before .before .before .before .before .before .pre .1), test .loop-test .taken)
+    let test : tie.In-loop Inv-loop μ-loop = search in
+    let start : tie.Start Inv-loop μ-loop = search in
+    omega (arith, few-neighbours (start .pre .1), test .loop-test .taken)
 
 loop-less : tie.Need-loop-less Inv-loop μ-loop
 loop-less c = omega arith
 
 loop-again : tie.Need-loop-again Inv-loop μ-loop
 loop-again c =
-    let one = c .before .before .notify-one in
-    let inv = c .before .before .before .before .before .before .loop .inv in
+    let after-notify-one : tie.After-notify-one Inv-loop μ-loop = search in
+    let at-loop : tie.At-loop Inv-loop μ-loop = search in
+    let one = after-notify-one .notify-one in
+    let inv = at-loop .loop .inv in
     (omega arith, one .kept .1 .1 .0 ∙ inv .1, λ s nt. one .ensures s (inv .2 s nt))
 
 same-length : tie.Need-same-length Inv-loop μ-loop
@@ -71,9 +88,10 @@ same-length c = c .before .loop .inv .1
 
 returns-2 : tie.Need-returns-2 Inv-loop μ-loop
 returns-2 c =
+    let at : tie.Else1 Inv-loop μ-loop = search in
+    let start : tie.Start Inv-loop μ-loop = search in
     let loop = c .before .loop in
-    let at = c .before .before .before .before .before in
-    let a = at .before .before .before .before .before .args in
+    let a = start .args in
     let e : loop .i ≡ getD (a .degrees .now) (a .b .0) 0 = omega (arith, loop .inv .0, c .loop-test .left) in
     λ G nf.
     let said = not-false _ (at .if1 .left) in

@@ -12,13 +12,19 @@ mul-degree-v : tie.Need-mul-degree-v
 mul-degree-v c = omega arith
 
 add-degree-v : tie.Need-add-degree-v
-add-degree-v c = let at = c .before .before .before .before .before in omega (arith, in-row (at .pre .0 .1) (at .pre .1 .0), at .good .0)
+add-degree-v c =
+    let at : tie.Start = search in
+    omega (arith, in-row (at .pre .0 .1) (at .pre .1 .0), at .good .0)
 
 mul-degree-v-2 : tie.Need-mul-degree-v-2
-mul-degree-v-2 c = let at = c .before .before .before .before .before in omega (arith, in-row (at .pre .0 .1) (at .pre .1 .0), at .good .0)
+mul-degree-v-2 c =
+    let at : tie.Start = search in
+    omega (arith, in-row (at .pre .0 .1) (at .pre .1 .0), at .good .0)
 
 shared-slice-read-degree-v : tie.Need-shared-slice-read-degree-v
-shared-slice-read-degree-v c = let pre = c .before .before .before .before .before .before .pre in in-row (pre .0 .1) (pre .1 .0)
+shared-slice-read-degree-v c =
+    let start : tie.Start = search in
+    let pre = start .pre in in-row (pre .0 .1) (pre .1 .0)
 
 cast-at-v : tie.Need-cast-at-v
 cast-at-v c = search needs
@@ -27,35 +33,44 @@ mul-degree-v-3 : tie.Need-mul-degree-v-3
 mul-degree-v-3 c = search needs
 
 shared-slice-read-degree-v-2 : tie.Need-shared-slice-read-degree-v-2
-shared-slice-read-degree-v-2 c = let pre = c .before .before .before .before .before .before .before .before .pre in v-degree (pre .0 .1) (pre .1 .0)
+shared-slice-read-degree-v-2 c =
+    let start : tie.Start = search in
+    let pre = start .pre in v-degree (pre .0 .1) (pre .1 .0)
 
 mul-earlier : tie.Need-mul-earlier
 mul-earlier c = search needs
 
 shared-slice-read-earlier : tie.Need-shared-slice-read-earlier
-shared-slice-read-earlier c = let pre = c .before .before .before .before .before .before .before .before .before .pre in v-rank (pre .0 .1) (pre .1 .0)
+shared-slice-read-earlier c =
+    let start : tie.Start = search in
+    let pre = start .pre in v-rank (pre .0 .1) (pre .1 .0)
 
 earlier-requires : tie.Need-earlier-requires
 earlier-requires c κs = search needs
 
 move-count-requires : tie.Need-move-count-requires
 move-count-requires c κs =
-    let pre = c .before .before .before .before .before .before .before .before .before .before .before .pre in
+    let start : tie.Start = search in
+    let pre = start .pre in
     movable (pre .0 .1) (pre .1 .0) (by-cells (pre .0 .1) (pre .1 .0) (pre .1 .1 .0) (pre .1 .1 .1) (c .before .earlier .ensures))
 
 enqueue-requires : tie.Need-enqueue-requires
 enqueue-requires c κs =
-    let pre = c .before .before .before .before .before .before .before .before .before .before .before .before .before .before .before .pre in
+    let start : tie.Start = search in
+    let pre = start .pre in
     (pre .0 .0 .graph, enqueuable (pre .0 .1) (pre .1 .0))
 
 same-length : tie.Need-same-length
-same-length c = c .before .before .before .before .move-count .kept .0
+same-length c =
+    let after-move-count : tie.After-move-count = search in
+    after-move-count .move-count .kept .0
 
 returns : tie.Need-returns
 returns c =
-    let move = c .before .before .before .before in
-    let test = move .before .before in
-    let pre = test .before .before .before .before .before .before .before .before .before .before .pre .1 in
+    let move : tie.After-move-count = search in
+    let test : tie.After-earlier = search in
+    let start : tie.Start = search in
+    let pre = start .pre .1 in
     λ s nt.
     rw (move .move-count .ensures)
     (notified nt (pre .0) (by-cells nt (pre .0) (pre .1 .0) (pre .1 .1) (test .earlier .ensures)) (c .enqueue .ensures (s .graph) (enqueuable nt (pre .0))))

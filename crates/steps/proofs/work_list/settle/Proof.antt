@@ -32,48 +32,64 @@ is-empty-requires c κs = search needs
 
 can-step-requires : tie.Need-can-step-requires Inv-loop μ-loop
 can-step-requires c κs =
-    let test = c .before .before .before .before .before in
-    let loop = test .before .before .before in
-    let pre = loop .before .before .before .before .before .before .before .before .pre in
-    (pre .0, steppable (loop .loop .inv .4 (pre .0) (pre .1)) (test .before .is-empty .ensures) (test .if1 .taken))
+    let test : tie.Then1 Inv-loop μ-loop = search in
+    let after-is-empty : tie.After-is-empty Inv-loop μ-loop = search in
+    let loop : tie.At-loop Inv-loop μ-loop = search in
+    let start : tie.Start Inv-loop μ-loop = search in
+    let pre = start .pre in
+    (pre .0, steppable (loop .loop .inv .4 (pre .0) (pre .1)) (after-is-empty .is-empty .ensures) (test .if1 .taken))
 
 loop-less : tie.Need-loop-less Inv-loop μ-loop
 loop-less c =
-    let done = c .before .before .before .before .before .before .before .before in
-    let test = done .before .before .before .before .before .before in
-    let loop = test .before .before .before in
-    let pre = loop .before .before .before .before .before .before .before .before .pre in
+    let done : tie.After-can-step Inv-loop μ-loop = search in
+    let test : tie.Then1 Inv-loop μ-loop = search in
+    let after-is-empty : tie.After-is-empty Inv-loop μ-loop = search in
+    let loop : tie.At-loop Inv-loop μ-loop = search in
+    let start : tie.Start Inv-loop μ-loop = search in
+    let pre = start .pre in
     let wk = loop .loop .inv .4 (pre .0) (pre .1) in
-    let st = steppable wk (test .before .is-empty .ensures) (test .if1 .taken) in
+    let st = steppable wk (after-is-empty .is-empty .ensures) (test .if1 .taken) in
     omega (arith, done .can-step .ensures (pre .0) st .treated .one, wk .room, wk .shown .few)
 
 loop-again : tie.Need-loop-again Inv-loop μ-loop
 loop-again c =
-    let done = c .before .before .before .before .before .before .before .before in
-    let test = done .before .before .before .before .before .before in
-    let inv = test .before .before .before .loop .inv in
+    let done : tie.After-can-step Inv-loop μ-loop = search in
+    let test : tie.Then1 Inv-loop μ-loop = search in
+    let after-is-empty : tie.After-is-empty Inv-loop μ-loop = search in
+    let at-loop : tie.At-loop Inv-loop μ-loop = search in
+    let inv = at-loop .loop .inv in
     let kept = done .can-step .kept .1 .1 in (
       kept .0 ∙ inv .0,
       kept .1 .0 ∙ inv .1,
       kept .1 .1 .1 .0 ∙ inv .2,
       kept .1 .1 .1 .1 .0 ∙ inv .3,
-      λ e wk. done .can-step .ensures e (steppable (inv .4 e wk) (test .before .is-empty .ensures) (test .if1 .taken)) .working,
+      λ e wk. done .can-step .ensures e (steppable (inv .4 e wk) (after-is-empty .is-empty .ensures) (test .if1 .taken)) .working,
     )
 
 same-length : tie.Need-same-length Inv-loop μ-loop
-same-length c = c .before .before .before .loop .inv .0
+same-length c =
+    let at-loop : tie.At-loop Inv-loop μ-loop = search in
+    at-loop .loop .inv .0
 
 same-length-2 : tie.Need-same-length-2 Inv-loop μ-loop
-same-length-2 c = c .before .before .before .loop .inv .1
+same-length-2 c =
+    let at-loop : tie.At-loop Inv-loop μ-loop = search in
+    at-loop .loop .inv .1
 
 same-length-3 : tie.Need-same-length-3 Inv-loop μ-loop
-same-length-3 c = c .before .before .before .loop .inv .2
+same-length-3 c =
+    let at-loop : tie.At-loop Inv-loop μ-loop = search in
+    at-loop .loop .inv .2
 
 same-length-4 : tie.Need-same-length-4 Inv-loop μ-loop
-same-length-4 c = c .before .before .before .loop .inv .3
+same-length-4 c =
+    let at-loop : tie.At-loop Inv-loop μ-loop = search in
+    at-loop .loop .inv .3
 
 returns : tie.Need-returns Inv-loop μ-loop
-returns c = λ e wk. settled (c .before .before .before .loop .inv .4 e wk) (c .before .is-empty .ensures) (c .if1 .left)
+returns c =
+    let at-loop : tie.At-loop Inv-loop μ-loop = search in
+    λ e wk. settled (at-loop .loop .inv .4 e wk) (c .before .is-empty .ensures) (c .if1 .left)
 
 pub settle-spec : {M : Type 1} → statement M
 settle-spec =

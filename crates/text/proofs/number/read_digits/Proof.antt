@@ -24,19 +24,24 @@ shared-slice-read-x c = search needs
 
 returns : tie.Need-returns Inv-loop μ-loop
 returns c =
-    let s = c .before .before .before .before .args .s .now in
-    let w = c .before .before .before .loop in
+    let at-loop : tie.At-loop Inv-loop μ-loop = search in
+    let start : tie.Start Inv-loop μ-loop = search in
+    let s = start .args .s .now in
+    let w = at-loop .loop in
     digits-no s (w .inv .0 ∙ digits-low s (w .i) (omega arith) (c .if1 .taken))
 
 returns-2 : tie.Need-returns-2 Inv-loop μ-loop
 returns-2 c =
-    let s = c .before .before .before .before .before .args .s .now in
-    let w = c .before .before .before .before .loop in
+    let at-loop : tie.At-loop Inv-loop μ-loop = search in
+    let start : tie.Start Inv-loop μ-loop = search in
+    let s = start .args .s .now in
+    let w = at-loop .loop in
     digits-no s (w .inv .0 ∙ digits-high s (w .i) (omega arith) (c .before .if1 .left) (c .if2 .taken))
 
 mul-value : tie.Need-mul-value Inv-loop μ-loop
 mul-value c =
-    let w = c .before .before .before .before .loop in
+    let at-loop : tie.At-loop Inv-loop μ-loop = search in
+    let w = at-loop .loop in
     omega (arith, small (w .value) (w .i) (w .inv .2) (omega arith))
 
 cast-value : tie.Need-cast-value Inv-loop μ-loop
@@ -44,7 +49,8 @@ cast-value c = omega arith
 
 add-value : tie.Need-add-value Inv-loop μ-loop
 add-value c =
-    let w = c .before .before .before .before .loop in
+    let at-loop : tie.At-loop Inv-loop μ-loop = search in
+    let w = at-loop .loop in
     omega (arith, small (w .value) (w .i) (w .inv .2) (omega arith))
 
 add-i : tie.Need-add-i Inv-loop μ-loop
@@ -55,8 +61,10 @@ loop-less c = omega arith
 
 loop-again : tie.Need-loop-again Inv-loop μ-loop
 loop-again c =
-    let s = c .before .before .before .before .before .args .s .now in
-    let w = c .before .before .before .before .loop in
+    let at-loop : tie.At-loop Inv-loop μ-loop = search in
+    let start : tie.Start Inv-loop μ-loop = search in
+    let s = start .args .s .now in
+    let w = at-loop .loop in
     let low : 48 ≤ getD s (w .i) 0 = c .before .if1 .left in
     let high : getD s (w .i) 0 ≤ 57 = c .if2 .left in
     let more-digits = w .inv .0 ∙ digits-next s (w .i) (omega arith) low high in
@@ -65,7 +73,8 @@ loop-again c =
 
 returns-3 : tie.Need-returns-3 Inv-loop μ-loop
 returns-3 c =
-    let s = c .before .before .args .s .now in
+    let start : tie.Start Inv-loop μ-loop = search in
+    let s = start .args .s .now in
     let w = c .before .loop in
     digits-yes s (w .value) (w .inv .0 ∙ digits-end s (w .i) (omega arith)) (w .inv .1 ∙ value-end s (w .i) (w .value) (omega arith))
 

@@ -22,8 +22,10 @@ shared-slice-read-if1 c = omega arith
 
 returns : tie.Need-returns Inv-loop μ-loop
 returns c =
-    let a = c .before .before .before .before .args in
-    let e = before-here (a .c) (a .s .now) (c .before .before .before .loop .i) (omega arith) (c .if1 .taken) in
+    let at-loop : tie.At-loop Inv-loop μ-loop = search in
+    let start : tie.Start Inv-loop μ-loop = search in
+    let a = start .args in
+    let e = before-here (a .c) (a .s .now) (at-loop .loop .i) (omega arith) (c .if1 .taken) in
     record { is = omega arith; low = omega arith; high = omega arith }
 
 add-i : tie.Need-add-i Inv-loop μ-loop
@@ -34,12 +36,15 @@ loop-less c = omega arith
 
 loop-again : tie.Need-loop-again Inv-loop μ-loop
 loop-again c =
-    let a = c .before .before .before .before .args in
-    omega (arith, before-next (a .c) (a .s .now) (c .before .before .before .loop .i) (omega arith) (c .if1 .left))
+    let at-loop : tie.At-loop Inv-loop μ-loop = search in
+    let start : tie.Start Inv-loop μ-loop = search in
+    let a = start .args in
+    omega (arith, before-next (a .c) (a .s .now) (at-loop .loop .i) (omega arith) (c .if1 .left))
 
 returns-2 : tie.Need-returns-2 Inv-loop μ-loop
 returns-2 c =
-    let a = c .before .before .args in
+    let start : tie.Start Inv-loop μ-loop = search in
+    let a = start .args in
     let e = before-end (a .c) (a .s .now) (c .before .loop .i) (omega arith) in
     record { is = omega arith; low = omega arith; high = omega arith }
 

@@ -27,8 +27,9 @@ shared-slice-read-put-byte c = search needs
 
 put-byte-requires : tie.Need-put-byte-requires Inv-loop μ-loop
 put-byte-requires c κs =
-    let w = c .before .before .before .loop in
-    let p = c .before .before .before .before .before .before in
+    let at-loop : tie.At-loop Inv-loop μ-loop = search in
+    let p : tie.Start Inv-loop μ-loop = search in
+    let w = at-loop .loop in
     omega (arith, length-take-le (w .i) (p .args .text .now) (w .inv .1), w .inv .0 .next, w .inv .2, p .pre)
 
 add-i : tie.Need-add-i Inv-loop μ-loop
@@ -39,24 +40,27 @@ loop-less c = search needs
 
 loop-again : tie.Need-loop-again Inv-loop μ-loop
 loop-again c =
-    let p = c .before .before .before .before .before .before in
+    let after-put-byte : tie.After-put-byte Inv-loop μ-loop = search in
+    let in-loop : tie.In-loop Inv-loop μ-loop = search in
+    let p : tie.At-loop Inv-loop μ-loop = search in
+    let start : tie.Start Inv-loop μ-loop = search in
     let w = p .loop in
-    let start = p .before .before .before in
     let text = start .args .text .now in
-    let test : w .i < length text = c .before .before .before .before .before .loop-test .taken in
+    let test : w .i < length text = in-loop .loop-test .taken in
     let long = length-take-le (w .i) text (w .inv .1) in
     let fits = start .pre in
     let both =
-    puts-then (take (w .i) text) (getD text (w .i) 0 ∷ []) (start .args .at) (start .args .out .now) (omega arith) _ _ _ _ (w .inv .0) (c .before .before .put-byte .ensures) in
-    (rw (add-one (w .i), take-suc text (w .i) 0 test) both, omega arith, c .before .before .put-byte .kept .0 ∙ w .inv .2)
+    puts-then (take (w .i) text) (getD text (w .i) 0 ∷ []) (start .args .at) (start .args .out .now) (omega arith) _ _ _ _ (w .inv .0) (after-put-byte .put-byte .ensures) in
+    (rw (add-one (w .i), take-suc text (w .i) 0 test) both, omega arith, after-put-byte .put-byte .kept .0 ∙ w .inv .2)
 
 same-length : tie.Need-same-length Inv-loop μ-loop
 same-length c = search needs
 
 returns : tie.Need-returns Inv-loop μ-loop
 returns c =
+    let start : tie.Start Inv-loop μ-loop = search in
     let w = c .before .loop in
-    rw (take-all (w .i) (c .before .before .before .before .args .text .now) (omega arith)) at (w .inv .0)
+    rw (take-all (w .i) (start .args .text .now) (omega arith)) at (w .inv .0)
 
 pub put-text-spec : {M : Type 1} → statement M
 put-text-spec =

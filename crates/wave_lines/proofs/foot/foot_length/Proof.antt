@@ -19,7 +19,8 @@ add-result-2 c = search needs
 
 returns : tie.Need-returns
 returns c =
-    let t = c .before .before .args .tally in
+    let start : tie.Start = search in
+    let t = start .args .tally in
     let banks = c .before .digits .ensures in
     let clashes = c .digits2 .ensures in
     let long = length-foot (t .banks) (t .clashes) in

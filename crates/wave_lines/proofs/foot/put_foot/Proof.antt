@@ -7,7 +7,7 @@ use Rattle.wave_lines.proofs.foot.put_foot.Tie as tie
 
 put-totals-requires : tie.Need-put-totals-requires
 put-totals-requires c κs =
-    let start = c .before .before in
+    let start : tie.Start = search in
     let t = start .args .tally in
     omega (arith, length-foot (t .banks) (t .clashes), start .pre)
 

@@ -24,15 +24,16 @@ same-length c = search needs
 
 returns : tie.Need-returns
 returns c =
-    let last = c .before .before .put-number2 in
-    let at1 = c .before .before .before .before .before .before in
-    let at2 = at1 .before .before .before .before in
-    let at3 = at2 .before .before .before .before in
-    let start = at3 .before .before .before .before in
-    let p = at3 .put-text in
-    let q = at2 .put-number in
+    let after-put-number2 : tie.After-put-number2 = search in
+    let after-put-byte : tie.After-put-byte = search in
+    let after-put-number : tie.After-put-number = search in
+    let after-put-text : tie.After-put-text = search in
+    let start : tie.Start = search in
+    let last = after-put-number2 .put-number2 in
+    let p = after-put-text .put-text in
+    let q = after-put-number .put-number in
     let a = start .args in
-    puts-foot (a .n) (a .m) (a .at) (a .out .now) (start .pre) _ _ _ _ _ _ _ _ (p .kept .0) (q .kept .0) (p .ensures) (q .ensures) (at1 .put-byte .ensures) (last .ensures)
+    puts-foot (a .n) (a .m) (a .at) (a .out .now) (start .pre) _ _ _ _ _ _ _ _ (p .kept .0) (q .kept .0) (p .ensures) (q .ensures) (after-put-byte .put-byte .ensures) (last .ensures)
 
 pub put-totals-spec : {M : Type 1} → statement M
 put-totals-spec =
