@@ -1,7 +1,3 @@
--- What a reader must believe of the C library: Calls, Journals and Shelves, what each function answers and leaves; Kinds, functions that differ
--- in a kind, as one; in c_cells, how cells carry the tally and the results. inner serves the functions.
+-- What a reader must believe of these functions of the C library: Calls, what each answers and leaves. In c_cells: how cells carry the tally and the
+-- results.
 pub mod Calls
-pub mod Journals
-pub mod Shelves
-pub mod Kinds
-pub mod inner

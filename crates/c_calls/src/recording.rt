@@ -7,7 +7,7 @@ use rule::Bank;
 use rule::Kind;
 ghost use mathlib.Core.Path.{_≡_};
 ghost use Rattle.c_cells.specs.Lent.{cellsBefore, cellsAfter};
-ghost use Rattle.c_calls.specs.Journals.{recordAnswered, recordCall};
+ghost use Rattle.c_calls.specs.Calls.{recordAnswered, recordCall};
 
 const RECORD_RESULTS: usize = 3;
 

@@ -1,4 +1,4 @@
-// The C library: the names and parameters of each call, as `include/wave_plan.h` declares them. What a call does is in `c_reads` and `c_calls`, but for
+// The C library: the names and parameters of each call, as `include/wave_plan.h` declares them. What a call does is in the crates c_.., but for
 // opening a shelf, which has neither tally nor results: in `checkpoints`.
 mod crew;
 mod editing;

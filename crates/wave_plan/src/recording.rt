@@ -4,7 +4,7 @@ use rule::Kind;
 ghost use mathlib.Core.Path.{_≡_};
 ghost use Rattle.rule.specs.declared.Kind.the-variants.{Adding, Striking};
 ghost use Rattle.c_cells.specs.Lent.{cellsBefore, cellsAfter};
-ghost use Rattle.c_calls.specs.Journals.{recordAnswered, recordCall};
+ghost use Rattle.c_calls.specs.Calls.{recordAnswered, recordCall};
 
 // Adds the clash of a and b and records it.
 #[no_mangle]

@@ -1,11 +1,11 @@
 // The shelf: opening it, keeping a plan on it, and coming back to one.
-use c_calls::come_back_in;
-use c_calls::keep_in;
+use c_shelves::come_back_in;
+use c_shelves::keep_in;
 use checkpoints::open_shelf;
 ghost use mathlib.Core.Path.{_≡_};
 ghost use Rattle.memory.specs.Lent.{slicesBefore, slicesAfter};
 ghost use Rattle.checkpoints.specs.Calls.{shelfResult, openShelf};
-ghost use Rattle.c_calls.specs.Shelves.{keepCall, backAnswered, comeBackCall};
+ghost use Rattle.c_shelves.specs.Shelves.{keepCall, backAnswered, comeBackCall};
 
 // Opens a shelf for plans of `banks` banks: nothing is kept on it.
 #[no_mangle]

@@ -1,11 +1,10 @@
 // The calls that make a plan from bytes.
-use c_calls::Source;
-use c_calls::make_plan_in;
+use c_texts::Source;
+use c_texts::make_plan_in;
 ghost use mathlib.Core.Path.{_≡_};
 ghost use Rattle.c_cells.specs.CellMemory.{answered};
 ghost use Rattle.c_cells.specs.Lent.{cellsBefore, cellsAfter};
-ghost use Rattle.c_calls.specs.Calls.{listCall};
-ghost use Rattle.c_calls.specs.Journals.{replayCall};
+ghost use Rattle.c_texts.specs.Texts.{listCall, replayCall};
 
 // Reads a list. The result is the row.
 #[no_mangle]

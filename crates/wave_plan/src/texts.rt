@@ -1,10 +1,9 @@
 // The calls that write bytes of the plan to the front of a slice. The result is how many they are.
-use c_calls::Text;
-use c_calls::write_in;
+use c_texts::Text;
+use c_texts::write_in;
 ghost use mathlib.Core.Path.{_≡_};
 ghost use Rattle.memory.specs.Lent.{slicesBefore};
-ghost use Rattle.c_calls.specs.Calls.{textAnswered, sheetCall, posterCall};
-ghost use Rattle.c_calls.specs.Journals.{startCall};
+ghost use Rattle.c_texts.specs.Texts.{textAnswered, sheetCall, posterCall, startCall};
 
 // Writes the sheet.
 #[no_mangle]

@@ -2,7 +2,7 @@
 use borrow.Author.Needs.{needs}
 use native.Mathlib.Omega.{arith}
 use Rattle.c_cells.proofs.Rooms.{roomed-some}
-use Rattle.c_calls.specs.Journals.{recordCall}
+use Rattle.c_calls.specs.Calls.{recordCall}
 use Rattle.c_calls.proofs.Done.{record-done}
 use Rattle.c_calls.proofs.recording.record_in.Statement.{statement}
 use Rattle.c_calls.proofs.recording.record_in.Tie as tie

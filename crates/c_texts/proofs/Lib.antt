@@ -1,0 +1,3 @@
+-- Theorems: what to cite. Done, for the functions' proofs: what each function leaves.
+pub mod Done
+pub mod Theorems
