@@ -1,4 +1,4 @@
--- `list_reader::lent::read_list` meets its contract, by the walk of the crate memory's `Thin/Walk.antt`. All that it knows of `pass::read_list_core` is that it meets its contract.
+-- `list_reader::pass::read_list` meets its contract, by the walk of the crate memory's `Thin/Walk.antt`. All that it knows of `read_list_core` is that it meets its contract.
 -- The two contracts are the same but for the place of the tally: the two `id⊢` say so.
 -- Assumes nothing.
 use mathlib.Core.List.{[], _∷_}
@@ -14,10 +14,10 @@ use Rattle.list_pass.proofs.Reading.Laws as N′
 use Rattle.list_reader.proofs.pass.read_list_core as core
 use Rattle.list_reader.proofs.pass.read_list_core.Symbol as core-def
 use Rattle.list_reader.proofs.pass.read_list_core.Met as core-thm
-use Rattle.list_reader.proofs.lent.read_list.Key as key
-use Rattle.list_reader.proofs.lent.read_list as thin
-use Rattle.list_reader.proofs.lent.read_list.Statement as stated
-use Rattle.list_reader.proofs.lent.read_list.Code as code
+use Rattle.list_reader.proofs.pass.read_list.Key as key
+use Rattle.list_reader.proofs.pass.read_list as thin
+use Rattle.list_reader.proofs.pass.read_list.Statement as stated
+use Rattle.list_reader.proofs.pass.read_list.Code as code
 
 abbrev lent : Thin
 lent = tally-lent 8 (shr-slice u8 ∷ slices 7 []) [] (struct N.the-type N′.the-laws N′.the-plain) E.the-type (λ r. r .answer) (λ r. r .tally) (E.the-type .to-one)
