@@ -1,5 +1,5 @@
--- Theorems: what to cite. Fronts, Parts, Standing: laws of slices and counts, for the layer above too. Thin: laws for functions that are lent
--- the tally. The others: the proofs.
+-- Theorems: what to cite. Fronts, Parts, Standing: laws of slices and counts, for the layer above too. Thin: functions that are
+-- lent the tally. The others: the proofs.
 pub mod Theorems
 pub mod Fronts
 pub mod Parts

@@ -1,0 +1,2 @@
+-- ThinEdits: the thin functions.
+pub mod ThinEdits
