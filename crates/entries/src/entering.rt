@@ -5,7 +5,7 @@ use memory::Tally;
 use planner::Answer;
 use planner::Edited;
 use queue::WORDS;
-use queue::place_by_rank;
+use queue_places::place_by_rank;
 use rule::Bank;
 use rule::Entry;
 use rule::Kind;

@@ -5,7 +5,7 @@ use planner::Answer;
 use planner::Edited;
 use planner::clashes_held;
 use queue::WORDS;
-use queue::reset;
+use queue_places::reset;
 use rule::Bank;
 use rule::Kind;
 use rule::MOST_CLASHES;

@@ -12,7 +12,7 @@ use journal_reader::refusal;
 use memory::Tally;
 use opening::open_all;
 use queue::WORDS;
-use queue::reset;
+use queue_places::reset;
 use rule::wide;
 ghost use mathlib.Core.Bool.{false};
 ghost use mathlib.Core.Path.{_≡_};

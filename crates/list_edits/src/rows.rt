@@ -9,7 +9,7 @@ use list_rows::Row;
 use list_rows::read_row_in;
 use memory::Tally;
 use queue::WORDS;
-use queue::reset;
+use queue_places::reset;
 use text::find;
 ghost use mathlib.Core.Bool.{false};
 ghost use mathlib.Core.Path.{_≡_};

@@ -5,6 +5,5 @@ pub mod Lowest
 pub mod Banks
 pub mod Putting
 pub mod Ranks
-pub mod PlacesByRank
 pub mod Taking
 pub mod Queues

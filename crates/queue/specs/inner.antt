@@ -1,4 +1,3 @@
--- What only this crate's own functions speak of.
+-- What only this crate's own functions speak of, and those of queue_places.
 pub mod Words
 pub mod Ties
-pub mod Places

@@ -1,0 +1,2 @@
+-- Lemmas, which the functions' proofs cite.
+pub mod PlacesByRank

@@ -1,0 +1,2 @@
+-- What only this crate's own functions speak of.
+pub mod Places
