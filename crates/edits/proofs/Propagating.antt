@@ -34,14 +34,14 @@ use Rattle.memory.specs.Memory.{Memory, memoryOf}
 use Rattle.edits.specs.Edits.{Editable, Outcome}
 use Rattle.queue.specs.Queue.{waits, Idle}
 use Rattle.neighbour_rows.specs.Rewritten.{Rewritten}
-use Rattle.steps.specs.inner.Tops.{Top}
+use Rattle.recolouring.specs.inner.Tops.{Top}
 use Rattle.steps.specs.inner.Work.{Edit, new, begun, Working, Settled}
 use Rattle.edits.specs.inner.Recount.{withCounts}
 use Rattle.edits.specs.inner.Seeds.{Seedable, Seeded}
 use Rattle.edits.specs.inner.Change.{Origin, editAt, RowsChanged}
 use Rattle.queue.proofs.Queues.{idle-queue, idle-empty}
-use Rattle.steps.proofs.Notices.{memb-none}
-use Rattle.steps.proofs.Tops.{top-of}
+use Rattle.recolouring.proofs.Notices.{memb-none}
+use Rattle.recolouring.proofs.Tops.{top-of}
 
 beyond-same : (k : ℕ) (xs was : List ℕ) → xs ≡ was → Beyond k xs was
 beyond-same k xs was e = rw e (beyond-refl k was)

@@ -19,7 +19,7 @@ use Rattle.memory.proofs.Parts.{put-below, put-in, put-above}
 use Rattle.memory.proofs.Theorems.{countable, counts-are}
 use Rattle.queue.specs.Queue.{waits, Enqueuable, Enqueued}
 use Rattle.edits.specs.inner.Recount.{Recounted, Recounting, SeedQueued, withCounts}
-use Rattle.steps.proofs.Shows.{enqueuable-of}
+use Rattle.recolouring.proofs.Shows.{enqueuable-of}
 
 -- the part of b, put back into Counts
 pub part-back : (cs row : List ℕ) (b : ℕ) (counts : ℕ → ℕ) → b * 24 + 24 ≤ length cs → Tallied row counts → Recounted cs (putMid (b * 24) (b * 24 + 24 - b * 24) cs row) b counts

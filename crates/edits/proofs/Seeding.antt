@@ -23,8 +23,8 @@ use Rattle.queue.specs.Queue.{waits}
 use Rattle.edits.specs.inner.Recount.{Recounting, SeedQueued, withCounts}
 use Rattle.steps.specs.inner.Work.{Edit, new}
 use Rattle.edits.specs.inner.Seeds.{turnedFrom, Search, Turning, Seedable, Seeded}
-use Rattle.steps.proofs.Notices.{memb-none, more-and}
-use Rattle.steps.proofs.Shows.{cell-inside, cell-bank, cell-degree, row-memb, whole-row}
+use Rattle.recolouring.proofs.Notices.{memb-none, more-and}
+use Rattle.recolouring.proofs.Shows.{cell-inside, cell-bank, cell-degree, row-memb, whole-row}
 
 -- one more that fails the test
 no-and : (s t e : Bool) → (T t → T e → ⊥) → (s && e) ≡ ((s || t) && e)

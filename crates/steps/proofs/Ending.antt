@@ -29,8 +29,8 @@ use Rattle.memory.specs.Memory.{Memory}
 use Rattle.queue.specs.Queue.{waits, Queue, Keyed, Empty, TellsEmpty, Idle}
 use Rattle.steps.specs.inner.Work.{Edit, new, Working, Steppable, Settled}
 use Rattle.queue.proofs.Queues.{none-waits, some-waits, queue-idle}
-use Rattle.steps.proofs.Counting.{counted-cong}
-use Rattle.steps.proofs.Shows.{keyed}
+use Rattle.recolouring.proofs.Counting.{counted-cong}
+use Rattle.recolouring.proofs.Shows.{keyed}
 use Rattle.steps.proofs.Stepping.{changed-not}
 
 -- r tells whether the queue is empty, whichever clashes it is of

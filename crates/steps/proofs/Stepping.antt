@@ -25,19 +25,20 @@ use Rattle.memory.specs.Cells.{Beyond}
 use Rattle.memory.specs.Plan.{slicesOf}
 use Rattle.memory.proofs.Fronts.{take-store, memb-snoc, beyond-set, beyond-next, beyond-refl}
 use Rattle.memory.proofs.Standing.{standing-cong, standing-le, pos-standing}
-use Rattle.steps.specs.declared.can_step.Progress.{Progress}
-use Rattle.steps.specs.declared.highest.Highest.{Highest}
 use Rattle.memory.specs.Memory.{Memory, memoryOf}
 use Rattle.queue.specs.Queue.{waits, Dequeued}
-use Rattle.steps.specs.CanSteps.{oneMoved, wavesIn, collected, Indexed, Collects, Assigns, laterNeighbour, Notified, waveDiffers, Treated}
-use Rattle.steps.specs.inner.Notices.{Notifiable}
-use Rattle.steps.specs.inner.Tops.{KeepsTop}
+use Rattle.recolouring.specs.declared.highest.Highest.{Highest}
+use Rattle.recolouring.specs.Recolouring.{oneMoved, wavesIn, collected, Indexed, Collects, Assigns, laterNeighbour, Notified}
+use Rattle.recolouring.specs.inner.Notices.{Notifiable}
+use Rattle.recolouring.specs.inner.Tops.{KeepsTop}
+use Rattle.recolouring.proofs.Counting.{standing-move, moved-here}
+use Rattle.recolouring.proofs.Collecting.{in-map}
+use Rattle.recolouring.proofs.Notices.{later-bank, later-counts, counts-later}
+use Rattle.recolouring.proofs.Shows.{few-earlier}
+use Rattle.recolouring.proofs.SortedLists.{sorted-put, sorted-short}
+use Rattle.steps.specs.declared.can_step.Progress.{Progress}
+use Rattle.steps.specs.CanSteps.{waveDiffers, Treated}
 use Rattle.steps.specs.inner.Work.{Edit, new, Working}
-use Rattle.steps.proofs.Counting.{standing-move, moved-here}
-use Rattle.steps.proofs.Collecting.{in-map}
-use Rattle.steps.proofs.Notices.{later-bank, later-counts, counts-later}
-use Rattle.steps.proofs.Shows.{few-earlier}
-use Rattle.steps.proofs.SortedLists.{sorted-put, sorted-short}
 
 pub changed-not : (old new : Graph) (x : ℕ) → wave old x ≡ wave new x → T (changed old new x) → ⊥
 unfolding changed

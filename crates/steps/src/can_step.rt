@@ -1,11 +1,11 @@
 // One bank taken up: a CAN step of 000 (definition 4.10; lines 16 to 18 of algorithm 2), which performs CC, AC and NC in that order.
-use crate::assign::assign_colour;
-use crate::collect::collect_colours;
-use crate::highest::Highest;
-use crate::highest::highest_after;
-use crate::notify::notify_colours;
 use queue::WORDS;
 use queue::dequeue;
+use recolouring::Highest;
+use recolouring::assign_colour;
+use recolouring::collect_colours;
+use recolouring::highest_after;
+use recolouring::notify_colours;
 use rule::Bank;
 use rule::Wave;
 ghost use mathlib.Core.Bool.{cond};

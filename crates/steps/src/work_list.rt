@@ -1,9 +1,9 @@
 // All banks that wait, taken up.
 use crate::can_step::Progress;
 use crate::can_step::can_step;
-use crate::highest::Highest;
 use queue::WORDS;
 use queue::is_empty;
+use recolouring::Highest;
 ghost use Rattle.memory.specs.Lent.{given, before, after};
 ghost use Rattle.queue.specs.Queue.{Idle};
 ghost use Rattle.steps.specs.inner.Work.{Edit, new, begun, Working, Settled};

@@ -16,9 +16,9 @@ use Rattle.memory.specs.Memory.{Memory}
 use Rattle.memory.specs.Plan.{countCells}
 use Rattle.memory.specs.inner.View.{Shown, Counted}
 use Rattle.queue.specs.Queue.{waits, Queue, Waiting}
+use Rattle.recolouring.specs.inner.Tops.{Top}
 use Rattle.steps.specs.declared.can_step.Progress.{Progress}
 use Rattle.steps.specs.CanSteps.{Treated}
-use Rattle.steps.specs.inner.Tops.{Top}
 
 -- an edit: its kind, the old clashes, the two banks, and the memory as it found it
 pub record Edit : Type 0 where

@@ -1,6 +1,6 @@
 -- `waves_after`: by the highest wave that was kept, or counted.
 use borrow.Author.Needs.{needs}
-use Rattle.steps.proofs.Tops.{top-is}
+use Rattle.recolouring.proofs.Tops.{top-is}
 use Rattle.edits.proofs.edit.waves_after.Statement.{statement}
 use Rattle.edits.proofs.edit.waves_after.Tie as tie
 
