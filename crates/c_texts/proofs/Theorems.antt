@@ -7,7 +7,7 @@ use Rattle.wave_lines.proofs.Writing.{written-most}
 use Rattle.sheet_writer.specs.Sheet.{sheet}
 use Rattle.sheet_writer.specs.Calls.{writeSheet}
 use Rattle.sheet_writer.proofs.Theorems.{sheet-fits}
-use Rattle.poster_writer.specs.Poster.{poster}
+use Rattle.poster_lines.specs.Poster.{poster}
 use Rattle.poster_writer.specs.Calls.{writePoster}
 use Rattle.poster_writer.proofs.Theorems.{poster-fits}
 

@@ -10,7 +10,7 @@ use Rattle.text.specs.Numbers.{decimal}
 use Rattle.list_pass.specs.Pass.{ListResult, readList}
 use Rattle.wave_lines.specs.Calls.{TextResult, writeText}
 use Rattle.sheet_writer.specs.Sheet.{sheet}
-use Rattle.poster_writer.specs.Poster.{poster}
+use Rattle.poster_lines.specs.Poster.{poster}
 use Rattle.list_program.specs.declared.texts.Text.{Text}
 use Rattle.list_program.specs.declared.texts.Text.the-variants.{Sheet, Poster}
 

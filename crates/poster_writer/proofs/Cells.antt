@@ -8,7 +8,8 @@ use Rattle.rule.specs.Lists.{upto}
 use Rattle.text.specs.Text.{joined}
 use Rattle.text.proofs.Joined.{joined-append, texts-more, texts-room}
 use Rattle.wave_lines.specs.inner.Cells.{membersOf}
-use Rattle.poster_writer.specs.inner.Cells.{linesWith, posterWave, posterWaves, cellLines}
+use Rattle.poster_lines.specs.inner.Lines.{linesWith}
+use Rattle.poster_writer.specs.inner.Cells.{posterWave, posterWaves, cellLines}
 
 flatMap-append : {A : Type 0} (f : ℕ → List A) (xs ys : List ℕ) → flatMap f (xs ++ ys) ≡ flatMap f xs ++ flatMap f ys
 unfolding flatMap

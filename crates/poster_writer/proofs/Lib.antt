@@ -1,8 +1,5 @@
 -- Theorems: what to cite. The others: its proofs, and what the functions' proofs cite.
-pub mod Each
-pub mod Columns
 pub mod Members
-pub mod Pieces
 pub mod Cells
 pub mod Pages
 pub mod ReadBack

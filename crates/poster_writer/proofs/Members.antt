@@ -11,7 +11,7 @@ use borrow.Author.Tests.{eq-eqb, ne-eqb}
 use Rattle.text.specs.Places.{put, Puts}
 use Rattle.wave_lines.specs.inner.Cells.{membersOf}
 use Rattle.wave_lines.proofs.Members.{members-below}
-use Rattle.poster_writer.specs.inner.Cells.{Small}
+use Rattle.poster_lines.specs.inner.Lines.{Small}
 
 module _ (w c b : ℕ) where
   pub member-same : w ≡ c → cond (eqb w c) (b ∷ []) [] ≡ b ∷ []

@@ -6,9 +6,9 @@ use native.Mathlib.Omega.{arith}
 use lib.ListN.{length, replicate, length-append}
 use Rattle.text.specs.Text.{joined}
 use Rattle.text.proofs.Joined.{joined-append}
-use Rattle.poster_writer.specs.Poster.{padded, filled}
-use Rattle.poster_writer.proofs.Each.{Each}
-use Rattle.poster_writer.proofs.Columns.{length-rows, length-blanks}
+use Rattle.poster_lines.specs.Poster.{padded, filled}
+use Rattle.poster_lines.proofs.Each.{Each}
+use Rattle.poster_lines.proofs.Columns.{length-rows, length-blanks}
 
 -- the pages of so many lines
 abbrev pub pages : ℕ → ℕ

@@ -17,9 +17,10 @@ use Rattle.wave_lines.specs.Lines.{linesOf}
 use Rattle.wave_lines.specs.Foot.{footText}
 use Rattle.wave_lines.specs.inner.Cells.{membersOf, lineIn}
 use Rattle.wave_lines.proofs.Plans as WaveLines
-use Rattle.poster_writer.specs.Poster.{padded, waveLines, footLine, posterLines, filled, poster}
-use Rattle.poster_writer.specs.inner.Cells.{linesWith, posterWaves, cellLines}
-use Rattle.poster_writer.proofs.Columns.{length-padded, length-rows}
+use Rattle.poster_lines.specs.Poster.{padded, waveLines, footLine, posterLines, filled, poster}
+use Rattle.poster_lines.specs.inner.Lines.{linesWith}
+use Rattle.poster_lines.proofs.Columns.{length-padded, length-rows}
+use Rattle.poster_writer.specs.inner.Cells.{posterWaves, cellLines}
 use Rattle.poster_writer.proofs.Cells.{text-is}
 use Rattle.poster_writer.proofs.Pages.{pages, filled-text}
 use Rattle.poster_writer.proofs.ReadBack.{foot-short}

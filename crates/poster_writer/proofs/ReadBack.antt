@@ -19,12 +19,12 @@ use Rattle.text.proofs.Without.{Without}
 use Rattle.wave_lines.specs.Lines.{Line}
 use Rattle.wave_lines.specs.Foot.{footText, totalsOf, totalsOn}
 use Rattle.wave_lines.proofs.Totals.{length-foot, foot-without, totals-padded}
-use Rattle.poster_writer.specs.Poster.{pieces, sevens, rightAligned, padded, posterLine, marked, waveLines, footLine, filled}
+use Rattle.poster_lines.specs.Poster.{pieces, sevens, rightAligned, padded, posterLine, marked, waveLines, footLine, filled}
+use Rattle.poster_lines.specs.inner.Lines.{Small}
+use Rattle.poster_lines.proofs.Each.{Each, each-append, each-replicate, each-map}
+use Rattle.poster_lines.proofs.Columns.{length-aligned, length-columns, length-padded, length-rows, length-spaces}
+use Rattle.poster_lines.proofs.Pieces.{Fits, each-fits, length-sevens, pieces-joined, sevens-joined}
 use Rattle.poster_writer.specs.Reading.{linesOn, numberIn, bankIn, banksOn, isFoot, aboveFoot, continued, grouped, Row}
-use Rattle.poster_writer.specs.inner.Cells.{Small}
-use Rattle.poster_writer.proofs.Each.{Each, each-append, each-replicate, each-map}
-use Rattle.poster_writer.proofs.Columns.{length-aligned, length-columns, length-padded, length-rows, length-spaces}
-use Rattle.poster_writer.proofs.Pieces.{Fits, each-fits, length-sevens, pieces-joined, sevens-joined}
 
 -- a bank in its columns
 number-some : (ds : List ℕ) → 1 ≤ length ds → numberIn ds ≡ valueFrom 0 ds ∷ []

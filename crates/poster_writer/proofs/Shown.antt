@@ -17,10 +17,10 @@ use Rattle.wave_lines.specs.Foot.{Totals, totalsOf, totalsOn}
 use Rattle.wave_lines.proofs.Letters.{letter-high}
 use Rattle.wave_lines.proofs.Plans.{few-waves, few-clashes}
 use Rattle.wave_lines.proofs.Shown.{shown-count, count-lines, on-line, no-empty-line}
-use Rattle.poster_writer.specs.Poster.{sevens, padded, waveLines, footLine, posterLines, filled, poster}
+use Rattle.poster_lines.specs.Poster.{sevens, padded, waveLines, footLine, posterLines, filled, poster}
+use Rattle.poster_lines.proofs.Each.{Each}
+use Rattle.poster_lines.proofs.Pieces.{length-marked, length-sevens}
 use Rattle.poster_writer.specs.Reading.{linesOn, banksOn, aboveFoot, banksRead, grouped, wavesRead, totalsRead, Row}
-use Rattle.poster_writer.proofs.Each.{Each}
-use Rattle.poster_writer.proofs.Pieces.{length-marked, length-sevens}
 use Rattle.poster_writer.proofs.Pages.{length-filled}
 use Rattle.poster_writer.proofs.ReadBack.{Good, lines-rows, filled-rows, each-long, lines-again, above-foot, foot-at, foot-totals, none-continues, waves-again, banks-by-wave, waves-long}
 

@@ -16,10 +16,10 @@ use Rattle.wave_lines.specs.Calls.{textResult, writtenBytes}
 use Rattle.wave_lines.proofs.Theorems.{bank-once, written-within}
 use Rattle.wave_lines.proofs.Plans as WaveLines
 use Rattle.wave_lines.proofs.Writing as Writing
-use Rattle.poster_writer.specs.Poster.{padded, footLine, posterLines, filled, poster}
+use Rattle.poster_lines.specs.Poster.{padded, footLine, posterLines, filled, poster}
+use Rattle.poster_lines.proofs.Each.{each-at}
 use Rattle.poster_writer.specs.Calls.{writePoster}
 use Rattle.poster_writer.specs.Reading.{linesOn, banksRead, wavesRead, totalsRead, Row}
-use Rattle.poster_writer.proofs.Each.{each-at}
 use Rattle.poster_writer.proofs.Shown
 use Rattle.poster_writer.proofs.Plans
 

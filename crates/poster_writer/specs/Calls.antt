@@ -4,7 +4,7 @@ use Prim.Native.Nat.{ℕ}
 use Rattle.memory.specs.declared.Tally.{Tally}
 use Rattle.memory.specs.Plan.{Slices}
 use Rattle.wave_lines.specs.Calls.{TextResult, writeText}
-use Rattle.poster_writer.specs.Poster.{poster}
+use Rattle.poster_lines.specs.Poster.{poster}
 
 -- the call write a poster, of any memory and any output
 abbrev pub writePoster : Slices → Tally → List ℕ → TextResult

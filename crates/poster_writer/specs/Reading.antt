@@ -11,7 +11,7 @@ use Rattle.text.specs.Numbers.{valueFrom}
 use Rattle.text.specs.Text.{joined}
 use Rattle.wave_lines.specs.Lines.{Line}
 use Rattle.wave_lines.specs.Foot.{Totals, totalsOn}
-use Rattle.poster_writer.specs.Poster.{pieces}
+use Rattle.poster_lines.specs.Poster.{pieces}
 
 -- the lines of the pages, 40 characters and a line feed each
 unfoldable pub linesOn : List ℕ → List (List ℕ)

@@ -1,6 +1,4 @@
 // The poster writer: the waves of a plan in pages of 50 lines for the depot gate. `write_poster` is the call.
-mod column;
-mod lines;
 mod poster;
 mod waves;
 

@@ -1,10 +1,10 @@
 // Writing the poster of a plan.
-use crate::lines::put_blank_lines;
-use crate::lines::put_foot_line;
 use crate::waves::count_lines;
 use crate::waves::put_waves;
 use memory::Tally;
 use planner::check_plan;
+use poster_lines::put_blank_lines;
+use poster_lines::put_foot_line;
 use wave_lines::Written;
 ghost use mathlib.Core.Path.{_≡_};
 ghost use Rattle.memory.specs.Lent.{slicesBefore};

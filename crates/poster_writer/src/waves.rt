@@ -1,6 +1,6 @@
 // The waves of a plan: the banks of each, ascending, and the lines that they take.
-use crate::lines::lines_for;
-use crate::lines::put_wave;
+use poster_lines::lines_for;
+use poster_lines::put_wave;
 use rule::Bank;
 use rule::MOST_BANKS;
 use rule::Wave;
@@ -12,7 +12,8 @@ ghost use lib.Dec.{eqb};
 ghost use lib.ListN.{length};
 ghost use Rattle.text.specs.Places.{Room, Wrote};
 ghost use Rattle.wave_lines.specs.inner.Cells.{membersOf};
-ghost use Rattle.poster_writer.specs.inner.Cells.{linesWith, posterWave, posterWaves, cellLines};
+ghost use Rattle.poster_lines.specs.inner.Lines.{linesWith};
+ghost use Rattle.poster_writer.specs.inner.Cells.{posterWave, posterWaves, cellLines};
 
 // Bank b, whose wave is w, if it is one of wave c.
 fn put_member(banks: &mut [u16], at: usize, w: Wave, c: Wave, b: Bank) -> usize

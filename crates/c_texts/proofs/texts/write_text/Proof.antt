@@ -5,7 +5,7 @@ use native.Mathlib.Omega.{arith}
 use Rattle.wave_lines.proofs.Writing.{answer-most}
 use Rattle.sheet_writer.specs.Sheet.{sheet}
 use Rattle.sheet_writer.proofs.Theorems.{sheet-fits}
-use Rattle.poster_writer.specs.Poster.{poster}
+use Rattle.poster_lines.specs.Poster.{poster}
 use Rattle.poster_writer.proofs.Theorems.{poster-fits}
 use Rattle.c_texts.specs.Texts.{textOf, startOf}
 use Rattle.c_texts.proofs.texts.write_text.Statement.{statement}

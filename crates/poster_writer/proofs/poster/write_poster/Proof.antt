@@ -5,7 +5,7 @@ use mathlib.Core.Path.{sym, ap, _∙_}
 use Prim.Native.Nat.{ℕ, _+_}
 use Rattle.wave_lines.proofs.Plans.{plan-room, plan-most, plan-few}
 use Rattle.wave_lines.proofs.Writing.{text-refused, text-short, text-done}
-use Rattle.poster_writer.specs.Poster.{poster}
+use Rattle.poster_lines.specs.Poster.{poster}
 use Rattle.poster_writer.proofs.Plans.{plan-bytes, plan-text, plan-foot, foot-bytes, poster-written}
 use Rattle.poster_writer.proofs.poster.write_poster.Statement.{statement}
 use Rattle.poster_writer.proofs.poster.write_poster.Tie as tie

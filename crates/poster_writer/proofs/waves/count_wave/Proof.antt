@@ -3,7 +3,7 @@ use borrow.Author.Needs.{needs}
 use native.Mathlib.Omega.{arith}
 use Rattle.wave_lines.specs.inner.Cells.{membersOf}
 use Rattle.wave_lines.proofs.Members.{members-few}
-use Rattle.poster_writer.proofs.Pieces.{length-lines}
+use Rattle.poster_lines.proofs.Pieces.{length-lines}
 use Rattle.poster_writer.proofs.waves.count_wave.Statement.{statement}
 use Rattle.poster_writer.proofs.waves.count_wave.Tie as tie
 
