@@ -3,4 +3,3 @@ pub mod Caps
 pub mod Calls
 pub mod EditCalls
 pub mod Theorems
-pub mod ThinEdits

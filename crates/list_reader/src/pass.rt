@@ -1,4 +1,4 @@
-// The pass over a list, and the call as a caller makes it, who lends the tally.
+// The pass over a list.
 use list_edits::read_edits;
 use list_pass::Listed;
 use list_pass::Reading;
@@ -122,35 +122,4 @@ fn begin(
         moved,
         after,
     )
-}
-
-// Reads a list: opens the plan, then makes the rows' edits. Answers 0, or the number of the first no and its row.
-pub fn read_list(
-    list: &[u8],
-    neighbours: &mut [u16],
-    degrees: &mut [u16],
-    waves: &mut [u16],
-    counts: &mut [u16],
-    ranks: &mut [u16],
-    trail: &mut [u16],
-    moved: &mut [u16],
-    tally: &mut Tally,
-) -> Reading
-    ensures { λ r. ⌜ listResult r (after neighbours degrees waves counts ranks trail moved (now (tally .exit)))
-        ≡ readList (now (list .entry)) (before neighbours degrees waves counts ranks trail moved (now (tally .entry))) ⌝ }
-{
-    let t = *tally;
-    let r = read_list_core(
-        list,
-        neighbours,
-        degrees,
-        waves,
-        counts,
-        ranks,
-        trail,
-        moved,
-        t,
-    );
-    *tally = r.tally;
-    r.answer
 }

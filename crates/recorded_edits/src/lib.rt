@@ -1,9 +1,6 @@
 // Edits that are made and recorded in the journal of their plan.
-mod lent;
 mod record;
 
-pub use lent::add_recorded;
-pub use lent::strike_recorded;
 pub use record::add_recorded_core;
 pub use record::record_core;
 pub use record::strike_recorded_core;

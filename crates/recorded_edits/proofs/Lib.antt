@@ -1,2 +1,0 @@
--- ThinEdits: the thin functions.
-pub mod ThinEdits
