@@ -8,6 +8,7 @@
 # make check              every proof, no must-fail edit; what has not changed is not proved again
 # make papers             docs, header and README against the sources, in seconds
 # make quick              the tests alone, over the programs and the library as they are built
+# make must-fail          every must-fail edit, over the crates as they are proved (CRATE=rule: those of one crate)
 # make test               every proof, every must-fail edit, every test: the gate
 # make bench              times against colouring from scratch, in Rust, C++ and Python, into docs/BENCHMARKS.md (BENCH=quick: a few repeats, into target/bench)
 # make fmt                the layout of all sources
@@ -18,11 +19,12 @@ ARCHIVE = target/staticlib/libwave_plan.a
 SHARED = target/staticlib/libwave_plan.so
 SONAME = libwave_plan.so.0
 
-.PHONY: run poster lib shared desk install dev check papers quick test bench fmt
-.SILENT: run poster dev check papers quick test $(PROGRAMS)
+.PHONY: run poster lib shared desk install dev check papers quick must-fail test bench fmt
+.SILENT: run poster dev check papers quick must-fail test $(PROGRAMS)
 .NOTPARALLEL: # rt and cargo use all cores
 SHELL = bash
 .SHELLFLAGS = -o pipefail -c
+export TMPDIR := $(shell tools/scratch)
 
 # Proves a crate (or all) and what it stands on. Of what rt says its own lines are shown, as crates are done; all of it where one is not proved.
 define prove
@@ -81,6 +83,9 @@ papers:
 
 quick:
 	tests/run quick
+
+must-fail:
+	tests/must-fail $(CRATE)
 
 test:
 	tests/run
