@@ -34,7 +34,7 @@ class Edit:
             elif word == "old":
                 old = rest
             else:
-                found = sources[file].count(old) if old else 0
+                found = sources[file].count(old) if file and old else 0
                 if found != 1:
                     raise BadEdit(f"{self.path}: its text stands {found} times in {file}: {old}")
                 sources[file] = sources[file].replace(old, rest)
