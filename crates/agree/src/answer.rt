@@ -14,19 +14,20 @@ const WAVE_COUNT_CELLS: usize = COUNT_CELLS * MOST_BANKS;
 const REFUSAL_BYTES: usize = 24;
 
 // Writes bytes to standard output. Answers whether they were written.
-fn print(text: &[u8]) -> bool {
-    io::write_all(libc::STDOUT_FILENO, text)
+fn print(rt: &impl Print, text: &[u8]) -> bool {
+    rt.write_all(text).is_ok()
 }
 
 // `REFUSED c ROW r`.
-fn print_refusal(number: u16, row: u16) -> bool {
+fn print_refusal(rt: &impl Print, number: u16, row: u16) -> bool {
     let mut line = [0u8; REFUSAL_BYTES];
     let length = put_refusal(&mut line, number, row);
-    print(&line[0..length])
+    print(rt, &line[0..length])
 }
 
 // The verdict on a sheet, where the list got no number. Answers whether it was written.
 fn print_answer(
+    rt: &impl Print,
     neighbours: &[u16],
     degrees: &[u16],
     waves: &[u16],
@@ -38,17 +39,17 @@ fn print_answer(
     sheet: &[u8],
 ) -> bool {
     if number != 0 {
-        return print_refusal(number, row);
+        return print_refusal(rt, number, row);
     }
     let mut lines = [0u8; VERDICT_BYTES];
     let length = put_verdict(
         &mut lines, neighbours, degrees, waves, counts, ranks, tally, sheet,
     );
-    print(&lines[0..length])
+    print(rt, &lines[0..length])
 }
 
 // The answer to a list and a sheet. Answers whether it was written.
-pub fn answer(list: &[u8], sheet: &[u8]) -> bool {
+pub fn answer(rt: &impl Print, list: &[u8], sheet: &[u8]) -> bool {
     let mut neighbours = [0u16; NEIGHBOUR_CELLS];
     let mut degrees = [0u16; MOST_BANKS];
     let mut waves = [0u16; MOST_BANKS];
@@ -74,6 +75,7 @@ pub fn answer(list: &[u8], sheet: &[u8]) -> bool {
     );
     let reading = read.answer;
     print_answer(
+        rt,
         &neighbours,
         &degrees,
         &waves,

@@ -1,11 +1,11 @@
 -- The verdict's parts: what its number says, the planner's own sheet, the wave of a bank, and the lines by the number.
 use mathlib.Core.Bool.{Bool, true, false, cond, ◌&&◌, not}
-use mathlib.Core.List.{List, [], ◌∷◌, ◌++◌, append-nil}
+use mathlib.Core.List.{List, ◌++◌, append-nil}
 use mathlib.Core.Logic.{inl, inr}
 use mathlib.Core.Path.{◌≡◌, refl, sym, ap, subst, ◌∙◌}
 use native.Mathlib.Omega.{arith}
 use Prim.Native.Nat.{ℕ, ◌+◌, ◌-◌, ◌≤◌, ◌<◌}
-use lib.Dec.{eqb, leb}
+use lib.Dec.{leb}
 use lib.ListN.{length, get_or, take, drop, length-append, drop_of_length-le}
 use lib.Seq.{take_at}
 use borrow.Author.Tests.{leb-true, eq-eqb, ne_eqb}
@@ -24,8 +24,8 @@ use Rattle.sheet_writer.specs.Sheet.{sheet}
 use Rattle.sheet_writer.proofs.Theorems.{sheet_fits}
 use Rattle.sheet_parser.specs.Sheets.{wave_read, waves_count, same_bytes, is_sheet}
 use Rattle.sheet_parser.specs.inner.Numbers.{Stands}
-use Rattle.sheet_parser.specs.inner.Lines.{wave_in, SheetRead}
-use Rattle.sheet_parser.proofs.Decision.{same_yes, same_is, read_wave, accepted, refused}
+use Rattle.sheet_parser.specs.inner.Lines.{SheetRead}
+use Rattle.sheet_parser.proofs.Decision.{same_yes, same_is, read_wave, accepted}
 use Rattle.sheet_reader.specs.declared.Verdict.{Verdict}
 use Rattle.sheet_reader.specs.Calls.{any_clash, sheet_number, Answered}
 use Rattle.sheet_reader.proofs.Theorems.{named_clash}

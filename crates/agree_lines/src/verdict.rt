@@ -1,8 +1,8 @@
 // The verdict on a sheet.
+ghost use Rattle.memory.specs.Plan.{slices_of};
 ghost use Rattle.std.specs.Prelude.{true, ◌≡◌, ◌≤◌, ◌<◌, length};
-ghost use Rattle.memory.specs.Lent.{slices_given, slices_before};
 ghost use Rattle.planner.specs.Calls.{plan_number};
-ghost use Rattle.text.specs.Places.{Wrote};
+ghost use Rattle.text.specs.Places.{Puts};
 ghost use Rattle.sheet_parser.specs.Sheets.{wave_read, is_sheet};
 ghost use Rattle.agree_lines.specs.Lines.{waves_text};
 ghost use Rattle.agree_lines.specs.Verdicts.{is_own, Printed};
@@ -25,8 +25,8 @@ fn is_own(
     tally: Tally,
     sheet: &[u8],
 ) -> bool
-    requires { plan_number (slices_given neighbours degrees waves counts ranks) tally ≡ 0 }
-    ensures { result ≡ is_own (slices_before neighbours degrees waves counts ranks) tally sheet.now }
+    requires { plan_number (slices_of neighbours.now degrees.now waves.now counts.now ranks.now) tally ≡ 0 }
+    ensures { result ≡ is_own (slices_of neighbours.now degrees.now waves.now counts.now ranks.now) tally sheet.now }
 {
     let mut own = [0u8; LONGEST_SHEET];
     let written = write_sheet(neighbours, degrees, waves, counts, ranks, tally, &mut own);
@@ -53,7 +53,7 @@ fn put_waves(out: &mut [u8], sheet: &[u8], tally: Tally, a: Bank, b: Bank) -> us
     requires in_bounds { 49 ≤ length out.old }
     requires sheet_value { (is_sheet tally.banks tally.clashes sheet.now ≡ true) × (tally.banks ≤ 1024) }
     requires a_lt_banks { (a.0 ≡ b.0 → ⊥) → a.0 < tally.banks }
-    ensures { Wrote (waves_text a.0 b.0 (wave_read sheet.now a.0) tally.waves) 0 out result × (result ≤ 49) }
+    ensures { Puts (waves_text a.0 b.0 (wave_read sheet.now a.0) tally.waves) 0 out.old result out.new × (result ≤ 49) }
 {
     if a.0 == b.0 {
         return put_many(out, tally.waves);
@@ -74,7 +74,7 @@ pub fn put_verdict(
     sheet: &[u8],
 ) -> usize
     requires { 49 ≤ length out.old }
-    ensures { Printed (slices_before neighbours degrees waves counts ranks) tally sheet.now out.old result out.new
+    ensures { Printed (slices_of neighbours.now degrees.now waves.now counts.now ranks.now) tally sheet.now out.old result out.new
         × (result ≤ length out.new) }
 {
     let verdict = check_sheet(neighbours, degrees, waves, counts, ranks, tally, sheet);

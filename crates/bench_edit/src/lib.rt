@@ -1,5 +1,7 @@
 // Edits without question 5 for the benchmarks, as the list reader makes one at each row. Who calls them vouches that memory holds a plan, and the queue
 // none of its banks.
+#![tactic(auto)]
+
 ghost use Rattle.std.specs.Prelude.{◌≡◌, ◌≤◌, length};
 ghost use Rattle.rule.specs.Graph.{Graph};
 ghost use Rattle.rule.specs.declared.Kind.TheVariants.{Adding, Striking};
@@ -7,7 +9,7 @@ ghost use Rattle.memory.specs.Memory.{Ready};
 ghost use Rattle.queue.specs.Queue.{Idle};
 ghost use Rattle.planner.specs.inner.Held.{HoldsPlan};
 ghost use Rattle.c_cells.specs.CellMemory.{tally_size, tally_in, memory_in, answered};
-ghost use Rattle.c_cells.specs.Lent.{cells_given, cells_before, cells_after};
+ghost use Rattle.c_cells.specs.Lent.{cells_given};
 ghost use Rattle.bench_edit.specs.inner.HeldCall.{held_call};
 
 use c_cells::{put_answer, tally_in};
@@ -33,12 +35,12 @@ fn bench_edit(
     b: u16,
 ) -> u16
     requires tally_size_in_bounds { (tally_size ≤ length tally.old) × (2 ≤ length res.old) }
-    requires holds_plan { HoldsPlan (memory_in (cells_given neighbours degrees waves counts ranks trail moved tally res)) }
+    requires holds_plan { HoldsPlan (memory_in (cells_given neighbours.old degrees.old waves.old counts.old ranks.now trail.old moved.old tally.old res.old)) }
     requires idle { Idle (tally_in tally.old).banks ranks.now queue.old }
     ensures res_value { (G : Graph)
-        → Ready G (memory_in (cells_before neighbours degrees waves counts ranks trail moved tally res))
-        → answered result (cells_after neighbours degrees waves counts ranks trail moved tally res)
-        ≡ held_call kind G a b (cells_before neighbours degrees waves counts ranks trail moved tally res) }
+        → Ready G (memory_in (cells_given neighbours.old degrees.old waves.old counts.old ranks.now trail.old moved.old tally.old res.old))
+        → answered result (cells_given neighbours.new degrees.new waves.new counts.new ranks.now trail.new moved.new tally.new res.new)
+        ≡ held_call kind G a b (cells_given neighbours.old degrees.old waves.old counts.old ranks.now trail.old moved.old tally.old res.old) }
     ensures idle_2 { Idle (tally_in tally.old).banks ranks.now queue.new }
 {
     let t = tally_in(tally);
@@ -89,12 +91,12 @@ pub extern "C" fn bench_add(
     b: u16,
 ) -> u16
     requires tally_size_in_bounds { (tally_size ≤ length tally.old) × (2 ≤ length res.old) }
-    requires holds_plan { HoldsPlan (memory_in (cells_given neighbours degrees waves counts ranks trail moved tally res)) }
+    requires holds_plan { HoldsPlan (memory_in (cells_given neighbours.old degrees.old waves.old counts.old ranks.now trail.old moved.old tally.old res.old)) }
     requires idle { Idle (tally_in tally.old).banks ranks.now queue.old }
     ensures res_value { (G : Graph)
-        → Ready G (memory_in (cells_before neighbours degrees waves counts ranks trail moved tally res))
-        → answered result (cells_after neighbours degrees waves counts ranks trail moved tally res)
-        ≡ held_call Adding G a b (cells_before neighbours degrees waves counts ranks trail moved tally res) }
+        → Ready G (memory_in (cells_given neighbours.old degrees.old waves.old counts.old ranks.now trail.old moved.old tally.old res.old))
+        → answered result (cells_given neighbours.new degrees.new waves.new counts.new ranks.now trail.new moved.new tally.new res.new)
+        ≡ held_call Adding G a b (cells_given neighbours.old degrees.old waves.old counts.old ranks.now trail.old moved.old tally.old res.old) }
     ensures idle_2 { Idle (tally_in tally.old).banks ranks.now queue.new }
 {
     bench_edit(
@@ -131,12 +133,12 @@ pub extern "C" fn bench_strike(
     b: u16,
 ) -> u16
     requires tally_size_in_bounds { (tally_size ≤ length tally.old) × (2 ≤ length res.old) }
-    requires holds_plan { HoldsPlan (memory_in (cells_given neighbours degrees waves counts ranks trail moved tally res)) }
+    requires holds_plan { HoldsPlan (memory_in (cells_given neighbours.old degrees.old waves.old counts.old ranks.now trail.old moved.old tally.old res.old)) }
     requires idle { Idle (tally_in tally.old).banks ranks.now queue.old }
     ensures res_value { (G : Graph)
-        → Ready G (memory_in (cells_before neighbours degrees waves counts ranks trail moved tally res))
-        → answered result (cells_after neighbours degrees waves counts ranks trail moved tally res)
-        ≡ held_call Striking G a b (cells_before neighbours degrees waves counts ranks trail moved tally res) }
+        → Ready G (memory_in (cells_given neighbours.old degrees.old waves.old counts.old ranks.now trail.old moved.old tally.old res.old))
+        → answered result (cells_given neighbours.new degrees.new waves.new counts.new ranks.now trail.new moved.new tally.new res.new)
+        ≡ held_call Striking G a b (cells_given neighbours.old degrees.old waves.old counts.old ranks.now trail.old moved.old tally.old res.old) }
     ensures idle_2 { Idle (tally_in tally.old).banks ranks.now queue.new }
 {
     bench_edit(

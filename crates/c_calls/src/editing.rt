@@ -1,8 +1,8 @@
 // The edits of one clash, whose results are the moved count and the trail count; and the cap.
+ghost use Rattle.memory.specs.Plan.{slices_of};
 ghost use Rattle.std.specs.Prelude.{◌≡◌};
 ghost use Rattle.c_cells.specs.CellMemory.{answered};
-ghost use Rattle.c_cells.specs.Lent.{cells_before, cells_after};
-ghost use Rattle.memory.specs.Lent.{slices_before};
+ghost use Rattle.c_cells.specs.Lent.{cells_given};
 ghost use Rattle.c_calls.specs.Calls.{edit_call, cap_answered, cap_call};
 
 use c_cells::{put_answer, put_tally, room, tally_in};
@@ -26,8 +26,8 @@ pub fn edit_in(
     a: u16,
     b: u16,
 ) -> u16
-    ensures { answered result (cells_after neighbours degrees waves counts ranks trail moved tally res)
-        ≡ edit_call kind a b (cells_before neighbours degrees waves counts ranks trail moved tally res) }
+    ensures { answered result (cells_given neighbours.new degrees.new waves.new counts.new ranks.now trail.new moved.new tally.new res.new)
+        ≡ edit_call kind a b (cells_given neighbours.old degrees.old waves.old counts.old ranks.now trail.old moved.old tally.old res.old) }
 {
     let short = room(tally.len(), res.len(), EDIT_RESULTS);
     if short != 0 {
@@ -62,7 +62,7 @@ pub fn set_cap_in(
     cap: u16,
 ) -> u16
     ensures { cap_answered result tally.new
-        ≡ cap_call cap (slices_before neighbours degrees waves counts ranks) tally.old }
+        ≡ cap_call cap (slices_of neighbours.now degrees.now waves.now counts.now ranks.now) tally.old }
 {
     let short = room(tally.len(), 0, 0);
     if short != 0 {

@@ -1,6 +1,6 @@
 // Opening a plan.
+ghost use Rattle.memory.specs.Plan.{slices_of};
 ghost use Rattle.std.specs.Prelude.{◌≡◌};
-ghost use Rattle.memory.specs.Lent.{slices_before, slices_after};
 ghost use Rattle.c_calls.specs.Calls.{open_answered, open_call};
 
 use c_cells::{put_tally, room, tally_in};
@@ -16,8 +16,8 @@ pub fn open_in(
     tally: &mut [u16],
     banks: u16,
 ) -> u16
-    ensures { open_answered result (slices_after neighbours degrees waves counts ranks) tally.new
-        ≡ open_call banks (slices_before neighbours degrees waves counts ranks) tally.old }
+    ensures { open_answered result (slices_of neighbours.new degrees.new waves.new counts.new ranks.new) tally.new
+        ≡ open_call banks (slices_of neighbours.old degrees.old waves.old counts.old ranks.old) tally.old }
 {
     let short = room(tally.len(), 0, 0);
     if short != 0 {

@@ -1,6 +1,6 @@
 // The edits that are recorded. Their results are the moved count, the trail count and the journal's new length.
 ghost use Rattle.std.specs.Prelude.{◌≡◌};
-ghost use Rattle.c_cells.specs.Lent.{cells_before, cells_after};
+ghost use Rattle.c_cells.specs.Lent.{cells_given};
 ghost use Rattle.c_calls.specs.Calls.{record_answered, record_call};
 
 use c_cells::{put_answer, room, tally_in};
@@ -26,8 +26,10 @@ pub fn record_in(
     b: u16,
     length: usize,
 ) -> u16
-    ensures { record_answered result (cells_after neighbours degrees waves counts ranks trail moved tally res) journal.new
-        ≡ record_call kind a b (cells_before neighbours degrees waves counts ranks trail moved tally res) length journal.old }
+    ensures { record_answered result (cells_given neighbours.new degrees.new waves.new counts.new ranks.now trail.new moved.new tally.new res.new)
+        journal.new
+        ≡ record_call kind a b (cells_given neighbours.old degrees.old waves.old counts.old ranks.now trail.old moved.old tally.old res.old)
+        length journal.old }
 {
     let short = room(tally.len(), res.len(), RECORD_RESULTS);
     if short != 0 {

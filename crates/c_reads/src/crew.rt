@@ -1,6 +1,6 @@
 // Trying crew sizes.
+ghost use Rattle.memory.specs.Plan.{slices_of};
 ghost use Rattle.std.specs.Prelude.{◌≡◌};
-ghost use Rattle.memory.specs.Lent.{slices_before};
 ghost use Rattle.c_reads.specs.Reads.{read_answered};
 ghost use Rattle.c_reads.specs.Crews.{crew_answered, crew_call, least_call};
 
@@ -23,7 +23,7 @@ pub fn crew_steps_in(
     couriers: u16,
 ) -> u16
     ensures { crew_answered result steps.new res.new
-        ≡ crew_call couriers (slices_before neighbours degrees waves counts ranks) tally.now steps.old res.old }
+        ≡ crew_call couriers (slices_of neighbours.now degrees.now waves.now counts.now ranks.now) tally.now steps.old res.old }
 {
     let short = room(tally.len(), res.len(), CREW_RESULTS);
     if short != 0 {
@@ -49,7 +49,7 @@ pub fn least_crew_in(
     limit: u16,
 ) -> u16
     ensures { read_answered result res.new
-        ≡ least_call limit (slices_before neighbours degrees waves counts ranks) tally.now res.old }
+        ≡ least_call limit (slices_of neighbours.now degrees.now waves.now counts.now ranks.now) tally.now res.old }
 {
     let short = room(tally.len(), res.len(), CREW_RESULTS);
     if short != 0 {

@@ -1,6 +1,6 @@
 // Reading one bank of a plan, or how many waves it has at most.
+ghost use Rattle.memory.specs.Plan.{slices_of};
 ghost use Rattle.std.specs.Prelude.{◌≡◌, ◌<◌};
-ghost use Rattle.memory.specs.Lent.{slices_before};
 ghost use Rattle.c_reads.specs.Reads.{read_answered, wave_call, row_start, clashes_call, bound_call, direct_call};
 
 use c_cells::{room, tally_in};
@@ -28,7 +28,7 @@ pub fn wave_of_in(
     b: u16,
 ) -> u16
     ensures { read_answered result res.new
-        ≡ wave_call b (slices_before neighbours degrees waves counts ranks) tally.now res.old }
+        ≡ wave_call b (slices_of neighbours.now degrees.now waves.now counts.now ranks.now) tally.now res.old }
 {
     let short = room(tally.len(), res.len(), WAVE_RESULTS);
     if short != 0 {
@@ -64,7 +64,7 @@ pub fn clashes_of_in(
     b: u16,
 ) -> u16
     ensures { read_answered result res.new
-        ≡ clashes_call b (slices_before neighbours degrees waves counts ranks) tally.now res.old }
+        ≡ clashes_call b (slices_of neighbours.now degrees.now waves.now counts.now ranks.now) tally.now res.old }
 {
     let short = room(tally.len(), res.len(), CLASHES_RESULTS);
     if short != 0 {
@@ -89,7 +89,7 @@ pub fn wave_bound_in(
     res: &mut [u16],
 ) -> u16
     ensures { read_answered result res.new
-        ≡ bound_call (slices_before neighbours degrees waves counts ranks) tally.now res.old }
+        ≡ bound_call (slices_of neighbours.now degrees.now waves.now counts.now ranks.now) tally.now res.old }
 {
     let short = room(tally.len(), res.len(), BOUND_RESULTS);
     if short != 0 {
@@ -113,7 +113,7 @@ pub fn wave_by_rule_in(
     b: u16,
 ) -> u16
     ensures { read_answered result res.new
-        ≡ direct_call b (slices_before neighbours degrees waves counts ranks) tally.now res.old }
+        ≡ direct_call b (slices_of neighbours.now degrees.now waves.now counts.now ranks.now) tally.now res.old }
 {
     let short = room(tally.len(), res.len(), WAVE_RESULTS);
     if short != 0 {

@@ -1,5 +1,6 @@
 // Checking a sheet from anybody.
-ghost use Rattle.memory.specs.Lent.{slices_before};
+
+ghost use Rattle.memory.specs.Plan.{slices_of};
 ghost use Rattle.c_reads.specs.Sheets.{SheetChecked};
 
 use c_cells::{room, tally_in};
@@ -20,7 +21,7 @@ pub fn check_sheet_in(
     sheet: &[u8],
 ) -> u16
     ensures { SheetChecked
-        (slices_before neighbours degrees waves counts ranks)
+        (slices_of neighbours.now degrees.now waves.now counts.now ranks.now)
         tally.now
         res.old
         sheet.now

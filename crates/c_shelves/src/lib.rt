@@ -1,7 +1,9 @@
 // The calls on cells that a caller lends, for the C library: those that keep a plan on a shelf and come back to it. It decides nothing itself but that a
 // tally slice or a result slice that is too short gets 2 with nothing changed.
+#![tactic(auto)]
+
+ghost use Rattle.memory.specs.Plan.{slices_of};
 ghost use Rattle.std.specs.Prelude.{◌≡◌};
-ghost use Rattle.memory.specs.Lent.{slices_before, slices_after};
 ghost use Rattle.checkpoints.specs.Calls.{shelf_result};
 ghost use Rattle.c_shelves.specs.Shelves.{keep_call, back_answered, come_back_call};
 
@@ -23,7 +25,7 @@ pub fn keep_in(
     name: &[u8],
 ) -> u16
     ensures { shelf_result result shelf.new
-        ≡ keep_call name.now (slices_before neighbours degrees waves counts ranks) tally.now shelf.old }
+        ≡ keep_call name.now (slices_of neighbours.now degrees.now waves.now counts.now ranks.now) tally.now shelf.old }
 {
     let short = room(tally.len(), 0, 0);
     if short != 0 {
@@ -46,8 +48,8 @@ pub fn come_back_in(
     name: &[u8],
     res: &mut [u16],
 ) -> u16
-    ensures { back_answered result (slices_after neighbours degrees waves counts ranks) moved.new tally.new res.new
-        ≡ come_back_call name.now (slices_before neighbours degrees waves counts ranks) moved.old tally.old
+    ensures { back_answered result (slices_of neighbours.new degrees.new waves.new counts.new ranks.new) moved.new tally.new res.new
+        ≡ come_back_call name.now (slices_of neighbours.old degrees.old waves.old counts.old ranks.old) moved.old tally.old
         shelf.now res.old }
 {
     let short = room(tally.len(), res.len(), BACK_RESULTS);

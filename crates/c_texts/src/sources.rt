@@ -1,8 +1,8 @@
 // The calls that make a plan from bytes.
 ghost use Rattle.std.specs.Prelude.{◌≡◌, ◌≤◌};
-ghost use Rattle.memory.specs.Lent.{before, after};
+ghost use Rattle.memory.specs.Lent.{given};
 ghost use Rattle.c_cells.specs.CellMemory.{answered};
-ghost use Rattle.c_cells.specs.Lent.{cells_before, cells_after};
+ghost use Rattle.c_cells.specs.Lent.{cells_given};
 ghost use Rattle.c_texts.specs.Kinds.{source_call};
 ghost use Rattle.c_texts.specs.inner.Sources.{results_of, MadeFrom};
 
@@ -12,14 +12,14 @@ use list_reader::read_list_core;
 use memory::Tally;
 
 // What a plan is made from.
-#[derive(Drop)]
+#[derive(Clone, Copy)]
 pub enum Source {
     FromList,
     FromJournal,
 }
 
 // What making it leaves beside the slices. A list has one result, the row; a journal two, the field and the number of bytes left over.
-#[derive(Drop)]
+#[derive(Clone, Copy)]
 struct Made {
     number: u16,
     first: u16,
@@ -51,8 +51,8 @@ fn make_plan(
     tally: Tally,
 ) -> Made
     ensures { MadeFrom source bytes.now
-        (before neighbours degrees waves counts ranks trail moved tally) result
-        (after neighbours degrees waves counts ranks trail moved result.tally) }
+        (given neighbours.old degrees.old waves.old counts.old ranks.old trail.old moved.old tally) result
+        (given neighbours.new degrees.new waves.new counts.new ranks.new trail.new moved.new result.tally) }
 {
     match source {
         Source::FromList => {
@@ -96,8 +96,8 @@ pub fn make_plan_in(
     tally: &mut [u16],
     res: &mut [u16],
 ) -> u16
-    ensures { answered result (cells_after neighbours degrees waves counts ranks trail moved tally res)
-        ≡ source_call source bytes.now (cells_before neighbours degrees waves counts ranks trail moved tally res) }
+    ensures { answered result (cells_given neighbours.new degrees.new waves.new counts.new ranks.new trail.new moved.new tally.new res.new)
+        ≡ source_call source bytes.now (cells_given neighbours.old degrees.old waves.old counts.old ranks.old trail.old moved.old tally.old res.old) }
 {
     let count = results_of(source);
     let short = room(tally.len(), res.len(), count);

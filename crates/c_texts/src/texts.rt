@@ -1,6 +1,6 @@
 // The calls that write bytes of the plan to the front of a slice. The result is how many they are.
+ghost use Rattle.memory.specs.Plan.{slices_of};
 ghost use Rattle.std.specs.Prelude.{◌≡◌};
-ghost use Rattle.memory.specs.Lent.{slices_before};
 ghost use Rattle.c_texts.specs.Texts.{text_outcome, text_answered, text_call};
 ghost use Rattle.c_texts.specs.Kinds.{writing};
 
@@ -13,7 +13,7 @@ use sheet_writer::write_sheet;
 const TEXT_RESULTS: usize = 1;
 
 // What is written.
-#[derive(Drop)]
+#[derive(Clone, Copy)]
 pub enum Text {
     Sheet,
     Poster,
@@ -21,7 +21,7 @@ pub enum Text {
 }
 
 // What writing it leaves beside the slice.
-#[derive(Drop)]
+#[derive(Clone, Copy)]
 struct Wrote {
     number: u16,
     length: u16,
@@ -39,7 +39,7 @@ fn write_text(
     out: &mut [u8],
 ) -> Wrote
     ensures { text_outcome result.number result.length out.new
-        ≡ writing text (slices_before neighbours degrees waves counts ranks) tally out.old }
+        ≡ writing text (slices_of neighbours.now degrees.now waves.now counts.now ranks.now) tally out.old }
 {
     match text {
         Text::Sheet => {
@@ -79,7 +79,7 @@ pub fn write_in(
     res: &mut [u16],
 ) -> u16
     ensures { text_answered result out.new res.new
-        ≡ text_call (writing text) (slices_before neighbours degrees waves counts ranks) tally.now out.old res.old }
+        ≡ text_call (writing text) (slices_of neighbours.now degrees.now waves.now counts.now ranks.now) tally.now out.old res.old }
 {
     let short = room(tally.len(), res.len(), TEXT_RESULTS);
     if short != 0 {

@@ -1,22 +1,18 @@
 -- An edit that is made, or made and unmade, where its trail and moved list are memory of its own.
-use mathlib.Core.Bool.{Bool}
 use mathlib.Core.List.{List}
 use mathlib.Core.Logic.{◌≢◌}
-use mathlib.Core.Path.{◌≡◌, refl, sym, ap, ap₂, ◌∙◌}
+use mathlib.Core.Path.{◌≡◌, refl, sym, ap, ◌∙◌}
 use native.Mathlib.Omega.{arith}
 use Prim.Native.Nat.{ℕ, zero, suc, ◌≤◌}
-use lib.ListN.{length, take, drop, replicate, length-replicate}
-use lib.Seq.{take_at}
-use Rattle.rule.specs.Lists.{upto, filter}
-use Rattle.rule.specs.Graph.{Graph, order}
+use lib.ListN.{length, take, replicate, length-replicate}
+use Rattle.rule.specs.Graph.{Graph}
 use Rattle.rule.specs.Wave.{wave_count}
 use Rattle.rule.specs.Reach.{edited, inverse, changed, on_trail, trail, moved}
 use Rattle.rule.specs.declared.Kind.{Kind}
 use Rattle.rule.proofs.Reaches.{ordered_few}
 use Rattle.rule.proofs.Fixed.{edited_banks}
-use Rattle.memory.specs.declared.Tally.{Tally}
 use Rattle.memory.specs.Cells.{over}
-use Rattle.memory.specs.Plan.{Slices, plan_in, tally_of}
+use Rattle.memory.specs.Plan.{tally_of}
 use Rattle.memory.specs.Memory.{Memory, memory_of, Ready}
 use Rattle.memory.proofs.Agree.{front}
 use Rattle.planner.specs.declared.Answer.{Answer}

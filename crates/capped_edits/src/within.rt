@@ -4,7 +4,7 @@ ghost use Rattle.std.specs.Prelude.{true, ◌≡◌, ◌≤◌, length};
 ghost use Rattle.rule.specs.Graph.{Graph};
 ghost use Rattle.rule.specs.Reach.{inverse};
 ghost use Rattle.memory.specs.Memory.{Ready};
-ghost use Rattle.memory.specs.Lent.{given, before, after};
+ghost use Rattle.memory.specs.Lent.{given};
 ghost use Rattle.planner.specs.Calls.{edit_result};
 ghost use Rattle.planner.specs.inner.Held.{HoldsPlan, EditMade};
 ghost use Rattle.capped_edits.specs.inner.Within.{late_number, within_of, Tried, Kept};
@@ -38,12 +38,12 @@ fn take_back(
     a: Bank,
     b: Bank,
 ) -> Edited
-    requires { HoldsPlan (given neighbours degrees waves counts ranks trail moved tally) }
+    requires { HoldsPlan (given neighbours.old degrees.old waves.old counts.old ranks.now trail.old moved.old tally) }
     ensures { (G : Graph)
-        → Ready G (before neighbours degrees waves counts ranks trail moved tally)
+        → Ready G (given neighbours.old degrees.old waves.old counts.old ranks.now trail.old moved.old tally)
         → EditMade (inverse kind) G a.0 b.0
-        (before neighbours degrees waves counts ranks trail moved tally) result
-        (after neighbours degrees waves counts ranks trail moved result.tally) }
+        (given neighbours.old degrees.old waves.old counts.old ranks.now trail.old moved.old tally) result
+        (given neighbours.new degrees.new waves.new counts.new ranks.now trail.new moved.new result.tally) }
 {
     edit_alone(
         opposite(kind),
@@ -98,12 +98,12 @@ fn try_edit(
     b: Bank,
     last: u16,
 ) -> Edited
-    requires { HoldsPlan (given neighbours degrees waves counts ranks trail moved tally) }
+    requires { HoldsPlan (given neighbours.old degrees.old waves.old counts.old ranks.now trail.old moved.old tally) }
     ensures { (G : Graph)
-        → Ready G (before neighbours degrees waves counts ranks trail moved tally)
+        → Ready G (given neighbours.old degrees.old waves.old counts.old ranks.now trail.old moved.old tally)
         → Tried kind G a.0 b.0 last
-        (before neighbours degrees waves counts ranks trail moved tally) result
-        (after neighbours degrees waves counts ranks trail moved result.tally) }
+        (given neighbours.old degrees.old waves.old counts.old ranks.now trail.old moved.old tally) result
+        (given neighbours.new degrees.new waves.new counts.new ranks.now trail.new moved.new result.tally) }
 {
     let made = edit_alone(
         kind, neighbours, degrees, waves, counts, ranks, trail, moved, tally, a, b,
@@ -149,11 +149,11 @@ fn edit_apart(
     b: Bank,
     last: u16,
 ) -> Edited
-    requires { HoldsPlan (given neighbours degrees waves counts ranks trail moved tally) }
+    requires { HoldsPlan (given neighbours.old degrees.old waves.old counts.old ranks.now trail.old moved.old tally) }
     ensures { (G : Graph)
-        → Ready G (before neighbours degrees waves counts ranks trail moved tally)
-        → edit_result result.answer (after neighbours degrees waves counts ranks trail moved result.tally)
-        ≡ within_of kind G a.0 b.0 last (before neighbours degrees waves counts ranks trail moved tally) }
+        → Ready G (given neighbours.old degrees.old waves.old counts.old ranks.now trail.old moved.old tally)
+        → edit_result result.answer (given neighbours.new degrees.new waves.new counts.new ranks.now trail.new moved.new result.tally)
+        ≡ within_of kind G a.0 b.0 last (given neighbours.old degrees.old waves.old counts.old ranks.now trail.old moved.old tally) }
 {
     let mut own_trail = [0u16; MOST_BANKS];
     let mut own_moved = [0u16; MOST_BANKS];
@@ -201,11 +201,11 @@ pub fn edit_within(
     b: Bank,
     last: u16,
 ) -> Edited
-    requires { HoldsPlan (given neighbours degrees waves counts ranks trail moved tally) }
+    requires { HoldsPlan (given neighbours.old degrees.old waves.old counts.old ranks.now trail.old moved.old tally) }
     ensures { (G : Graph)
-        → Ready G (before neighbours degrees waves counts ranks trail moved tally)
-        → edit_result result.answer (after neighbours degrees waves counts ranks trail moved result.tally)
-        ≡ within_of kind G a.0 b.0 last (before neighbours degrees waves counts ranks trail moved tally) }
+        → Ready G (given neighbours.old degrees.old waves.old counts.old ranks.now trail.old moved.old tally)
+        → edit_result result.answer (given neighbours.new degrees.new waves.new counts.new ranks.now trail.new moved.new result.tally)
+        ≡ within_of kind G a.0 b.0 last (given neighbours.old degrees.old waves.old counts.old ranks.now trail.old moved.old tally) }
 {
     if unlimited(tally.cap, last) {
         return edit_alone(

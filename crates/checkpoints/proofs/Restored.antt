@@ -1,18 +1,17 @@
 -- What an accepted coming back leaves.
 use mathlib.Core.Bool.{Bool, true, ◌&&◌, not}
 use mathlib.Core.List.{List}
-use mathlib.Core.Logic.{◌↔◌}
 use mathlib.Core.Path.{◌≡◌, refl, sym, ap, ◌∙◌, subst}
-use Prim.Native.Nat.{ℕ, zero, suc, ◌+◌, ◌*◌, ◌≤◌, ◌<◌}
+use Prim.Native.Nat.{ℕ, zero, suc, ◌*◌, ◌≤◌, ◌<◌}
 use native.Mathlib.Omega.{arith}
 use borrow.Author.Tests.{leb-true}
-use lib.Dec.{T, leb, ltb, eqb, eqb→eq, ltb→lt, T_not, not_T, lt→ltb}
+use lib.Dec.{T, leb, ltb, eqb, eqb→eq, ltb→lt, lt→ltb}
 use lib.ListN.{length, get_or, take, drop, length-take}
 use lib.Seq.{take_all}
 use Rattle.rule.specs.Lists.{upto, memb, filter, Sorted}
 use Rattle.rule.specs.Graph.{Graph}
 use Rattle.rule.specs.Wave.{wave}
-use Rattle.rule.proofs.Booleans.{both_true, t_along, eq→eqb, and_l, and_r, both, test_ext}
+use Rattle.rule.proofs.Booleans.{both_true, t_along, and_l, and_r, both, test_ext}
 use Rattle.rule.proofs.Lists.{in_filter, filter_in, in_upto, filter_cong, upto_below}
 use Rattle.rule.proofs.Sorting.{sorted_filter, sorted_upto}
 use Rattle.memory.specs.declared.Tally.{Tally}

@@ -1,10 +1,10 @@
 -- What the calls on the shelf answer and leave, of what they are lent (02, N5; N9: the cap).
-use Rattle.std.specs.Prelude.{Bool, ◌&&◌, not, List, [], ◌∷◌, ℕ, zero, suc, ◌+◌, ◌*◌, eqb, leb, length, get_or}
+use Rattle.std.specs.Prelude.{Bool, ◌&&◌, not, List, [], ◌∷◌, ℕ, zero, suc, ◌*◌, eqb, leb, length, get_or}
 use Rattle.rule.specs.Lists.{upto, filter}
 use Rattle.memory.specs.declared.Tally.{Tally}
 use Rattle.memory.specs.Cells.{over}
 use Rattle.memory.specs.Plan.{Slices, long_enough, holds}
-use Rattle.planner.specs.Questions.{Question, ◌else◌, first_no}
+use Rattle.planner.specs.Questions.{◌else◌, first_no}
 use Rattle.text.specs.Places.{put}
 use Rattle.shelf.specs.Names.{place_of, known}
 use Rattle.shelf.specs.Shelf.{place_size, shelf_size, place, used, slices_in, tally_in, shelf_right, place_cells}

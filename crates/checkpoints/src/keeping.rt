@@ -1,7 +1,6 @@
 // The calls that change the shelf: opening it, and keeping the plan under a name.
 ghost use Rattle.std.specs.Prelude.{true, ◌≡◌, ◌+◌, ◌≤◌, length};
-ghost use Rattle.memory.specs.Plan.{long_enough};
-ghost use Rattle.memory.specs.Lent.{slices_given, slices_before};
+ghost use Rattle.memory.specs.Plan.{long_enough, slices_of};
 ghost use Rattle.text.specs.Places.{put};
 ghost use Rattle.shelf.specs.Shelf.{place_size, place_cells};
 ghost use Rattle.checkpoints.specs.Calls.{open_shelf_number, keep_number, shelf_result, open_shelf, keep as kept};
@@ -52,9 +51,9 @@ pub fn check_keep(
     shelf: &[u16],
     name: &[u8],
 ) -> u16
-    ensures number { result ≡ keep_number (slices_before neighbours degrees waves counts ranks) tally name.now shelf.now }
+    ensures number { result ≡ keep_number (slices_of neighbours.now degrees.now waves.now counts.now ranks.now) tally name.now shelf.now }
     ensures ready { result ≡ 0
-        → KeepReady (slices_before neighbours degrees waves counts ranks) tally name.now shelf.now }
+        → KeepReady (slices_of neighbours.now degrees.now waves.now counts.now ranks.now) tally name.now shelf.now }
 {
     let number = check_shelf(shelf, tally.banks);
     if number != 0 {
@@ -85,8 +84,8 @@ fn put_plan(
     tally: Tally,
 )
     requires banks_in_bounds { at + place_size tally.banks ≤ length shelf.old }
-    requires ranks_value { long_enough tally.banks (slices_given neighbours degrees waves counts ranks) ≡ true }
-    ensures { shelf.new ≡ put (place_cells (slices_before neighbours degrees waves counts ranks) tally) at shelf.old }
+    requires ranks_value { long_enough tally.banks (slices_of neighbours.now degrees.now waves.now counts.now ranks.now) ≡ true }
+    ensures { shelf.new ≡ put (place_cells (slices_of neighbours.now degrees.now waves.now counts.now ranks.now) tally) at shelf.old }
 {
     let n = wide(tally.banks);
     let row = put_cells(shelf, at, &[1], 1);
@@ -116,7 +115,7 @@ pub fn keep(
     name: &[u8],
 ) -> u16
     ensures { shelf_result result shelf.new
-        ≡ kept name.now (slices_before neighbours degrees waves counts ranks) tally shelf.old }
+        ≡ kept name.now (slices_of neighbours.now degrees.now waves.now counts.now ranks.now) tally shelf.old }
 {
     let number = check_keep(
         neighbours, degrees, waves, counts, ranks, tally, shelf, name,

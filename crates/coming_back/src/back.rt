@@ -1,7 +1,6 @@
 // Coming back to a kept plan.
 ghost use Rattle.std.specs.Prelude.{true, List, ◌≡◌, ℕ, ◌+◌, ◌≤◌, ◌<◌, length};
-ghost use Rattle.memory.specs.Plan.{long_enough};
-ghost use Rattle.memory.specs.Lent.{slices_given, slices_before, slices_after};
+ghost use Rattle.memory.specs.Plan.{long_enough, slices_of};
 ghost use Rattle.shelf.specs.Shelf.{place_size, slices_in};
 ghost use Rattle.checkpoints.specs.Calls.{back_number, back_result, over_all, came_back, come_back};
 ghost use Rattle.checkpoints.specs.inner.Steps.{Listed, KeepReady};
@@ -24,9 +23,9 @@ fn check_back(
     name: &[u8],
 ) -> u16
     ensures number { result
-        ≡ back_number (slices_before neighbours degrees waves counts ranks) tally moved.now name.now shelf.now }
+        ≡ back_number (slices_of neighbours.now degrees.now waves.now counts.now ranks.now) tally moved.now name.now shelf.now }
     ensures ready { result ≡ 0
-        → KeepReady (slices_before neighbours degrees waves counts ranks) tally name.now shelf.now
+        → KeepReady (slices_of neighbours.now degrees.now waves.now counts.now ranks.now) tally name.now shelf.now
         × (tally.banks ≤ length moved.now) }
 {
     let n = wide(tally.banks);
@@ -92,9 +91,9 @@ fn bring_back(
 )
     requires place_len { length place.now ≡ place_size n }
     requires n_bound { n ≤ 1024 }
-    requires ranks_value { long_enough n (slices_given neighbours degrees waves counts ranks) ≡ true }
-    ensures { slices_after neighbours degrees waves counts ranks
-        ≡ over_all (slices_in n place.now) (slices_before neighbours degrees waves counts ranks) }
+    requires ranks_value { long_enough n (slices_of neighbours.old degrees.old waves.old counts.old ranks.old) ≡ true }
+    ensures { slices_of neighbours.new degrees.new waves.new counts.new ranks.new
+        ≡ over_all (slices_in n place.now) (slices_of neighbours.old degrees.old waves.old counts.old ranks.old) }
 {
     let degree = 1 + n * ROW_CELLS;
     let wave = degree + n;
@@ -120,9 +119,9 @@ fn return_to(
     place: &[u16],
 ) -> CameBack
     requires banks_bound { (tally.banks ≤ 1024) × (length place.now ≡ place_size tally.banks) × (tally.banks ≤ length moved.old) }
-    requires ranks_value { long_enough tally.banks (slices_given neighbours degrees waves counts ranks) ≡ true }
-    ensures { back_result result.answer.number result.answer.moved (slices_after neighbours degrees waves counts ranks) result.tally moved.new
-        ≡ came_back tally.banks place.now (slices_before neighbours degrees waves counts ranks) moved.old }
+    requires ranks_value { long_enough tally.banks (slices_of neighbours.old degrees.old waves.old counts.old ranks.old) ≡ true }
+    ensures { back_result result.answer.number result.answer.moved (slices_of neighbours.new degrees.new waves.new counts.new ranks.new) result.tally moved.new
+        ≡ came_back tally.banks place.now (slices_of neighbours.old degrees.old waves.old counts.old ranks.old) moved.old }
 {
     let n = wide(tally.banks);
     let wave = 1 + n * (ROW_CELLS + 1);
@@ -151,8 +150,8 @@ pub fn come_back_core(
     shelf: &[u16],
     name: &[u8],
 ) -> CameBack
-    ensures { back_result result.answer.number result.answer.moved (slices_after neighbours degrees waves counts ranks) result.tally moved.new
-        ≡ come_back name.now (slices_before neighbours degrees waves counts ranks) tally moved.old shelf.now }
+    ensures { back_result result.answer.number result.answer.moved (slices_of neighbours.new degrees.new waves.new counts.new ranks.new) result.tally moved.new
+        ≡ come_back name.now (slices_of neighbours.old degrees.old waves.old counts.old ranks.old) tally moved.old shelf.now }
 {
     let number = check_back(
         neighbours, degrees, waves, counts, ranks, moved, tally, shelf, name,

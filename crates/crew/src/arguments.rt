@@ -1,9 +1,11 @@
 // What the program is asked, from its arguments.
 use crew_lines::Question;
+use list_program::{arg, arg_count};
+use std::rt::Env;
 use text::{Number, read_number};
 
 // What the arguments are.
-#[derive(Drop)]
+#[derive(Clone, Copy)]
 pub enum Arguments {
     Ask(Question),
     Wrong,
@@ -13,9 +15,9 @@ pub enum Arguments {
 const ARGUMENT_BYTES: usize = 8;
 
 // Argument i as a number.
-fn number_at(i: usize) -> Number {
+fn number_at(rt: &impl Env, i: usize) -> Number {
     let mut bytes = [0u8; ARGUMENT_BYTES];
-    let length = os::arg(i, &mut bytes);
+    let length = arg(rt, i, &mut bytes);
     read_number(&bytes[..length])
 }
 
@@ -35,39 +37,39 @@ fn same_bytes(a: &[u8], b: &[u8]) -> bool {
 }
 
 // Whether argument i is `within`.
-fn is_within(i: usize) -> bool {
+fn is_within(rt: &impl Env, i: usize) -> bool {
     let mut bytes = [0u8; ARGUMENT_BYTES];
-    let length = os::arg(i, &mut bytes);
+    let length = arg(rt, i, &mut bytes);
     same_bytes(&bytes[..length], b"within")
 }
 
 // `Q`.
-fn couriers() -> Arguments {
-    let Number::Value(q) = number_at(1) else {
+fn couriers(rt: &impl Env) -> Arguments {
+    let Number::Value(q) = number_at(rt, 1) else {
         return Arguments::Wrong;
     };
     Arguments::Ask(Question::Couriers(q))
 }
 
 // `within L`.
-fn within() -> Arguments {
-    if !is_within(1) {
+fn within(rt: &impl Env) -> Arguments {
+    if !is_within(rt, 1) {
         return Arguments::Wrong;
     }
-    let Number::Value(limit) = number_at(2) else {
+    let Number::Value(limit) = number_at(rt, 2) else {
         return Arguments::Wrong;
     };
     Arguments::Ask(Question::Within(limit))
 }
 
 // What the program is asked.
-pub fn read_arguments() -> Arguments {
-    let count = os::arg_count();
+pub fn read_arguments(rt: &impl Env) -> Arguments {
+    let count = arg_count(rt);
     if count == 2 {
-        return couriers();
+        return couriers(rt);
     }
     if count == 3 {
-        return within();
+        return within(rt);
     }
     Arguments::Wrong
 }

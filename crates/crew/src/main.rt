@@ -1,5 +1,7 @@
 // Reads a list from standard input, and as arguments how many couriers there are, or within how many steps they are to end. Writes a line for
 // each step of the day: its number, the letter of its wave, and the banks that it serves.
+#![tactic(auto)]
+
 mod arguments;
 
 use crate::arguments::{Arguments, read_arguments};
@@ -7,37 +9,38 @@ use crew_lines::{ANSWER_BYTES, Question, put_answer};
 use list_program::{LIST_BYTES, read_input};
 
 // Tells on standard error what went wrong.
-fn tell(line: &[u8]) {
-    io::write_all(libc::STDERR_FILENO, line);
+fn tell(rt: &impl Eprint, line: &str) {
+    let _ = rt.eprint(line);
 }
 
 // Writes the answer to a list to standard output. Answers whether it was written.
-fn print_answer(question: Question, list: &[u8]) -> bool {
+fn print_answer(rt: &impl Print, question: Question, list: &[u8]) -> bool {
     let mut out = [0u8; ANSWER_BYTES];
     let length = put_answer(&mut out, question, list);
-    io::write_all(libc::STDOUT_FILENO, &out[0..length])
+    rt.write_all(&out[0..length]).is_ok()
 }
 
 // Reads the list and answers it.
-fn run(question: Question) {
+fn run(rt: &(impl Input + Print + Eprint), question: Question) {
     let mut list = [0u8; LIST_BYTES];
-    let input = read_input(&mut list);
+    let input = read_input(rt, &mut list);
     if input.failed {
-        tell(b"standard input cannot be read\n");
+        tell(rt, "standard input cannot be read\n");
         return;
     }
     let bytes = input.length;
-    if !print_answer(question, &list[0..bytes]) {
-        tell(b"standard output cannot be written\n");
+    if !print_answer(rt, question, &list[0..bytes]) {
+        tell(rt, "standard output cannot be written\n");
     }
 }
 
-fn main() {
-    let Arguments::Ask(question) = read_arguments() else {
+fn main(rt: HostRuntime) {
+    let Arguments::Ask(question) = read_arguments(&rt) else {
         tell(
-            b"usage: crew Q <LIST or crew within L <LIST, Q and L numbers of at most four digits\n",
+            &rt,
+            "usage: crew Q <LIST or crew within L <LIST, Q and L numbers of at most four digits\n",
         );
         return;
     };
-    run(question);
+    run(&rt, question);
 }

@@ -1,6 +1,6 @@
 // The answer to a list: what the program prints of its plan, or its refusal.
 ghost use Rattle.std.specs.Prelude.{◌≤◌, length};
-ghost use Rattle.text.specs.Places.{Wrote};
+ghost use Rattle.text.specs.Places.{Puts};
 ghost use Rattle.crew_lines.specs.Answers.{answer_text};
 
 use crate::plan::{Question, put_plan};
@@ -17,7 +17,7 @@ const WAVE_COUNT_CELLS: usize = COUNT_CELLS * MOST_BANKS;
 // Writes the answer to a list to the front of out, and answers its length.
 pub fn put_answer(out: &mut [u8], question: Question, list: &[u8]) -> usize
     requires { 12299 ≤ length out.old }
-    ensures { Wrote (answer_text question list.now) 0 out result × (result ≤ length out.new) }
+    ensures { Puts (answer_text question list.now) 0 out.old result out.new × (result ≤ length out.new) }
 {
     let mut neighbours = [0u16; NEIGHBOUR_CELLS];
     let mut degrees = [0u16; MOST_BANKS];

@@ -1,6 +1,6 @@
 // The lines of a day. Each function writes at `at` and answers the place after what it wrote.
 ghost use Rattle.std.specs.Prelude.{◌≡◌, ℕ, ◌+◌, ◌≤◌, ◌<◌, length, get_or};
-ghost use Rattle.text.specs.Places.{Room, Wrote};
+ghost use Rattle.text.specs.Places.{Room, Puts};
 ghost use Rattle.sheet_writer.specs.inner.Cells.{member_text, members_text};
 ghost use Rattle.crew_lines.specs.Lines.{head_text};
 ghost use Rattle.crew_lines.specs.inner.Cells.{lowest_in, step_in, steps_in};
@@ -11,8 +11,8 @@ use wave_lines::letter;
 
 // Bank b, if its step is k.
 fn put_member(out: &mut [u8], at: usize, step: u16, k: u16, b: Bank) -> usize
-    requires { Room (member_text step k b.0) at out }
-    ensures { Wrote (member_text step k b.0) at out result }
+    requires { Room (member_text step k b.0) at out.old }
+    ensures { Puts (member_text step k b.0) at out.old result out.new }
 {
     if step != k {
         return at;
@@ -23,8 +23,8 @@ fn put_member(out: &mut [u8], at: usize, step: u16, k: u16, b: Bank) -> usize
 
 // The banks of step k, ascending, of n banks in all.
 fn put_members(out: &mut [u8], at: usize, steps: &[u16], n: u16, k: u16) -> usize
-    requires { (n ≤ length steps.now) × Room (members_text steps.now k n) at out }
-    ensures { Wrote (members_text steps.now k n) at out result }
+    requires { (n ≤ length steps.now) × Room (members_text steps.now k n) at out.old }
+    ensures { Puts (members_text steps.now k n) at out.old result out.new }
 {
     let mut next = at;
     let mut b: u16 = 0;
@@ -54,8 +54,8 @@ fn lowest(steps: &[u16], n: u16, k: u16) -> u16
 
 // The number of step k, and the letter of its wave.
 fn put_head(out: &mut [u8], at: usize, k: u16, w: Wave) -> usize
-    requires { (w.0 < 24) × Room (head_text k w.0) at out }
-    ensures { Wrote (head_text k w.0) at out result }
+    requires { (w.0 < 24) × Room (head_text k w.0) at out.old }
+    ensures { Puts (head_text k w.0) at out.old result out.new }
 {
     let space = put_number(out, at, k);
     let next = put_byte(out, space, b' ');
@@ -64,9 +64,9 @@ fn put_head(out: &mut [u8], at: usize, k: u16, w: Wave) -> usize
 
 // The line of step k, of n banks in all.
 fn put_step(out: &mut [u8], at: usize, waves: &[u16], steps: &[u16], n: u16, k: u16) -> usize
-    requires { (0 < n) × (n ≤ length waves.now) × (n ≤ length steps.now) × Room (step_in waves.now steps.now n k) at out
+    requires { (0 < n) × (n ≤ length waves.now) × (n ≤ length steps.now) × Room (step_in waves.now steps.now n k) at out.old
         × ((b : ℕ) → b < n → get_or waves.now b 0 < 24) }
-    ensures { Wrote (step_in waves.now steps.now n k) at out result }
+    ensures { Puts (step_in waves.now steps.now n k) at out.old result out.new }
 {
     let b = lowest(steps, n, k) as usize;
     let banks = put_head(out, at, k, Wave(waves[b]));
@@ -83,9 +83,9 @@ pub fn put_steps(
     n: u16,
     total: u16,
 ) -> usize
-    requires { (total ≤ n) × (n ≤ length waves.now) × (n ≤ length steps.now) × Room (steps_in waves.now steps.now n total) at out
+    requires { (total ≤ n) × (n ≤ length waves.now) × (n ≤ length steps.now) × Room (steps_in waves.now steps.now n total) at out.old
         × ((b : ℕ) → b < n → get_or waves.now b 0 < 24) }
-    ensures { Wrote (steps_in waves.now steps.now n total) at out result }
+    ensures { Puts (steps_in waves.now steps.now n total) at out.old result out.new }
 {
     let mut next = at;
     let mut k: u16 = 0;

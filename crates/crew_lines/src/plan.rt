@@ -1,7 +1,7 @@
 // What the program prints of a plan. Each function writes at `at`, or at the front, and answers the place after what it wrote.
+ghost use Rattle.memory.specs.Plan.{slices_of};
 ghost use Rattle.std.specs.Prelude.{◌+◌, ◌≤◌, length};
-ghost use Rattle.memory.specs.Lent.{slices_before};
-ghost use Rattle.text.specs.Places.{Wrote};
+ghost use Rattle.text.specs.Places.{Puts};
 ghost use Rattle.crew_lines.specs.Plans.{crew_text, couriers_text, within_text, plan_text};
 
 use crate::line::put_steps;
@@ -12,7 +12,7 @@ use rule::MOST_BANKS;
 use text::put_byte;
 
 // What the program is asked: the day of so many couriers, or that of the fewest who end within so many steps.
-#[derive(Drop)]
+#[derive(Clone, Copy)]
 pub enum Question {
     Couriers(u16),
     Within(u16),
@@ -31,7 +31,7 @@ fn put_day(
     couriers: u16,
 ) -> usize
     requires { at + 12288 ≤ length out.old }
-    ensures { Wrote (couriers_text couriers (slices_before neighbours degrees waves counts ranks) tally) at out result
+    ensures { Puts (couriers_text couriers (slices_of neighbours.now degrees.now waves.now counts.now ranks.now) tally) at out.old result out.new
         × (result ≤ length out.new) }
 {
     let mut steps = [0u16; MOST_BANKS];
@@ -47,7 +47,7 @@ fn put_day(
 // `CREW q`, at the front.
 fn put_crew(out: &mut [u8], couriers: u16) -> usize
     requires { 11 ≤ length out.old }
-    ensures { Wrote (crew_text couriers) 0 out result × (result ≤ 11) }
+    ensures { Puts (crew_text couriers) 0 out.old result out.new × (result ≤ 11) }
 {
     let end = put_named(out, 0, b"CREW ", couriers);
     put_byte(out, end, b'\n')
@@ -65,7 +65,7 @@ fn put_within(
     limit: u16,
 ) -> usize
     requires { 12299 ≤ length out.old }
-    ensures { Wrote (within_text limit (slices_before neighbours degrees waves counts ranks) tally) 0 out result
+    ensures { Puts (within_text limit (slices_of neighbours.now degrees.now waves.now counts.now ranks.now) tally) 0 out.old result out.new
         × (result ≤ length out.new) }
 {
     let least = least_crew(neighbours, degrees, waves, counts, ranks, tally, limit);
@@ -98,7 +98,7 @@ pub fn put_plan(
     tally: Tally,
 ) -> usize
     requires { 12299 ≤ length out.old }
-    ensures { Wrote (plan_text question (slices_before neighbours degrees waves counts ranks) tally) 0 out result
+    ensures { Puts (plan_text question (slices_of neighbours.now degrees.now waves.now counts.now ranks.now) tally) 0 out.old result out.new
         × (result ≤ length out.new) }
 {
     match question {

@@ -76,5 +76,6 @@ cases =
 
 pub examples_hold : T (all_right cases (empty 0))
 unfolding same same_steps clashes_of right all_right cases upto filter some memb tie_by earlier_by neighbours degree earlier
-    earlier_neighbours pair lowest_from lowest_free wave_in wave wave_count cells banks_by steps_in steps_of day_to day step_of in_time first_from least_crew step_cells
+    earlier_neighbours pair lowest_from lowest_free wave_in wave wave_count cells banks_by
+    steps_in steps_of day_to day step_of in_time first_from least_crew step_cells
 examples_hold = tt

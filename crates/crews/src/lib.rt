@@ -1,9 +1,11 @@
 // Crews: the step in which each bank is served with so many couriers, and how few couriers end in time.
+#![tactic(auto)]
+
 mod choosing;
 mod serving;
 
+ghost use Rattle.memory.specs.Plan.{slices_of};
 ghost use Rattle.std.specs.Prelude.{◌≡◌};
-ghost use Rattle.memory.specs.Lent.{slices_before};
 ghost use Rattle.crews.specs.Calls.{crew_fits, crew_number, crew_result, crew_steps, least_of};
 ghost use Rattle.crews.specs.inner.Serving.{CrewIn};
 
@@ -15,14 +17,14 @@ use rule::{MOST_BANKS, wide};
 use serving::serve_day;
 
 // The answer of crew_steps: its number, and how many steps there are.
-#[derive(Drop)]
+#[derive(Clone, Copy)]
 pub struct Crewed {
     pub number: u16,
     pub total: u16,
 }
 
 // The answer of least_crew.
-#[derive(Drop)]
+#[derive(Clone, Copy)]
 pub struct LeastCrew {
     pub number: u16,
     pub couriers: u16,
@@ -55,8 +57,8 @@ fn check_crew(
     couriers: u16,
     steps: &[u16],
 ) -> u16
-    ensures number { result ≡ crew_number couriers (slices_before neighbours degrees waves counts ranks) tally steps.now }
-    ensures crew { result ≡ 0 → CrewIn couriers (slices_before neighbours degrees waves counts ranks) tally steps.now }
+    ensures number { result ≡ crew_number couriers (slices_of neighbours.now degrees.now waves.now counts.now ranks.now) tally steps.now }
+    ensures crew { result ≡ 0 → CrewIn couriers (slices_of neighbours.now degrees.now waves.now counts.now ranks.now) tally steps.now }
 {
     let n = wide(tally.banks);
     if MOST_BANKS < n {
@@ -89,7 +91,7 @@ pub fn crew_steps(
     steps: &mut [u16],
 ) -> Crewed
     ensures { crew_result result steps.new
-        ≡ crew_steps couriers (slices_before neighbours degrees waves counts ranks) tally steps.old }
+        ≡ crew_steps couriers (slices_of neighbours.now degrees.now waves.now counts.now ranks.now) tally steps.old }
 {
     let number = check_crew(
         neighbours, degrees, waves, counts, ranks, tally, couriers, steps,
@@ -116,7 +118,7 @@ pub fn least_crew(
     tally: Tally,
     limit: u16,
 ) -> LeastCrew
-    ensures { result ≡ least_of limit (slices_before neighbours degrees waves counts ranks) tally }
+    ensures { result ≡ least_of limit (slices_of neighbours.now degrees.now waves.now counts.now ranks.now) tally }
 {
     let number = check_plan(neighbours, degrees, waves, counts, ranks, tally);
     if number != 0 {

@@ -8,7 +8,7 @@ use cell_counts::count_cells;
 use rule::{COUNT_CELLS, wide};
 
 // How many steps come before each wave, and how many there are.
-#[derive(Drop)]
+#[derive(Clone, Copy)]
 pub struct Starts {
     pub cells: [u16; COUNT_CELLS],
     pub total: u16,

@@ -1,7 +1,9 @@
 // The wave of one bank of a small plan, read straight off the rule: the search is lent neither the kept waves nor Counts.
+#![tactic(auto)]
+
+ghost use Rattle.memory.specs.Plan.{slices_of};
 ghost use Rattle.std.specs.Prelude.{◌≡◌, ℕ, ◌<◌, get_or};
 ghost use Rattle.rule.specs.Wave.{wave};
-ghost use Rattle.memory.specs.Lent.{slices_before};
 ghost use Rattle.memory.specs.inner.Test.{Lowest};
 ghost use Rattle.planner.specs.inner.Held.{PlanIn};
 ghost use Rattle.direct_rule.specs.Calls.{direct_number, rule_wave_of};
@@ -70,8 +72,8 @@ fn check_small(
     tally: Tally,
     b: Bank,
 ) -> u16
-    ensures number { result ≡ direct_number b.0 (slices_before neighbours degrees waves counts ranks) tally }
-    ensures plan { result ≡ 0 → PlanIn (slices_before neighbours degrees waves counts ranks) tally × (b.0 < tally.banks) }
+    ensures number { result ≡ direct_number b.0 (slices_of neighbours.now degrees.now waves.now counts.now ranks.now) tally }
+    ensures plan { result ≡ 0 → PlanIn (slices_of neighbours.now degrees.now waves.now counts.now ranks.now) tally × (b.0 < tally.banks) }
 {
     let number = check_plan(neighbours, degrees, waves, counts, ranks, tally);
     if number != 0 {
@@ -98,8 +100,8 @@ pub fn wave_by_rule(
     tally: Tally,
     b: Bank,
 ) -> Found
-    ensures number { result.number ≡ direct_number b.0 (slices_before neighbours degrees waves counts ranks) tally }
-    ensures wave { result.wave.0 ≡ rule_wave_of b.0 (slices_before neighbours degrees waves counts ranks) tally }
+    ensures number { result.number ≡ direct_number b.0 (slices_of neighbours.now degrees.now waves.now counts.now ranks.now) tally }
+    ensures wave { result.wave.0 ≡ rule_wave_of b.0 (slices_of neighbours.now degrees.now waves.now counts.now ranks.now) tally }
 {
     let number = check_small(neighbours, degrees, waves, counts, ranks, tally, b);
     if number != 0 {

@@ -1,25 +1,27 @@
 // The bank numbers among the program's arguments.
+use list_program::{arg, arg_count};
+use std::rt::Env;
 use text::{Number, read_number};
 
 // Room for an argument: one that is longer is no number.
 const ARGUMENT_BYTES: usize = 8;
 
 // Argument i as a number.
-pub fn number_at(i: usize) -> Number {
+pub fn number_at(rt: &impl Env, i: usize) -> Number {
     let mut bytes = [0u8; ARGUMENT_BYTES];
-    let length = os::arg(i, &mut bytes);
+    let length = arg(rt, i, &mut bytes);
     read_number(&bytes[..length])
 }
 
 // Whether there is an argument, and each is a number.
-pub fn all_numbers() -> bool {
-    let count = os::arg_count();
+pub fn all_numbers(rt: &impl Env) -> bool {
+    let count = arg_count(rt);
     if count < 2 {
         return false;
     }
     let mut i = 1;
     while i < count {
-        let Number::Value(_) = number_at(i) else {
+        let Number::Value(_) = number_at(rt, i) else {
             return false;
         };
         i += 1;

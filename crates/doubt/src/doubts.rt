@@ -1,10 +1,11 @@
 // The answer to a list: a line for each bank that is doubted, or the list's refusal.
 use crate::arguments::number_at;
 use doubt_lines::{LINE_BYTES, put_line};
-use list_program::put_refusal;
+use list_program::{arg_count, put_refusal};
 use list_reader::read_list_core;
 use memory::Tally;
 use rule::{Bank, COUNT_CELLS, MOST_BANKS, MOST_WAVES, ROW_CELLS};
+use std::rt::Env;
 use text::Number;
 
 // The cells of Neighbours and of Counts for the most banks.
@@ -16,12 +17,13 @@ const WAVE_COUNT_CELLS: usize = COUNT_CELLS * MOST_BANKS;
 const REFUSAL_BYTES: usize = 24;
 
 // Writes bytes to standard output. Answers whether they were written.
-fn print(text: &[u8]) -> bool {
-    io::write_all(libc::STDOUT_FILENO, text)
+fn print(rt: &impl Print, text: &[u8]) -> bool {
+    rt.write_all(text).is_ok()
 }
 
 // Prints the line of bank b. Answers whether it was written.
 fn print_bank(
+    rt: &impl Print,
     neighbours: &[u16],
     degrees: &[u16],
     waves: &[u16],
@@ -34,11 +36,12 @@ fn print_bank(
     let length = put_line(
         &mut line, neighbours, degrees, waves, counts, ranks, tally, b,
     );
-    print(&line[0..length])
+    print(rt, &line[0..length])
 }
 
 // The line of the bank that argument i names.
 fn print_argument(
+    rt: &(impl Env + Print),
     neighbours: &[u16],
     degrees: &[u16],
     waves: &[u16],
@@ -47,14 +50,24 @@ fn print_argument(
     tally: Tally,
     i: usize,
 ) -> bool {
-    let Number::Value(b) = number_at(i) else {
+    let Number::Value(b) = number_at(rt, i) else {
         return true;
     };
-    print_bank(neighbours, degrees, waves, counts, ranks, tally, Bank(b))
+    print_bank(
+        rt,
+        neighbours,
+        degrees,
+        waves,
+        counts,
+        ranks,
+        tally,
+        Bank(b),
+    )
 }
 
 // A line for each argument.
 fn print_all(
+    rt: &(impl Env + Print),
     neighbours: &[u16],
     degrees: &[u16],
     waves: &[u16],
@@ -62,10 +75,10 @@ fn print_all(
     ranks: &[u16],
     tally: Tally,
 ) -> bool {
-    let count = os::arg_count();
+    let count = arg_count(rt);
     let mut i = 1;
     while i < count {
-        if !print_argument(neighbours, degrees, waves, counts, ranks, tally, i) {
+        if !print_argument(rt, neighbours, degrees, waves, counts, ranks, tally, i) {
             return false;
         }
         i += 1;
@@ -74,14 +87,14 @@ fn print_all(
 }
 
 // `REFUSED c ROW r`.
-fn print_refusal(number: u16, row: u16) -> bool {
+fn print_refusal(rt: &impl Print, number: u16, row: u16) -> bool {
     let mut line = [0u8; REFUSAL_BYTES];
     let length = put_refusal(&mut line, number, row);
-    print(&line[0..length])
+    print(rt, &line[0..length])
 }
 
 // The answer to a list. Answers whether it was written.
-pub fn answer(list: &[u8]) -> bool {
+pub fn answer(rt: &(impl Env + Print), list: &[u8]) -> bool {
     let mut neighbours = [0u16; NEIGHBOUR_CELLS];
     let mut degrees = [0u16; MOST_BANKS];
     let mut waves = [0u16; MOST_BANKS];
@@ -107,7 +120,15 @@ pub fn answer(list: &[u8]) -> bool {
     );
     let reading = read.answer;
     if reading.number != 0 {
-        return print_refusal(reading.number, reading.row);
+        return print_refusal(rt, reading.number, reading.row);
     }
-    print_all(&neighbours, &degrees, &waves, &counts, &ranks, read.tally)
+    print_all(
+        rt,
+        &neighbours,
+        &degrees,
+        &waves,
+        &counts,
+        &ranks,
+        read.tally,
+    )
 }

@@ -1,9 +1,9 @@
 // The line of a doubted bank. Each function writes at `at`, or at the front, and answers the place after what it wrote.
+ghost use Rattle.memory.specs.Plan.{slices_of};
 ghost use Rattle.std.specs.Prelude.{◌+◌, ◌≤◌, ◌<◌, length};
-ghost use Rattle.memory.specs.Lent.{slices_given, slices_before};
 ghost use Rattle.planner.specs.Calls.{clashes_of};
 ghost use Rattle.planner.specs.inner.Held.{PlanIn};
-ghost use Rattle.text.specs.Places.{Wrote};
+ghost use Rattle.text.specs.Places.{Puts};
 ghost use Rattle.doubt_lines.specs.Lines.{lettered, head_text, from_text, link_text, links_text, line_of};
 
 use direct_rule::wave_by_rule;
@@ -20,7 +20,7 @@ pub const LINE_BYTES: usize = 324;
 // A text and a wave's letter.
 fn put_lettered(out: &mut [u8], at: usize, text: &[u8], w: Wave) -> usize
     requires { (w.0 < 24) × (at + (length text.now + 1) ≤ length out.old) }
-    ensures { Wrote (lettered text.now w.0) at out result }
+    ensures { Puts (lettered text.now w.0) at out.old result out.new }
 {
     let next = put_text(out, at, text);
     put_byte(out, next, letter(w))
@@ -29,7 +29,7 @@ fn put_lettered(out: &mut [u8], at: usize, text: &[u8], w: Wave) -> usize
 // An earlier neighbour with its letter.
 fn put_from(out: &mut [u8], at: usize, v: u16, w: Wave) -> usize
     requires { (w.0 < 24) × (at + 13 ≤ length out.old) }
-    ensures { Wrote (from_text v w.0) at out result }
+    ensures { Puts (from_text v w.0) at out.old result out.new }
 {
     let next = put_named(out, at, b" FROM ", v);
     put_lettered(out, next, b" ", w)
@@ -48,9 +48,9 @@ fn put_link(
     b: Bank,
     v: Bank,
 ) -> usize
-    requires plan_in { PlanIn (slices_given neighbours degrees waves counts ranks) tally }
+    requires plan_in { PlanIn (slices_of neighbours.now degrees.now waves.now counts.now ranks.now) tally }
     requires v_lt_banks { (v.0 < tally.banks) × (b.0 < tally.banks) × (at + 13 ≤ length out.old) }
-    ensures { Wrote (link_text b.0 (slices_before neighbours degrees waves counts ranks) tally v.0) at out result }
+    ensures { Puts (link_text b.0 (slices_of neighbours.now degrees.now waves.now counts.now ranks.now) tally v.0) at out.old result out.new }
 {
     if is_earlier(degrees, ranks, v, b) {
         let straight = wave_by_rule(neighbours, degrees, waves, counts, ranks, tally, v);
@@ -71,10 +71,10 @@ fn put_links(
     tally: Tally,
     b: Bank,
 ) -> usize
-    requires plan_in { PlanIn (slices_given neighbours degrees waves counts ranks) tally }
+    requires plan_in { PlanIn (slices_of neighbours.now degrees.now waves.now counts.now ranks.now) tally }
     requires b_lt_banks { (b.0 < tally.banks) × (at + 299 ≤ length out.old) }
-    ensures { Wrote (links_text b.0 (slices_before neighbours degrees waves counts ranks) tally
-        (clashes_of b.0 (slices_before neighbours degrees waves counts ranks) tally)) at out result × (result ≤ at + 299) }
+    ensures { Puts (links_text b.0 (slices_of neighbours.now degrees.now waves.now counts.now ranks.now) tally
+        (clashes_of b.0 (slices_of neighbours.now degrees.now waves.now counts.now ranks.now) tally)) at out.old result out.new × (result ≤ at + 299) }
 {
     let clashes = clashes_of(neighbours, degrees, waves, counts, ranks, tally, b);
     let mut next = at;
@@ -92,7 +92,7 @@ fn put_links(
 // The bank and its two letters, at the front.
 fn put_head(out: &mut [u8], b: u16, kept: Wave, read: Wave) -> usize
     requires { (kept.0 < 24) × (read.0 < 24) × (24 ≤ length out.old) }
-    ensures { Wrote (head_text b kept.0 read.0) 0 out result × (result ≤ 24) }
+    ensures { Puts (head_text b kept.0 read.0) 0 out.old result out.new × (result ≤ 24) }
 {
     let first = put_named(out, 0, b"BANK ", b);
     let second = put_lettered(out, first, b" KEPT ", kept);
@@ -111,7 +111,7 @@ pub fn put_line(
     b: Bank,
 ) -> usize
     requires { 324 ≤ length out.old }
-    ensures { Wrote (line_of b.0 (slices_before neighbours degrees waves counts ranks) tally) 0 out result
+    ensures { Puts (line_of b.0 (slices_of neighbours.now degrees.now waves.now counts.now ranks.now) tally) 0 out.old result out.new
         × (result ≤ length out.new) }
 {
     let straight = wave_by_rule(neighbours, degrees, waves, counts, ranks, tally, b);

@@ -8,28 +8,25 @@ use native.Mathlib.Omega.{arith}
 use Prim.Native.Nat.{ℕ, zero, suc, ◌+◌, ◌≤◌, ◌<◌}
 use lib.Dec.{T}
 use lib.ListN.{length}
-use Rattle.rule.specs.Lists.{upto, filter}
-use Rattle.rule.specs.Graph.{Graph, degree, order, pair, added, struck, Same}
+use Rattle.rule.specs.Graph.{Graph, pair, added, struck, Same}
 use Rattle.rule.specs.Wave.{wave_count}
 use Rattle.rule.specs.Reach.{edited, inverse, changed, on_trail, trail, moved}
 use Rattle.rule.specs.declared.Kind.{Kind}
 use Rattle.rule.specs.declared.Kind.TheVariants.{Adding, Striking}
 use Rattle.rule.proofs.Booleans.{lt_or_ge, t_along}
-use Rattle.rule.proofs.Lists.{length_upto, filter_short}
 use Rattle.rule.proofs.Agree.{degree_agree}
 use Rattle.rule.proofs.OneClash.{degrees_more, degrees_less, degree_added, degree_struck}
-use Rattle.rule.proofs.Reaches.{count_order, ordered_few}
+use Rattle.rule.proofs.Reaches.{ordered_few}
 use Rattle.rule.proofs.Theorems.{trail_agree, moved_agree, trail_fixed}
 use Rattle.memory.specs.declared.Tally.{Tally}
-use Rattle.memory.specs.Plan.{plan_in, tally_of, cap_fits, clash_count, graph_in, Clashes}
+use Rattle.memory.specs.Plan.{tally_of, cap_fits, clash_count, graph_in, Clashes}
 use Rattle.memory.specs.Memory.{Memory, Ready}
 use Rattle.memory.proofs.ClashPairs.{clash_count_more}
 use Rattle.memory.proofs.Fronts.{over_long}
 use Rattle.memory.proofs.Question.{cap_fits-law, cap_parts}
 use Rattle.memory.proofs.Theorems.{plan_in_agree, tally_agree, cells_give, holds_cap}
 use Rattle.edits.specs.Edits.{Acceptable}
-use Rattle.planner.specs.Questions.{first_no}
-use Rattle.planner.specs.Calls.{EditResult, edit_result, no_edit, refused, clash_questions, memory_number, edit_number, accepted, edit_by}
+use Rattle.planner.specs.Calls.{EditResult, edit_result, no_edit, refused, memory_number, edit_number, accepted, edit_by}
 use Rattle.capped_edits.specs.Capped.{cap_by, capped_number, capped_of}
 use Rattle.edit_calls.specs.Calls.{checked_by, edit}
 use Rattle.planner.proofs.Numbers.{far_a, far_b, one_bank, two_banks, memory_plan, held_number, memory_passed, number_ready, plan_passed}

@@ -1,5 +1,5 @@
 -- The theorems to cite, each restated. Their proofs are in the files beside this one.
-use mathlib.Core.Path.{◌≡◌, sym, ap, ◌∙◌}
+use mathlib.Core.Path.{◌≡◌}
 use native.Mathlib.Omega.{arith}
 use Prim.Native.Nat.{ℕ, suc, ◌+◌, ◌≤◌, ◌<◌}
 use lib.Dec.{T}
@@ -18,7 +18,7 @@ use Rattle.planner.specs.Calls.{memory_number, edit_number, refused, accepted}
 use Rattle.planner.proofs.Outcomes.{acceptable, edited_banks}
 use Rattle.planner.proofs.After as After
 use Rattle.capped_edits.specs.Capped.{capped_number, capped_of}
-use Rattle.edit_calls.specs.Calls.{edit, set_cap_number, set_cap, with_cap}
+use Rattle.edit_calls.specs.Calls.{edit, set_cap, with_cap}
 use Rattle.capped_edits.proofs.Capped as Capped
 use Rattle.edit_calls.proofs.Calls as Calls
 use Rattle.edit_calls.proofs.EditCalls as EditCalls

@@ -1,6 +1,6 @@
 // The call set_cap with the tally by value.
+ghost use Rattle.memory.specs.Plan.{slices_of};
 ghost use Rattle.std.specs.Prelude.{◌≡◌};
-ghost use Rattle.memory.specs.Lent.{slices_before};
 ghost use Rattle.edit_calls.specs.Calls.{set_cap_number, cap_result, set_cap};
 ghost use Rattle.edit_calls.specs.inner.Caps.{cap_number};
 
@@ -9,7 +9,7 @@ use planner::check_plan;
 use rule::MOST_WAVES;
 
 // What set_cap leaves: its number and the tally.
-#[derive(Drop)]
+#[derive(Clone, Copy)]
 pub struct Capped {
     pub number: u16,
     pub tally: Tally,
@@ -41,7 +41,7 @@ fn check_cap(
     tally: Tally,
     cap: u16,
 ) -> u16
-    ensures { result ≡ set_cap_number cap (slices_before neighbours degrees waves counts ranks) tally }
+    ensures { result ≡ set_cap_number cap (slices_of neighbours.now degrees.now waves.now counts.now ranks.now) tally }
 {
     let number = check_plan(neighbours, degrees, waves, counts, ranks, tally);
     if number != 0 {
@@ -60,7 +60,7 @@ pub fn set_cap_core(
     tally: Tally,
     cap: u16,
 ) -> Capped
-    ensures { cap_result result.number result.tally ≡ set_cap cap (slices_before neighbours degrees waves counts ranks) tally }
+    ensures { cap_result result.number result.tally ≡ set_cap cap (slices_of neighbours.now degrees.now waves.now counts.now ranks.now) tally }
 {
     let number = check_cap(neighbours, degrees, waves, counts, ranks, tally, cap);
     if number != 0 {

@@ -1,7 +1,7 @@
 // The calls add and strike with the tally by value.
 ghost use Rattle.std.specs.Prelude.{◌≡◌};
 ghost use Rattle.rule.specs.declared.Kind.TheVariants.{Adding, Striking};
-ghost use Rattle.memory.specs.Lent.{before, after};
+ghost use Rattle.memory.specs.Lent.{given};
 ghost use Rattle.planner.specs.Calls.{edit_result};
 ghost use Rattle.edit_calls.specs.Calls.{edit};
 
@@ -25,8 +25,8 @@ pub fn edit_core(
     a: Bank,
     b: Bank,
 ) -> Edited
-    ensures { edit_result result.answer (after neighbours degrees waves counts ranks trail moved result.tally)
-        ≡ edit kind a.0 b.0 (before neighbours degrees waves counts ranks trail moved tally) }
+    ensures { edit_result result.answer (given neighbours.new degrees.new waves.new counts.new ranks.now trail.new moved.new result.tally)
+        ≡ edit kind a.0 b.0 (given neighbours.old degrees.old waves.old counts.old ranks.now trail.old moved.old tally) }
 {
     let number = check_memory(
         neighbours, degrees, waves, counts, ranks, trail, moved, tally,
@@ -52,8 +52,8 @@ pub fn add_core(
     a: Bank,
     b: Bank,
 ) -> Edited
-    ensures { edit_result result.answer (after neighbours degrees waves counts ranks trail moved result.tally)
-        ≡ edit Adding a.0 b.0 (before neighbours degrees waves counts ranks trail moved tally) }
+    ensures { edit_result result.answer (given neighbours.new degrees.new waves.new counts.new ranks.now trail.new moved.new result.tally)
+        ≡ edit Adding a.0 b.0 (given neighbours.old degrees.old waves.old counts.old ranks.now trail.old moved.old tally) }
 {
     edit_core(
         Kind::Adding,
@@ -83,8 +83,8 @@ pub fn strike_core(
     a: Bank,
     b: Bank,
 ) -> Edited
-    ensures { edit_result result.answer (after neighbours degrees waves counts ranks trail moved result.tally)
-        ≡ edit Striking a.0 b.0 (before neighbours degrees waves counts ranks trail moved tally) }
+    ensures { edit_result result.answer (given neighbours.new degrees.new waves.new counts.new ranks.now trail.new moved.new result.tally)
+        ≡ edit Striking a.0 b.0 (given neighbours.old degrees.old waves.old counts.old ranks.now trail.old moved.old tally) }
 {
     edit_core(
         Kind::Striking,

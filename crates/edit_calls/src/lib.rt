@@ -1,4 +1,6 @@
 // The calls that change a plan: add, strike and set_cap.
+#![tactic(auto)]
+
 mod capping;
 mod editing;
 

@@ -7,7 +7,7 @@ use Prim.Native.Nat.{ℕ, ◌+◌, ◌*◌, ◌/◌, ◌%◌, ◌≤◌, ◌<◌
 use native.Mathlib.Nat.{div-add-mod'}
 use native.Mathlib.Omega.{arith}
 use lib.ListN.{length, get_or, take}
-use Rattle.rule.specs.Lists.{upto, memb, filter}
+use Rattle.rule.specs.Lists.{memb, filter}
 use Rattle.rule.specs.Graph.{Graph, neighbours, degree, earlier_neighbours}
 use Rattle.rule.specs.Wave.{wave, wave_count}
 use Rattle.rule.specs.Reach.{edited, changed, on_trail, trail, moved}

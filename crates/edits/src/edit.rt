@@ -1,7 +1,7 @@
 // The edit, on memory that holds a plan, where no refusal is due.
 ghost use Rattle.std.specs.Prelude.{◌≡◌, ℕ, ◌<◌, ◌≤◌, length, get_or};
 ghost use Rattle.rule.specs.Graph.{Graph};
-ghost use Rattle.memory.specs.Lent.{given, before, after};
+ghost use Rattle.memory.specs.Lent.{given};
 ghost use Rattle.memory.specs.inner.Counts.{most_of};
 ghost use Rattle.queue.specs.Queue.{Idle};
 ghost use Rattle.recolouring.specs.inner.Tops.{Top};
@@ -17,7 +17,7 @@ use rule::{Bank, Kind};
 use steps::settle;
 
 // What an accepted edit answers: how many banks moved, how many were taken up, and the tally after it.
-#[derive(Drop)]
+#[derive(Clone, Copy)]
 pub struct Accepted {
     pub moved: u16,
     pub trail: u16,
@@ -54,11 +54,11 @@ fn propagate(
     old: Degrees,
 ) -> Accepted
     requires rows_changed { (o : Origin)
-        × RowsChanged (edit_at o a.0 b.0) (given neighbours degrees waves counts ranks trail moved o.memory.tally) old tally }
+        × RowsChanged (edit_at o a.0 b.0) (given neighbours.now degrees.now waves.old counts.old ranks.now trail.old moved.old o.memory.tally) old tally }
     requires idle { Idle tally.banks ranks.now queue.old }
     ensures fact { (o : Origin)
-        → RowsChanged (edit_at o a.0 b.0) (before neighbours degrees waves counts ranks trail moved o.memory.tally) old tally
-        → Result o.kind o.graph a.0 b.0 o.memory (after neighbours degrees waves counts ranks trail moved result.tally) result }
+        → RowsChanged (edit_at o a.0 b.0) (given neighbours.now degrees.now waves.old counts.old ranks.now trail.old moved.old o.memory.tally) old tally
+        → Result o.kind o.graph a.0 b.0 o.memory (given neighbours.now degrees.now waves.new counts.new ranks.now trail.new moved.new result.tally) result }
     ensures idle_2 { Idle tally.banks ranks.now queue.new }
 {
     let banks = tally.banks;
@@ -117,12 +117,12 @@ pub fn make_edit(
     a: Bank,
     b: Bank,
 ) -> Accepted
-    requires editable { (G : Graph) × Editable kind G (given neighbours degrees waves counts ranks trail moved tally) a.0 b.0 }
+    requires editable { (G : Graph) × Editable kind G (given neighbours.old degrees.old waves.old counts.old ranks.now trail.old moved.old tally) a.0 b.0 }
     requires idle { Idle tally.banks ranks.now queue.old }
     ensures fact { (G : Graph)
-        → Editable kind G (before neighbours degrees waves counts ranks trail moved tally) a.0 b.0
-        → Result kind G a.0 b.0 (before neighbours degrees waves counts ranks trail moved tally)
-        (after neighbours degrees waves counts ranks trail moved result.tally) result }
+        → Editable kind G (given neighbours.old degrees.old waves.old counts.old ranks.now trail.old moved.old tally) a.0 b.0
+        → Result kind G a.0 b.0 (given neighbours.old degrees.old waves.old counts.old ranks.now trail.old moved.old tally)
+        (given neighbours.new degrees.new waves.new counts.new ranks.now trail.new moved.new result.tally) result }
     ensures idle_2 { Idle tally.banks ranks.now queue.new }
 {
     let clashes = count_after(kind, tally.clashes);

@@ -18,7 +18,7 @@ pub fn recount_one(
 )
     requires countable { Countable neighbours.now degrees.now ranks.now waves.now banks b.0 }
     requires b_in_bounds { b.0 * 24 + 24 ≤ length counts.old }
-    ensures { Recounts neighbours degrees waves counts ranks b.0 }
+    ensures { Recounts neighbours.now degrees.now waves.now counts.old ranks.now counts.new b.0 }
 {
     let at = b.0 as usize;
     let start = at * COUNT_CELLS;

@@ -1,8 +1,8 @@
 // The seeds of an edit (000, lemmas 4.2 and 4.3): its two banks, and each neighbour whose order towards one of them turned over. Their earlier
 // neighbours may differ, so Counts of each are counted anew.
+ghost use Rattle.memory.specs.Plan.{slices_of};
 ghost use Rattle.std.specs.Prelude.{List, ℕ, ◌+◌, ◌<◌, get_or};
 ghost use Rattle.rule.specs.Graph.{Graph};
-ghost use Rattle.memory.specs.Lent.{slices_given, slices_before, slices_after};
 ghost use Rattle.edits.specs.inner.Recount.{Recounting, SeedQueued};
 ghost use Rattle.edits.specs.inner.Seeds.{Search, Turning, Seedable, Seeded};
 ghost use Rattle.edits.specs.inner.Change.{Origin, edit_at};
@@ -25,11 +25,11 @@ fn queue_seed(
     v: Bank,
 )
     requires by_index { (G : Graph) × (was : List ℕ)
-        × Recounting G (slices_given neighbours degrees waves counts ranks) was queue.old banks }
+        × Recounting G (slices_of neighbours.now degrees.now waves.now counts.old ranks.now) was queue.old banks }
     requires v_lt_banks { v.0 < banks }
     ensures { (G : Graph) → (was : List ℕ)
-        → Recounting G (slices_before neighbours degrees waves counts ranks) was queue.old banks
-        → SeedQueued G (slices_after neighbours degrees waves counts ranks) was queue.old queue.new banks v.0 }
+        → Recounting G (slices_of neighbours.now degrees.now waves.now counts.old ranks.now) was queue.old banks
+        → SeedQueued G (slices_of neighbours.now degrees.now waves.now counts.new ranks.now) was queue.old queue.new banks v.0 }
 {
     recount_one(neighbours, degrees, waves, counts, ranks, banks, v);
     enqueue(queue, v, degrees[v.0 as usize], true);
@@ -48,11 +48,11 @@ fn queue_turned_one(
     old: u16,
     i: usize,
 )
-    requires turning { (s : Search) × Turning s (slices_given neighbours degrees waves counts ranks) queue.old banks b.0 old i }
+    requires turning { (s : Search) × Turning s (slices_of neighbours.now degrees.now waves.now counts.old ranks.now) queue.old banks b.0 old i }
     requires i_bound { i < get_or degrees.now b.0 0 }
     ensures { (s : Search)
-        → Turning s (slices_before neighbours degrees waves counts ranks) queue.old banks b.0 old i
-        → Turning s (slices_after neighbours degrees waves counts ranks) queue.new banks b.0 old (i + 1) }
+        → Turning s (slices_of neighbours.now degrees.now waves.now counts.old ranks.now) queue.old banks b.0 old i
+        → Turning s (slices_of neighbours.now degrees.now waves.now counts.new ranks.now) queue.new banks b.0 old (i + 1) }
 {
     let at = b.0 as usize;
     let v = Bank(neighbours[at * ROW_CELLS + i]);
@@ -77,10 +77,10 @@ fn queue_turned(
     b: Bank,
     old: u16,
 )
-    requires { (s : Search) × Turning s (slices_given neighbours degrees waves counts ranks) queue.old banks b.0 old 0 }
+    requires { (s : Search) × Turning s (slices_of neighbours.now degrees.now waves.now counts.old ranks.now) queue.old banks b.0 old 0 }
     ensures { (s : Search)
-        → Turning s (slices_before neighbours degrees waves counts ranks) queue.old banks b.0 old 0
-        → Turning s (slices_after neighbours degrees waves counts ranks) queue.new banks b.0 old
+        → Turning s (slices_of neighbours.now degrees.now waves.now counts.old ranks.now) queue.old banks b.0 old 0
+        → Turning s (slices_of neighbours.now degrees.now waves.now counts.new ranks.now) queue.new banks b.0 old
         (get_or degrees.now b.0 0) }
 {
     let at = b.0 as usize;
@@ -108,10 +108,10 @@ pub fn queue_seeds(
     before: Degrees,
 )
     requires { (o : Origin)
-        × Seedable (edit_at o a.0 b.0) (slices_given neighbours degrees waves counts ranks) queue.old banks before }
+        × Seedable (edit_at o a.0 b.0) (slices_of neighbours.now degrees.now waves.now counts.old ranks.now) queue.old banks before }
     ensures { (o : Origin)
-        → Seedable (edit_at o a.0 b.0) (slices_before neighbours degrees waves counts ranks) queue.old banks before
-        → Seeded (edit_at o a.0 b.0) (slices_after neighbours degrees waves counts ranks) counts.old queue.new banks }
+        → Seedable (edit_at o a.0 b.0) (slices_of neighbours.now degrees.now waves.now counts.old ranks.now) queue.old banks before
+        → Seeded (edit_at o a.0 b.0) (slices_of neighbours.now degrees.now waves.now counts.new ranks.now) counts.old queue.new banks }
 {
     let old_a = before.a;
     let old_b = before.b;

@@ -2,7 +2,7 @@
 ghost use Rattle.std.specs.Prelude.{false, ◌≡◌, ◌≤◌, length};
 ghost use Rattle.rule.specs.Graph.{Graph};
 ghost use Rattle.memory.specs.Memory.{Ready};
-ghost use Rattle.memory.specs.Lent.{given, before, after};
+ghost use Rattle.memory.specs.Lent.{given};
 ghost use Rattle.queue.specs.Queue.{Idle, Unranked};
 ghost use Rattle.planner.specs.States.{begun_by};
 ghost use Rattle.planner.specs.inner.Held.{HoldsPlan, EditMade, RankDone, Enterable, Enters};
@@ -62,13 +62,13 @@ fn edit_placed(
     a: Bank,
     b: Bank,
 ) -> Edited
-    requires holds_plan { HoldsPlan (given neighbours degrees waves counts ranks trail moved tally) }
+    requires holds_plan { HoldsPlan (given neighbours.old degrees.old waves.old counts.old ranks.now trail.old moved.old tally) }
     requires idle { Idle tally.banks ranks.now queue.old }
     ensures edit_made { (G : Graph)
-        → Ready G (before neighbours degrees waves counts ranks trail moved tally)
+        → Ready G (given neighbours.old degrees.old waves.old counts.old ranks.now trail.old moved.old tally)
         → EditMade kind G a.0 b.0
-        (before neighbours degrees waves counts ranks trail moved tally) result
-        (after neighbours degrees waves counts ranks trail moved result.tally) }
+        (given neighbours.old degrees.old waves.old counts.old ranks.now trail.old moved.old tally) result
+        (given neighbours.new degrees.new waves.new counts.new ranks.now trail.new moved.new result.tally) }
     ensures idle_2 { Idle tally.banks ranks.now queue.new }
 {
     place_by_rank(ranks, queue, tally.banks);
@@ -92,12 +92,12 @@ pub fn enter_held(
     begun: bool,
     entry: Entry,
 ) -> Edited
-    requires enterable { Enterable begun entry (given neighbours degrees waves counts ranks trail moved tally) }
+    requires enterable { Enterable begun entry (given neighbours.old degrees.old waves.old counts.old ranks.old trail.old moved.old tally) }
     requires idle { Idle tally.banks ranks.old queue.old }
     requires unranked { begun ≡ false → Unranked queue.old }
     ensures enters { Enters begun entry
-        (before neighbours degrees waves counts ranks trail moved tally) result
-        (after neighbours degrees waves counts ranks trail moved result.tally) }
+        (given neighbours.old degrees.old waves.old counts.old ranks.old trail.old moved.old tally) result
+        (given neighbours.new degrees.new waves.new counts.new ranks.new trail.new moved.new result.tally) }
     ensures idle_2 { Idle tally.banks ranks.new queue.new }
     ensures unranked_2 { begun_by entry begun ≡ false → Unranked queue.new }
 {

@@ -3,9 +3,9 @@ ghost use Rattle.std.specs.Prelude.{◌≡◌, ℕ};
 ghost use Rattle.rule.specs.Lists.{memb};
 ghost use Rattle.rule.specs.Graph.{Graph};
 ghost use Rattle.rule.specs.declared.Kind.TheVariants.{Adding, Striking};
-ghost use Rattle.memory.specs.Plan.{PlanOf};
+ghost use Rattle.memory.specs.Plan.{PlanOf, slices_of};
 ghost use Rattle.memory.specs.Memory.{Ready};
-ghost use Rattle.memory.specs.Lent.{slices_given, slices_before, given, before, after};
+ghost use Rattle.memory.specs.Lent.{given};
 ghost use Rattle.queue.specs.Queue.{Idle};
 ghost use Rattle.planner.specs.Calls.{no_edit, edit_number};
 ghost use Rattle.planner.specs.inner.Held.{clash_number, HoldsPlan, EditMade};
@@ -80,9 +80,9 @@ pub fn edit_number(
     a: Bank,
     b: Bank,
 ) -> u16
-    requires { (G : Graph) × PlanOf G (slices_given neighbours degrees waves counts ranks) tally }
+    requires { (G : Graph) × PlanOf G (slices_of neighbours.now degrees.now waves.now counts.now ranks.now) tally }
     ensures { (G : Graph)
-        → PlanOf G (slices_before neighbours degrees waves counts ranks) tally
+        → PlanOf G (slices_of neighbours.now degrees.now waves.now counts.now ranks.now) tally
         → result ≡ edit_number kind G a.0 b.0 }
 {
     if tally.banks <= a.0 {
@@ -130,13 +130,13 @@ pub fn edit_held(
     a: Bank,
     b: Bank,
 ) -> Edited
-    requires holds_plan { HoldsPlan (given neighbours degrees waves counts ranks trail moved tally) }
+    requires holds_plan { HoldsPlan (given neighbours.old degrees.old waves.old counts.old ranks.now trail.old moved.old tally) }
     requires idle { Idle tally.banks ranks.now queue.old }
     ensures edit_made { (G : Graph)
-        → Ready G (before neighbours degrees waves counts ranks trail moved tally)
+        → Ready G (given neighbours.old degrees.old waves.old counts.old ranks.now trail.old moved.old tally)
         → EditMade kind G a.0 b.0
-        (before neighbours degrees waves counts ranks trail moved tally) result
-        (after neighbours degrees waves counts ranks trail moved result.tally) }
+        (given neighbours.old degrees.old waves.old counts.old ranks.now trail.old moved.old tally) result
+        (given neighbours.new degrees.new waves.new counts.new ranks.now trail.new moved.new result.tally) }
     ensures idle_2 { Idle tally.banks ranks.now queue.new }
 {
     let number = edit_number(kind, neighbours, degrees, waves, counts, ranks, tally, a, b);
@@ -171,12 +171,12 @@ pub fn edit_alone(
     a: Bank,
     b: Bank,
 ) -> Edited
-    requires { HoldsPlan (given neighbours degrees waves counts ranks trail moved tally) }
+    requires { HoldsPlan (given neighbours.old degrees.old waves.old counts.old ranks.now trail.old moved.old tally) }
     ensures { (G : Graph)
-        → Ready G (before neighbours degrees waves counts ranks trail moved tally)
+        → Ready G (given neighbours.old degrees.old waves.old counts.old ranks.now trail.old moved.old tally)
         → EditMade kind G a.0 b.0
-        (before neighbours degrees waves counts ranks trail moved tally) result
-        (after neighbours degrees waves counts ranks trail moved result.tally) }
+        (given neighbours.old degrees.old waves.old counts.old ranks.now trail.old moved.old tally) result
+        (given neighbours.new degrees.new waves.new counts.new ranks.now trail.new moved.new result.tally) }
 {
     let mut queue = [0u64; WORDS];
     reset(&mut queue);

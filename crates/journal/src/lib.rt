@@ -1,17 +1,19 @@
 // The journal of a plan, and starting it. `recorded_edits` makes edits and records them in it.
+#![tactic(auto)]
+
 mod start;
 
 pub use start::start_journal;
 
 // The answer of start_journal: the number, and the journal's length, at most 60,000.
-#[derive(Drop)]
+#[derive(Clone, Copy)]
 pub struct Started {
     pub number: u16,
     pub length: u16,
 }
 
 // The answer of an edit that is recorded: that of the edit, and the journal's new length, at most 60,000.
-#[derive(Drop)]
+#[derive(Clone, Copy)]
 pub struct Recorded {
     pub number: u16,
     pub moved: u16,
@@ -20,7 +22,7 @@ pub struct Recorded {
 }
 
 // What it leaves beside its slices.
-#[derive(Drop)]
+#[derive(Clone, Copy)]
 pub struct RecordedEdit {
     pub answer: Recorded,
     pub tally: memory::Tally,

@@ -1,10 +1,9 @@
 // The call that starts a journal.
 ghost use Rattle.std.specs.Prelude.{[], ◌∷◌, ◌≡◌, ℕ, ◌≤◌, length};
 ghost use Rattle.rule.specs.Graph.{Graph};
-ghost use Rattle.memory.specs.Plan.{PlanOf};
-ghost use Rattle.memory.specs.Lent.{slices_given, slices_before};
+ghost use Rattle.memory.specs.Plan.{PlanOf, slices_of};
 ghost use Rattle.journal.specs.Calls.{rank_of, ranks_below, adds_of, adds_below, start_result, started};
-ghost use Rattle.journal.specs.inner.Adds.{rank_in, RoomFor, WroteEntries};
+ghost use Rattle.journal.specs.inner.Adds.{rank_in, RoomFor, PutsEntries};
 
 use crate::Started;
 use journal_fields::{FIRST_BYTES, NUMBERED_BYTES, put_entry, put_first, space_number};
@@ -68,9 +67,9 @@ fn count_adds(
     ranks: &[u16],
     tally: Tally,
 ) -> usize
-    requires { (G : Graph) × PlanOf G (slices_given neighbours degrees waves counts ranks) tally }
+    requires { (G : Graph) × PlanOf G (slices_of neighbours.now degrees.now waves.now counts.now ranks.now) tally }
     ensures { (G : Graph)
-        → PlanOf G (slices_before neighbours degrees waves counts ranks) tally
+        → PlanOf G (slices_of neighbours.now degrees.now waves.now counts.now ranks.now) tally
         → (result ≡ length (adds_below G G.banks)) × (result ≤ 23552) }
 {
     let mut count = 0;
@@ -85,8 +84,8 @@ fn count_adds(
 
 // Writes an entry into a new journal after the first `done`, with its number, and answers how many stand there then.
 fn put_new(journal: &mut [u8], done: usize, entry: Entry) -> usize
-    requires { RoomFor (entry ∷ []) done journal }
-    ensures { WroteEntries (entry ∷ []) done journal result }
+    requires { RoomFor (entry ∷ []) done journal.old }
+    ensures { PutsEntries (entry ∷ []) done journal.old result journal.new }
 {
     put_entry(
         journal,
@@ -100,8 +99,8 @@ fn put_new(journal: &mut [u8], done: usize, entry: Entry) -> usize
 
 // Writes the rank of b, if it is other than 0.
 fn put_rank(journal: &mut [u8], done: usize, b: Bank, rank: u16) -> usize
-    requires { RoomFor (rank_of b.0 rank) done journal }
-    ensures { WroteEntries (rank_of b.0 rank) done journal result }
+    requires { RoomFor (rank_of b.0 rank) done journal.old }
+    ensures { PutsEntries (rank_of b.0 rank) done journal.old result journal.new }
 {
     if rank == 0 {
         return done;
@@ -111,8 +110,8 @@ fn put_rank(journal: &mut [u8], done: usize, b: Bank, rank: u16) -> usize
 
 // Writes the first n ranks that are other than 0, ascending by bank.
 fn put_ranks(journal: &mut [u8], done: usize, ranks: &[u16], n: u16) -> usize
-    requires { (n ≤ length ranks.now) × RoomFor (ranks_below (rank_in ranks.now) n) done journal }
-    ensures { WroteEntries (ranks_below (rank_in ranks.now) n) done journal result }
+    requires { (n ≤ length ranks.now) × RoomFor (ranks_below (rank_in ranks.now) n) done journal.old }
+    ensures { PutsEntries (ranks_below (rank_in ranks.now) n) done journal.old result journal.new }
 {
     let mut next = done;
     let mut b: u16 = 0;
@@ -125,8 +124,8 @@ fn put_ranks(journal: &mut [u8], done: usize, ranks: &[u16], n: u16) -> usize
 
 // Writes the clash of a and b as an add, if b is larger.
 fn put_add(journal: &mut [u8], done: usize, a: Bank, b: Bank) -> usize
-    requires { RoomFor (adds_of a.0 (b.0 ∷ [])) done journal }
-    ensures { WroteEntries (adds_of a.0 (b.0 ∷ [])) done journal result }
+    requires { RoomFor (adds_of a.0 (b.0 ∷ [])) done journal.old }
+    ensures { PutsEntries (adds_of a.0 (b.0 ∷ [])) done journal.old result journal.new }
 {
     if b.0 <= a.0 {
         return done;
@@ -136,8 +135,8 @@ fn put_add(journal: &mut [u8], done: usize, a: Bank, b: Bank) -> usize
 
 // Writes the clashes of a with the larger of these banks as adds.
 fn put_adds_of(journal: &mut [u8], done: usize, row: &[u16], a: Bank) -> usize
-    requires { RoomFor (adds_of a.0 row.now) done journal }
-    ensures { WroteEntries (adds_of a.0 row.now) done journal result }
+    requires { RoomFor (adds_of a.0 row.now) done journal.old }
+    ensures { PutsEntries (adds_of a.0 row.now) done journal.old result journal.new }
 {
     let mut next = done;
     let mut i = 0;
@@ -160,12 +159,12 @@ fn put_adds(
     tally: Tally,
 ) -> usize
     requires { (G : Graph)
-        × PlanOf G (slices_given neighbours degrees waves counts ranks) tally
-        × RoomFor (adds_below G G.banks) done journal }
+        × PlanOf G (slices_of neighbours.now degrees.now waves.now counts.now ranks.now) tally
+        × RoomFor (adds_below G G.banks) done journal.old }
     ensures { (G : Graph)
-        → PlanOf G (slices_before neighbours degrees waves counts ranks) tally
-        → RoomFor (adds_below G G.banks) done journal.entry
-        → WroteEntries (adds_below G G.banks) done journal result }
+        → PlanOf G (slices_of neighbours.now degrees.now waves.now counts.now ranks.now) tally
+        → RoomFor (adds_below G G.banks) done journal.old
+        → PutsEntries (adds_below G G.banks) done journal.old result journal.new }
 {
     let mut next = done;
     let mut a: u16 = 0;
@@ -188,7 +187,7 @@ pub fn start_journal(
     journal: &mut [u8],
 ) -> Started
     ensures { start_result result journal.new
-        ≡ started (slices_before neighbours degrees waves counts ranks) tally journal.old }
+        ≡ started (slices_of neighbours.now degrees.now waves.now counts.now ranks.now) tally journal.old }
 {
     let number = check_plan(neighbours, degrees, waves, counts, ranks, tally);
     if number != 0 {

@@ -1,13 +1,10 @@
 -- The number of the fields after the first, field by field.
 use mathlib.Core.Bool.{Bool, true, false, ◌&&◌, not}
 use mathlib.Core.List.{List, [], ◌∷◌}
-use mathlib.Core.Logic.{⊎_elim}
 use mathlib.Core.Path.{◌≡◌, refl, sym, ap, ap₂, ◌∙◌}
 use Prim.Native.Nat.{ℕ, suc, ◌+◌, ◌-◌, ◌≤◌, ◌<◌}
 use native.Mathlib.Numerals.{add-one}
 use native.Mathlib.Omega.{arith}
-use types.Run.{OneOf}
-use denote.Enum.Declared.{tag_of as variant}
 use lib.Dec.{eqb}
 use lib.ListN.{length, take, drop, length-drop, drop_of_length-le}
 use lib.Seq.{take_all, drop-drop}
@@ -21,7 +18,6 @@ use Rattle.journal_fields.specs.declared.field.Field.{Field}
 use Rattle.journal_fields.specs.declared.field.Field.TheVariants.{Whole, Wrong, Misnumbered, Short}
 use Rattle.journal_fields.specs.Fields.{entry_size, numbered, field_of, Fields, fields_by, fields_from, fields, is_rank, ranks_from, ranks_first}
 use Rattle.journal_fields.specs.Numbers.{first_of, refusal, later_number}
-use Rattle.journal_fields.specs.contracts.field.Field.{the_type}
 use Rattle.journal_fields.proofs.Reading.{fields_step}
 use Rattle.journal_fields.proofs.Forms.{whole_long}
 use Rattle.journal_fields.proofs.Entries.{whole, none_from}
@@ -80,9 +76,9 @@ module _ (size : ℕ) (rest : Fields) where
   unfolding first_of first_no fields_by
   late_by begun e b h = rw (b, ranks_late e rest.entries h)
 
-  other_by : (begun : Bool) (f : Field) → 0 < size → OneOf (1 ∷ 2 ∷ 3 ∷ []) (variant the_type f) → refusal f ≡ number_from begun (fields_by f size rest)
+  other_by : (begun : Bool) (f : Field) → 0 < size → ((e : Entry) → f ≡ Whole e → ⊥) → refusal f ≡ number_from begun (fields_by f size rest)
   unfolding first_of first_no refusal fields_by ranks_from
-  other_by begun (Whole e) h k = absurd (⊎_elim (λ q. omega arith) (λ k. ⊎_elim (λ q. omega arith) (λ q. omega arith) k) k)
+  other_by begun (Whole e) h k = absurd (k e refl)
   other_by begun Wrong h k = refl
   other_by begun Misnumbered h k = refl
   other_by begun Short h k = rw (ne_eqb size 0 (λ z. omega arith))
@@ -107,7 +103,7 @@ module _ (w : Bool) (i : ℕ) where
     step : fields_by f (length (drop at bytes)) rest ≡ fields_from w i (drop at bytes)
     step = ap (λ (x : Field). fields_by x (length (drop at bytes)) rest) here ∙ sym (fields_step w i (drop at bytes))
 
-    pub later_other : (begun : Bool) → OneOf (1 ∷ 2 ∷ 3 ∷ []) (variant the_type f) → refusal f ≡ number_from begun (fields_from w i (drop at bytes))
+    pub later_other : (begun : Bool) → ((e : Entry) → f ≡ Whole e → ⊥) → refusal f ≡ number_from begun (fields_from w i (drop at bytes))
     later_other begun k = other_by _ _ begun f (omega (arith, length-drop at bytes)) k ∙ ap (number_from begun) step
 
     module _ (e : Entry) (q : f ≡ Whole e) where

@@ -1,6 +1,6 @@
 // A journal's fields: a one-byte tag, a two-byte length and the value, low byte first.
 ghost use Rattle.std.specs.Prelude.{◌++◌, ◌≡◌, ◌+◌, ◌≤◌, ◌<◌, length};
-ghost use Rattle.text.specs.Places.{Wrote};
+ghost use Rattle.text.specs.Places.{Puts};
 ghost use Rattle.journal_fields.specs.Fields.{first_size, number_size, value_size, entry_size, kind_tag, number_at, has_first, numbered as isNumbered};
 ghost use Rattle.journal_fields.specs.Fields.{two_bytes, field_bytes, first_bytes, number_bytes, entry_bytes};
 
@@ -8,7 +8,7 @@ use rule::{Entry, Kind};
 use text::put_text;
 
 // What stands at the front of the bytes after the first field.
-#[derive(Drop)]
+#[derive(Clone, Copy)]
 pub enum Field {
     Whole(Entry),
     Wrong,
@@ -59,7 +59,7 @@ pub fn number_at(bytes: &[u8], i: usize) -> u16
 }
 
 // Whether the first field is whole, with its tag and length right.
-pub fn has_first-law(bytes: &[u8]) -> bool
+pub fn has_first(bytes: &[u8]) -> bool
     ensures { result ≡ has_first bytes.now }
 {
     if bytes.len() < FIRST_BYTES {
@@ -114,7 +114,7 @@ pub fn is_numbered(bytes: &[u8]) -> bool
 // Writes the first field of n banks to the front, and answers the place after it.
 pub fn put_first(journal: &mut [u8], n: u16) -> usize
     requires { first_size ≤ length journal.old }
-    ensures { Wrote (first_bytes n) 0 journal result }
+    ensures { Puts (first_bytes n) 0 journal.old result journal.new }
 {
     let bytes = [FIRST_TAG, FIRST_VALUE, 0, (n % 256) as u8, (n / 256) as u8];
     put_text(journal, 0, &bytes)
@@ -123,7 +123,7 @@ pub fn put_first(journal: &mut [u8], n: u16) -> usize
 // Writes an edit number at `at`, where fields have one, and answers the place after it.
 fn put_number(journal: &mut [u8], at: usize, numbered: bool, number: usize) -> usize
     requires { (at + number_size numbered ≤ length journal.old) × (number < 4294967296) }
-    ensures { Wrote (number_bytes numbered number) at journal result }
+    ensures { Puts (number_bytes numbered number) at journal.old result journal.new }
 {
     if !numbered {
         return at;
@@ -150,7 +150,7 @@ fn put_numbers(
     y: u16,
 ) -> usize
     requires { (at + entry_size numbered ≤ length journal.old) × (number < 4294967296) }
-    ensures { Wrote (field_bytes tag (number_bytes numbered number ++ (two_bytes x ++ two_bytes y))) at journal result }
+    ensures { Puts (field_bytes tag (number_bytes numbered number ++ (two_bytes x ++ two_bytes y))) at journal.old result journal.new }
 {
     let head = [tag, value_bytes(numbered), 0];
     let after_head = put_text(journal, at, &head);
@@ -173,7 +173,7 @@ pub fn put_entry(
     entry: Entry,
 ) -> usize
     requires { (at + entry_size numbered ≤ length journal.old) × (number < 4294967296) }
-    ensures { Wrote (entry_bytes numbered number entry) at journal result }
+    ensures { Puts (entry_bytes numbered number entry) at journal.old result journal.new }
 {
     match entry {
         Entry::Clash(kind, a, b) => put_numbers(

@@ -1,4 +1,6 @@
 // The bytes of a journal: what they mean, its fields written, and the questions about its length and its first field.
+#![tactic(auto)]
+
 mod field;
 mod space;
 

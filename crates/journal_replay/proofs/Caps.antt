@@ -9,7 +9,7 @@ use Rattle.memory.specs.Memory.{Memory}
 use Rattle.planner.specs.States.{State, entry_number, enter, begin}
 use Rattle.planner.proofs.Caps.{cap_of, begin_cap, enter_cap}
 use Rattle.journal_fields.specs.Fields.{first_size, banks_in, fields}
-use Rattle.journal_replay.specs.Replay.{ReplayResult, ended, enter_by, enter_all, replay_number, replay_by, replayed}
+use Rattle.journal_replay.specs.Replay.{ReplayResult, enter_by, enter_all, replay_number, replay_by, replayed}
 use Rattle.journal_replay.proofs.Holds.{ended_memory}
 use Rattle.journal_replay.proofs.Refusals.{late_number-law}
 

@@ -1,12 +1,9 @@
 -- The replay of fields, as the functions make it.
 use mathlib.Core.Bool.{Bool, true, false}
-use mathlib.Core.List.{List, [], ◌∷◌}
-use mathlib.Core.Logic.{⊎_elim}
+use mathlib.Core.List.{List}
 use mathlib.Core.Path.{◌≡◌, refl, sym, ap, ◌∙◌}
 use Prim.Native.Nat.{ℕ, zero, suc, ◌+◌, ◌-◌, ◌≤◌, ◌<◌}
 use native.Mathlib.Omega.{arith}
-use types.Run.{OneOf}
-use denote.Enum.Declared.{tag_of as variant}
 use lib.ListN.{length, take, drop, length-drop}
 use lib.Seq.{take_all, drop-drop, length-take-le}
 use borrow.Author.Tests.{leb-true}
@@ -27,7 +24,6 @@ use Rattle.journal_fields.specs.Fields.{entry_size, numbered, rank_fits, Fields,
 use Rattle.journal_fields.specs.Numbers.{refusal}
 use Rattle.journal_replay.specs.Replay.{ReplayResult, replay_result, replay_answer, ended, enter_by, enter_all}
 use Rattle.journal_replay.specs.inner.Steps.{field_number, field_step, FieldDone, EntersField, enter_fields, last_by, ending}
-use Rattle.journal_fields.specs.contracts.field.Field.{the_type}
 use Rattle.journal_fields.proofs.Reading.{fields_step}
 use Rattle.journal_fields.proofs.Forms.{whole_long, misnumbered_long, short_short}
 use Rattle.journal_fields.proofs.Bytes.{whole_field}
@@ -48,9 +44,9 @@ read_fits w i journal start f read e q = by e (whole_field w i _ e (sym read ∙
     by (Rank b r) h = leb-true r 9999 (unfold rank_fits in h)
 
 -- a field that is no entry
-field_other : (f : Field) (s : State) (m : Memory) (begun : Bool) → Stands s m → OneOf (1 ∷ 2 ∷ 3 ∷ []) (variant the_type f) → FieldDone f s (refusal f) begun m
+field_other : (f : Field) (s : State) (m : Memory) (begun : Bool) → Stands s m → ((e : Entry) → f ≡ Whole e → ⊥) → FieldDone f s (refusal f) begun m
 unfolding field_number field_step refusal tried
-field_other (Whole e) s m begun h k = absurd (⊎_elim (λ q. omega arith) (λ k. ⊎_elim (λ q. omega arith) (λ q. omega arith) k) k)
+field_other (Whole e) s m begun h k = absurd (k e refl)
 field_other Wrong s m begun h k = record { is = refl; stands = h; begun_is = λ z. absurd (omega arith) }
 field_other Misnumbered s m begun h k = record { is = refl; stands = h; begun_is = λ z. absurd (omega arith) }
 field_other Short s m begun h k = record { is = refl; stands = h; begun_is = λ z. absurd (omega arith) }
@@ -69,7 +65,7 @@ module _ (journal : List ℕ) (w : Bool) (start i n : ℕ) (entry : n ≡ i - 1)
       ∙ ap (field_of w n) (take_all (length journal - start) (drop start journal) (omega (arith, length-drop start journal)))
       ∙ ap (λ (k : ℕ). field_of w k (drop start journal)) entry
 
-  pub enters_none : OneOf (1 ∷ 2 ∷ 3 ∷ []) (variant the_type f) → r.number ≡ refusal f → EntersField journal w start i begun m r m
+  pub enters_none : ((e : Entry) → f ≡ Whole e → ⊥) → r.number ≡ refusal f → EntersField journal w start i begun m r m
   enters_none k z = record {
     field = field;
     next = next;
@@ -249,14 +245,14 @@ module _ (w : Bool) (n i : ℕ) (bytes : List ℕ) (f : Field) (z : n ≡ 0) (q 
   unfolding last_by
   ending_wrong e = ap (λ (g : Field). last_by g (length bytes) i) (sym e) ∙ ending_by
 
-  last_other : (g : Field) → OneOf (0 ∷ 2 ∷ 3 ∷ []) (variant the_type g) → replay_answer 0 0 (length bytes) ≡ last_by g (length bytes) i
+  last_other : (g : Field) → (g ≡ Wrong → ⊥) → replay_answer 0 0 (length bytes) ≡ last_by g (length bytes) i
   unfolding last_by
   last_other (Whole e) k = refl
-  last_other Wrong k = absurd (⊎_elim (λ q. omega arith) (λ k. ⊎_elim (λ q. omega arith) (λ q. omega arith) k) k)
+  last_other Wrong k = absurd (k refl)
   last_other Misnumbered k = refl
   last_other Short k = refl
 
-  pub ending_other : OneOf (0 ∷ 2 ∷ 3 ∷ []) (variant the_type f) → replay_answer 0 0 (length bytes) ≡ ending w n i bytes
+  pub ending_other : (f ≡ Wrong → ⊥) → replay_answer 0 0 (length bytes) ≡ ending w n i bytes
   ending_other k = last_other f k ∙ ending_by
 
 -- the bytes from `at` on

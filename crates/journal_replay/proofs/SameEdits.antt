@@ -1,6 +1,6 @@
 -- The list of the same edits: its rows, and the pass over them beside the replay.
 use mathlib.Core.Bool.{Bool, true, false, cond, ◌&&◌}
-use mathlib.Core.List.{List, [], ◌∷◌, ◌++◌, map}
+use mathlib.Core.List.{List, [], ◌∷◌, map}
 use mathlib.Core.Logic.{◌⊎◌, inl, inr}
 use mathlib.Core.Path.{◌≡◌, refl, ap, ap₂, ◌∙◌}
 use Prim.Native.Nat.{ℕ, zero, suc, ◌≤◌, ◌<◌}
@@ -28,9 +28,8 @@ use Rattle.text.specs.Text.{onto, rows, parts}
 use Rattle.text.specs.Numbers.{number, decimal}
 use Rattle.text.proofs.Decimal.{reads_back, reads_not}
 use Rattle.text.proofs.Without.{Without, without_append, decimal_without, rows_feed, parts_space, parts_last}
-use Rattle.list_rows.specs.declared.row.Change.TheVariants.{One}
-use Rattle.list_rows.specs.declared.row.Row.TheVariants.{Banks, Edit, Unreadable}
-use Rattle.list_rows.specs.Rows.{is_byte, two_parts, three_parts, from_parts, row_of, is_v2, start_v2, list_v2, rows_of}
+use Rattle.list_rows.specs.declared.row.Row.TheVariants.{Banks, Unreadable}
+use Rattle.list_rows.specs.Rows.{is_byte, two_parts, three_parts, from_parts, row_of, is_v2, start_v2, rows_of}
 use Rattle.list_pass.specs.Pass.{ListResult, reading, change, change_number, row_number, step, pass_by, pass, begin_by, from_first, from_rows}
 use Rattle.list_pass.proofs.Lists.{plain_said}
 use Rattle.journal_fields.specs.Fields.{kind_tag, tag_of, first_in, second_in, rank_fits, journal_bytes}

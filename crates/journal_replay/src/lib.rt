@@ -1,4 +1,6 @@
 // The replay of a journal.
+#![tactic(auto)]
+
 mod rerun;
 
 pub use rerun::{Replayed, ReplayedPlan, replay_core};

@@ -1,6 +1,6 @@
 // The call that replays a journal.
 ghost use Rattle.std.specs.Prelude.{false, ◌≡◌, ◌<◌, length};
-ghost use Rattle.memory.specs.Lent.{given, before, after};
+ghost use Rattle.memory.specs.Lent.{given};
 ghost use Rattle.queue.specs.Queue.{Idle, Unranked};
 ghost use Rattle.journal_replay.specs.Replay.{replay_result, replayed};
 ghost use Rattle.journal_replay.specs.inner.Steps.{AsksField, EntersField, AsksFields, EntersFields, ending, refused_first};
@@ -18,7 +18,7 @@ use rule::wide;
 const BANKS_PLACE: usize = 3;
 
 // The answer of a replay: the number, the field that got it, and the bytes left over.
-#[derive(Drop)]
+#[derive(Clone, Copy)]
 pub struct Replayed {
     pub number: u16,
     pub field: u16,
@@ -26,14 +26,14 @@ pub struct Replayed {
 }
 
 // What a replay leaves beside its slices.
-#[derive(Drop)]
+#[derive(Clone, Copy)]
 pub struct ReplayedPlan {
     pub answer: Replayed,
     pub tally: Tally,
 }
 
 // What a field leaves beside the slices: its number, which field it is, whether an edit has come, and where the next field starts.
-#[derive(Drop)]
+#[derive(Clone, Copy)]
 pub struct Entered {
     pub number: u16,
     pub field: u16,
@@ -59,12 +59,13 @@ fn enter_field(
     tally: Tally,
     begun: bool,
 ) -> Entered
-    requires asks_field { AsksField journal.now numbered start field begun (given neighbours degrees waves counts ranks trail moved tally) }
+    requires asks_field { AsksField journal.now numbered start field begun
+        (given neighbours.old degrees.old waves.old counts.old ranks.old trail.old moved.old tally) }
     requires idle { Idle tally.banks ranks.old queue.old }
     requires unranked { begun ≡ false → Unranked queue.old }
     ensures enters_field { EntersField journal.now numbered start field begun
-        (before neighbours degrees waves counts ranks trail moved tally) result
-        (after neighbours degrees waves counts ranks trail moved result.tally) }
+        (given neighbours.old degrees.old waves.old counts.old ranks.old trail.old moved.old tally) result
+        (given neighbours.new degrees.new waves.new counts.new ranks.new trail.new moved.new result.tally) }
     ensures idle_2 { Idle tally.banks ranks.new queue.new }
     ensures unranked_2 { result.begun ≡ false → Unranked queue.new }
 {
@@ -134,10 +135,10 @@ fn enter_fields(
     moved: &mut [u16],
     tally: Tally,
 ) -> ReplayedPlan
-    requires { AsksFields journal.now first (given neighbours degrees waves counts ranks trail moved tally) }
+    requires { AsksFields journal.now first (given neighbours.old degrees.old waves.old counts.old ranks.old trail.old moved.old tally) }
     ensures { EntersFields journal.now first
-        (before neighbours degrees waves counts ranks trail moved tally) result
-        (after neighbours degrees waves counts ranks trail moved result.tally) }
+        (given neighbours.old degrees.old waves.old counts.old ranks.old trail.old moved.old tally) result
+        (given neighbours.new degrees.new waves.new counts.new ranks.new trail.new moved.new result.tally) }
 {
     let numbered = is_numbered(&journal[first..]);
     let size = entry_bytes(numbered);
@@ -214,8 +215,8 @@ pub fn replay_core(
     moved: &mut [u16],
     tally: Tally,
 ) -> ReplayedPlan
-    ensures { replay_result result.answer (after neighbours degrees waves counts ranks trail moved result.tally)
-        ≡ replayed journal.now (before neighbours degrees waves counts ranks trail moved tally) }
+    ensures { replay_result result.answer (given neighbours.new degrees.new waves.new counts.new ranks.new trail.new moved.new result.tally)
+        ≡ replayed journal.now (given neighbours.old degrees.old waves.old counts.old ranks.old trail.old moved.old tally) }
 {
     let number = head_number(journal, journal.len());
     if number != 0 {

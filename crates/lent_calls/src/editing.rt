@@ -1,7 +1,8 @@
 // The calls add, strike and set_cap as a caller makes them: the tally is lent, and left as the call leaves it.
+ghost use Rattle.memory.specs.Plan.{slices_of};
 ghost use Rattle.std.specs.Prelude.{◌≡◌};
 ghost use Rattle.rule.specs.declared.Kind.TheVariants.{Adding, Striking};
-ghost use Rattle.memory.specs.Lent.{slices_before, before, after};
+ghost use Rattle.memory.specs.Lent.{given};
 ghost use Rattle.planner.specs.Calls.{edit_result};
 ghost use Rattle.edit_calls.specs.Calls.{edit, cap_result, set_cap};
 
@@ -23,8 +24,8 @@ pub fn add(
     a: Bank,
     b: Bank,
 ) -> Answer
-    ensures { edit_result result (after neighbours degrees waves counts ranks trail moved tally.new)
-        ≡ edit Adding a.0 b.0 (before neighbours degrees waves counts ranks trail moved tally.old) }
+    ensures { edit_result result (given neighbours.new degrees.new waves.new counts.new ranks.now trail.new moved.new tally.new)
+        ≡ edit Adding a.0 b.0 (given neighbours.old degrees.old waves.old counts.old ranks.now trail.old moved.old tally.old) }
 {
     let t = *tally;
     let added = add_core(
@@ -47,8 +48,8 @@ pub fn strike(
     a: Bank,
     b: Bank,
 ) -> Answer
-    ensures { edit_result result (after neighbours degrees waves counts ranks trail moved tally.new)
-        ≡ edit Striking a.0 b.0 (before neighbours degrees waves counts ranks trail moved tally.old) }
+    ensures { edit_result result (given neighbours.new degrees.new waves.new counts.new ranks.now trail.new moved.new tally.new)
+        ≡ edit Striking a.0 b.0 (given neighbours.old degrees.old waves.old counts.old ranks.now trail.old moved.old tally.old) }
 {
     let t = *tally;
     let struck = strike_core(
@@ -69,7 +70,7 @@ pub fn set_cap(
     cap: u16,
 ) -> u16
     ensures { cap_result result tally.new
-        ≡ set_cap cap (slices_before neighbours degrees waves counts ranks) tally.old }
+        ≡ set_cap cap (slices_of neighbours.now degrees.now waves.now counts.now ranks.now) tally.old }
 {
     let t = *tally;
     let set = set_cap_core(neighbours, degrees, waves, counts, ranks, t, cap);

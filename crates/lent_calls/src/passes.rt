@@ -1,6 +1,6 @@
 // The calls that read a list and replay a journal, as a caller makes them: the tally is lent, and left as the call leaves it.
 ghost use Rattle.std.specs.Prelude.{◌≡◌};
-ghost use Rattle.memory.specs.Lent.{before, after};
+ghost use Rattle.memory.specs.Lent.{given};
 ghost use Rattle.list_pass.specs.Pass.{list_result, read_list};
 ghost use Rattle.journal_replay.specs.Replay.{replay_result, replayed};
 
@@ -21,8 +21,8 @@ pub fn read_list(
     moved: &mut [u16],
     tally: &mut Tally,
 ) -> Reading
-    ensures { list_result result (after neighbours degrees waves counts ranks trail moved tally.new)
-        ≡ read_list list.now (before neighbours degrees waves counts ranks trail moved tally.old) }
+    ensures { list_result result (given neighbours.new degrees.new waves.new counts.new ranks.new trail.new moved.new tally.new)
+        ≡ read_list list.now (given neighbours.old degrees.old waves.old counts.old ranks.old trail.old moved.old tally.old) }
 {
     let t = *tally;
     let r = read_list_core(
@@ -45,8 +45,8 @@ pub fn replay(
     moved: &mut [u16],
     tally: &mut Tally,
 ) -> Replayed
-    ensures { replay_result result (after neighbours degrees waves counts ranks trail moved tally.new)
-        ≡ replayed journal.now (before neighbours degrees waves counts ranks trail moved tally.old) }
+    ensures { replay_result result (given neighbours.new degrees.new waves.new counts.new ranks.new trail.new moved.new tally.new)
+        ≡ replayed journal.now (given neighbours.old degrees.old waves.old counts.old ranks.old trail.old moved.old tally.old) }
 {
     let t = *tally;
     let replayed = replay_core(

@@ -1,6 +1,6 @@
 // The call open as a caller makes it: the tally is lent, and left as the call leaves it.
+ghost use Rattle.memory.specs.Plan.{slices_of};
 ghost use Rattle.std.specs.Prelude.{◌≡◌};
-ghost use Rattle.memory.specs.Lent.{slices_before, slices_after};
 ghost use Rattle.planner.specs.Calls.{open_result, opened};
 
 use memory::Tally;
@@ -16,8 +16,8 @@ pub fn open(
     banks: u16,
     tally: &mut Tally,
 ) -> u16
-    ensures { open_result result (slices_after neighbours degrees waves counts ranks) tally.new
-        ≡ opened banks (slices_before neighbours degrees waves counts ranks) tally.old }
+    ensures { open_result result (slices_of neighbours.new degrees.new waves.new counts.new ranks.new) tally.new
+        ≡ opened banks (slices_of neighbours.old degrees.old waves.old counts.old ranks.old) tally.old }
 {
     let t = *tally;
     let opened = open_core(neighbours, degrees, waves, counts, ranks, banks, t);

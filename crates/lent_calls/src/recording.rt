@@ -1,7 +1,7 @@
 // The calls that make an edit and record it, as a caller makes them: the tally is lent, and left as the call leaves it.
 ghost use Rattle.std.specs.Prelude.{◌≡◌};
 ghost use Rattle.rule.specs.declared.Kind.TheVariants.{Adding, Striking};
-ghost use Rattle.memory.specs.Lent.{before, after};
+ghost use Rattle.memory.specs.Lent.{given};
 ghost use Rattle.journal.specs.Calls.{record_result, recorded};
 
 use journal::Recorded;
@@ -25,8 +25,8 @@ pub fn add_recorded(
     journal: &mut [u8],
     size: usize,
 ) -> Recorded
-    ensures { record_result result (after neighbours degrees waves counts ranks trail moved tally.new) journal.new
-        ≡ recorded Adding a.0 b.0 (before neighbours degrees waves counts ranks trail moved tally.old) size journal.old }
+    ensures { record_result result (given neighbours.new degrees.new waves.new counts.new ranks.now trail.new moved.new tally.new) journal.new
+        ≡ recorded Adding a.0 b.0 (given neighbours.old degrees.old waves.old counts.old ranks.now trail.old moved.old tally.old) size journal.old }
 {
     let t = *tally;
     let added = add_recorded_core(
@@ -51,8 +51,8 @@ pub fn strike_recorded(
     journal: &mut [u8],
     size: usize,
 ) -> Recorded
-    ensures { record_result result (after neighbours degrees waves counts ranks trail moved tally.new) journal.new
-        ≡ recorded Striking a.0 b.0 (before neighbours degrees waves counts ranks trail moved tally.old) size journal.old }
+    ensures { record_result result (given neighbours.new degrees.new waves.new counts.new ranks.now trail.new moved.new tally.new) journal.new
+        ≡ recorded Striking a.0 b.0 (given neighbours.old degrees.old waves.old counts.old ranks.now trail.old moved.old tally.old) size journal.old }
 {
     let t = *tally;
     let struck = strike_recorded_core(

@@ -1,6 +1,6 @@
 // The call come_back as a caller makes it: the tally is lent, and left as the call leaves it.
+ghost use Rattle.memory.specs.Plan.{slices_of};
 ghost use Rattle.std.specs.Prelude.{◌≡◌};
-ghost use Rattle.memory.specs.Lent.{slices_before, slices_after};
 ghost use Rattle.checkpoints.specs.Calls.{back_result, come_back};
 
 use checkpoints::Returned;
@@ -20,8 +20,8 @@ pub fn come_back(
     shelf: &[u16],
     name: &[u8],
 ) -> Returned
-    ensures { back_result result.number result.moved (slices_after neighbours degrees waves counts ranks) tally.new moved.new
-        ≡ come_back name.now (slices_before neighbours degrees waves counts ranks) tally.old moved.old shelf.now }
+    ensures { back_result result.number result.moved (slices_of neighbours.new degrees.new waves.new counts.new ranks.new) tally.new moved.new
+        ≡ come_back name.now (slices_of neighbours.old degrees.old waves.old counts.old ranks.old) tally.old moved.old shelf.now }
 {
     let t = *tally;
     let back = come_back_core(

@@ -1,6 +1,6 @@
 // The edit of one row, or its rank.
 ghost use Rattle.std.specs.Prelude.{false, ◌≡◌};
-ghost use Rattle.memory.specs.Lent.{given, before, after};
+ghost use Rattle.memory.specs.Lent.{given};
 ghost use Rattle.queue.specs.Queue.{Idle, Unranked};
 ghost use Rattle.planner.specs.inner.Held.{HoldsPlan};
 ghost use Rattle.list_pass.specs.inner.Steps.{change_begun, Asks, Applies, StrikesAll};
@@ -27,12 +27,12 @@ pub fn apply(
     begun: bool,
     change: Change,
 ) -> Edited
-    requires asks { Asks begun change (given neighbours degrees waves counts ranks trail moved tally) }
+    requires asks { Asks begun change (given neighbours.old degrees.old waves.old counts.old ranks.old trail.old moved.old tally) }
     requires idle { Idle tally.banks ranks.old queue.old }
     requires unranked { begun ≡ false → Unranked queue.old }
     ensures applies { Applies change begun
-        (before neighbours degrees waves counts ranks trail moved tally) result
-        (after neighbours degrees waves counts ranks trail moved result.tally) }
+        (given neighbours.old degrees.old waves.old counts.old ranks.old trail.old moved.old tally) result
+        (given neighbours.new degrees.new waves.new counts.new ranks.new trail.new moved.new result.tally) }
     ensures idle_2 { Idle tally.banks ranks.new queue.new }
     ensures unranked_2 { change_begun change begun ≡ false → Unranked queue.new }
 {
@@ -59,11 +59,11 @@ fn strike_all(
     tally: Tally,
     b: Bank,
 ) -> Edited
-    requires holds_plan { HoldsPlan (given neighbours degrees waves counts ranks trail moved tally) }
+    requires holds_plan { HoldsPlan (given neighbours.old degrees.old waves.old counts.old ranks.now trail.old moved.old tally) }
     requires idle { Idle tally.banks ranks.now queue.old }
     ensures strikes_all { StrikesAll b
-        (before neighbours degrees waves counts ranks trail moved tally) result
-        (after neighbours degrees waves counts ranks trail moved result.tally) }
+        (given neighbours.old degrees.old waves.old counts.old ranks.now trail.old moved.old tally) result
+        (given neighbours.new degrees.new waves.new counts.new ranks.now trail.new moved.new result.tally) }
     ensures idle_2 { Idle tally.banks ranks.now queue.new }
 {
     if tally.banks <= b.0 {

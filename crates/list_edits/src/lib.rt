@@ -1,4 +1,6 @@
 // The edits of a list's rows, in memory that holds a plan.
+#![tactic(auto)]
+
 mod change;
 mod rows;
 

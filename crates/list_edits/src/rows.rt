@@ -1,6 +1,6 @@
 // The pass over the rows after the N row.
 ghost use Rattle.std.specs.Prelude.{false, ◌≡◌};
-ghost use Rattle.memory.specs.Lent.{given, before, after};
+ghost use Rattle.memory.specs.Lent.{given};
 ghost use Rattle.queue.specs.Queue.{Idle, Unranked};
 ghost use Rattle.list_pass.specs.inner.Steps.{AsksRow, AsksRows, ReadsEdits, EditsRow};
 
@@ -27,10 +27,10 @@ pub fn read_edits(
     moved: &mut [u16],
     tally: Tally,
 ) -> Listed
-    requires { AsksRows list.now row first (given neighbours degrees waves counts ranks trail moved tally) }
+    requires { AsksRows list.now row first (given neighbours.old degrees.old waves.old counts.old ranks.old trail.old moved.old tally) }
     ensures { ReadsEdits list.now v2 row first
-        (before neighbours degrees waves counts ranks trail moved tally) result
-        (after neighbours degrees waves counts ranks trail moved result.tally) }
+        (given neighbours.old degrees.old waves.old counts.old ranks.old trail.old moved.old tally) result
+        (given neighbours.new degrees.new waves.new counts.new ranks.new trail.new moved.new result.tally) }
 {
     let mut queue = [0u64; WORDS];
     reset(&mut queue);
@@ -84,12 +84,12 @@ fn edit_row(
     tally: Tally,
     begun: bool,
 ) -> Step
-    requires asks_row { AsksRow list.now start begun (given neighbours degrees waves counts ranks trail moved tally) }
+    requires asks_row { AsksRow list.now start begun (given neighbours.old degrees.old waves.old counts.old ranks.old trail.old moved.old tally) }
     requires idle { Idle tally.banks ranks.old queue.old }
     requires unranked { begun ≡ false → Unranked queue.old }
     ensures edits_row { EditsRow list.now v2 start row begun
-        (before neighbours degrees waves counts ranks trail moved tally) result
-        (after neighbours degrees waves counts ranks trail moved result.tally) }
+        (given neighbours.old degrees.old waves.old counts.old ranks.old trail.old moved.old tally) result
+        (given neighbours.new degrees.new waves.new counts.new ranks.new trail.new moved.new result.tally) }
     ensures idle_2 { Idle tally.banks ranks.new queue.new }
     ensures unranked_2 { result.begun ≡ false → Unranked queue.new }
 {

@@ -1,12 +1,10 @@
 -- The N row of a list: where it starts, and what it does.
 use mathlib.Core.Bool.{Bool, true, false}
 use mathlib.Core.List.{List, [], ◌∷◌, map}
-use mathlib.Core.Logic.{⊎_elim, inl, inr}
+use mathlib.Core.Logic.{inl, inr}
 use mathlib.Core.Path.{◌≡◌, refl, sym, ap, ap₂, ◌∙◌}
 use Prim.Native.Nat.{ℕ, zero, suc, ◌+◌, ◌-◌, ◌≤◌, ◌<◌}
 use native.Mathlib.Omega.{arith}
-use types.Run.{OneOf}
-use denote.Enum.Declared.{tag_of}
 use lib.ListN.{length, take, drop, drop_of_length-le}
 use lib.Seq.{take-nil}
 use borrow.Author.Tests.{le-leb, lt-leb}
@@ -21,7 +19,6 @@ use Rattle.text.proofs.Theorems.{rows_at}
 use Rattle.list_rows.specs.declared.row.Row.{Row}
 use Rattle.list_rows.specs.declared.row.Row.TheVariants.{Banks, Edit, Unreadable, Retired}
 use Rattle.list_rows.specs.Rows.{from_parts, row_of, is_v2, retire, say_in, start_v2, from_n, n_row, list_v2}
-use Rattle.list_rows.specs.contracts.row.Row.{the_type}
 use Rattle.list_pass.specs.declared.First.{First}
 use Rattle.list_pass.specs.inner.Steps.{said_rows, StartsAt}
 use Rattle.list_pass.specs.Pass.{ListResult, list_result, reading, pass, begin_by, from_first, from_rows, read_list}
@@ -45,9 +42,9 @@ unfolding from_rows from_first say_in retire row_of from_parts parts
 empty_row i true rs m = refl
 empty_row i false rs m = refl
 
-no_banks : (i : ℕ) (m : Memory) (r : Row) (rs : List Row) → OneOf (1 ∷ 2 ∷ 3 ∷ []) (tag_of the_type r) → list_result (reading 10 i) m ≡ from_first i r rs m
+no_banks : (i : ℕ) (m : Memory) (r : Row) (rs : List Row) → ((n : ℕ) → r ≡ Banks n → ⊥) → list_result (reading 10 i) m ≡ from_first i r rs m
 unfolding from_first
-no_banks i m (Banks n) rs k = absurd (⊎_elim (λ q. omega arith) (λ p. ⊎_elim (λ q. omega arith) (λ q. omega arith) p) k)
+no_banks i m (Banks n) rs k = absurd (k n refl)
 no_banks i m (Edit c) rs k = refl
 no_banks i m Unreadable rs k = refl
 no_banks i m Retired rs k = refl
@@ -76,7 +73,7 @@ module _ (i : ℕ) (v : Bool) (m : Memory) (list : List ℕ) (start e : ℕ) (p 
   row_from = elim (lt_or_ge start (length list)) [ inl h ↦ row_there h | inr h ↦ row_not h ]
 
   -- it is no N row
-  pub first_other : (r : Row) → r ≡ say_in row_of v first → OneOf (1 ∷ 2 ∷ 3 ∷ []) (tag_of the_type r)
+  pub first_other : (r : Row) → r ≡ say_in row_of v first → ((n : ℕ) → r ≡ Banks n → ⊥)
       → list_result (reading 10 i) m ≡ from_rows i (said_rows v (drop start list)) m
   first_other r q k = no_banks i m r later k ∙ ap (λ (x : Row). from_first i x later m) q ∙ sym row_from
 

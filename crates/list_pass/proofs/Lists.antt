@@ -1,8 +1,8 @@
 -- A list from its bytes to its end: what its rows say decides, and its N row opens a plan or the list is refused there.
-use mathlib.Core.Bool.{Bool, true, false, cond, not, ◌&&◌}
+use mathlib.Core.Bool.{Bool, true, false, cond, not}
 use mathlib.Core.List.{List, [], ◌∷◌, map}
 use mathlib.Core.Path.{◌≡◌, refl, sym, ap, ap₂, ◌∙◌}
-use Prim.Native.Nat.{ℕ, zero, suc, ◌+◌, ◌≤◌, ◌<◌}
+use Prim.Native.Nat.{ℕ, zero, suc, ◌≤◌}
 use native.Mathlib.Omega.{arith}
 use lib.Dec.{T, leb}
 use lib.ListN.{length, take}
@@ -24,7 +24,7 @@ use Rattle.list_rows.specs.declared.row.Row.TheVariants.{Banks, Edit, Unreadable
 use Rattle.list_rows.specs.Rows.{row_of, is_v2, retire, retire_change, say_in, from_n, n_row, start_v2, list_v2, rows_by, rows_of, first_row}
 use Rattle.list_rows.specs.Unpadded.{unpadded_row, plain_row}
 use Rattle.list_rows.proofs.Theorems.{row_kept, read_row_kept, v_row}
-use Rattle.list_pass.specs.Pass.{ListResult, list_result, reading, row_number, step, pass_by, pass, begin_by, from_first, from_rows, read_by, read_list}
+use Rattle.list_pass.specs.Pass.{ListResult, list_result, reading, row_number, step, pass_by, pass, begin_by, from_first, from_rows, read_list}
 use Rattle.list_pass.specs.Ends.{after, after_first, after_rows, end_of, FirstOpens, RefusedAfter, read_unpadded, plain_rows, read_versionless, change_d, row_d, no_d, one_on_by, one_on}
 use Rattle.planner.proofs.RanksSet.{Sound}
 use Rattle.list_pass.proofs.Fits.{AllFit, take_fit}

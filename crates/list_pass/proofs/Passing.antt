@@ -1,12 +1,9 @@
 -- A row's edit, and the pass over the rows, as the functions make them.
 use mathlib.Core.Bool.{Bool, true, false}
 use mathlib.Core.List.{List, [], ◌∷◌, map}
-use mathlib.Core.Logic.{⊎_elim}
 use mathlib.Core.Path.{◌≡◌, refl, sym, ap, ◌∙◌}
 use Prim.Native.Nat.{ℕ, zero, suc, ◌+◌, ◌-◌, ◌≤◌, ◌<◌}
 use native.Mathlib.Omega.{arith}
-use types.Run.{OneOf}
-use denote.Enum.Declared.{tag_of}
 use lib.ListN.{length, take, drop, drop_of_length-le}
 use borrow.Author.Tests.{lt-ltb, le-ltb}
 use Rattle.rule.specs.declared.Bank.{Bank}
@@ -26,7 +23,6 @@ use Rattle.list_rows.specs.declared.row.Change.TheVariants.{One, StrikeAll}
 use Rattle.list_rows.specs.declared.row.Row.{Row}
 use Rattle.list_rows.specs.declared.row.Row.TheVariants.{Banks, Edit, Unreadable, Retired}
 use Rattle.list_rows.specs.Rows.{row_of, say_in}
-use Rattle.list_rows.specs.contracts.row.Row.{the_type}
 use Rattle.list_pass.specs.declared.Step.{Step}
 use Rattle.list_pass.specs.Pass.{ListResult, list_result, reading, started, strike_each, change, change_number, row_number, step, pass_by, pass}
 use Rattle.planner.specs.States.{State, make, set_rank, begun_by, enter}
@@ -80,10 +76,10 @@ module _ (begun : Bool) (G : Graph) (m : Memory) (h : Ready G m) (f : Fresh begu
   row_edit c n m' d = record { is = d.is; stands = d.stands }
 
   -- a row that is no edit
-  row_other : (r : Row) → OneOf (0 ∷ 2 ∷ 3 ∷ []) (tag_of the_type r) → RowDone r s₀ (no_edit r) m
+  row_other : (r : Row) → ((c : Change) → r ≡ Edit c → ⊥) → RowDone r s₀ (no_edit r) m
   unfolding row_number step tried no_edit
   row_other (Banks n) k = record { is = refl; stands = record { memory = refl; ready = h; fresh = f } }
-  row_other (Edit c) k = absurd (⊎_elim (λ e. omega arith) (λ p. ⊎_elim (λ e. omega arith) (λ e. omega arith) p) k)
+  row_other (Edit c) k = absurd (k c refl)
   row_other Unreadable k = record { is = refl; stands = record { memory = refl; ready = h; fresh = f } }
   row_other Retired k = record { is = refl; stands = record { memory = refl; ready = h; fresh = f } }
 
@@ -96,12 +92,12 @@ no_edit_some Unreadable z = omega arith
 no_edit_some Retired z = omega arith
 
 -- 11, or 23 for a D row of a V 2 list
-pub no_form : (r : Row) → OneOf (0 ∷ 1 ∷ 2 ∷ []) (tag_of the_type r) → 11 ≡ no_edit r
+pub no_form : (r : Row) → (r ≡ Retired → ⊥) → 11 ≡ no_edit r
 unfolding no_edit
 no_form (Banks n) k = refl
 no_form (Edit c) k = refl
 no_form Unreadable k = refl
-no_form Retired k = absurd (⊎_elim (λ e. omega arith) (λ p. ⊎_elim (λ e. omega arith) (λ e. omega arith) p) k)
+no_form Retired k = absurd (k refl)
 
 -- the answer, by the number of the last row
 pub ending_zero : (n i : ℕ) → n ≡ 0 → reading 0 0 ≡ ending n i
@@ -125,7 +121,7 @@ module _ (list : List ℕ) (v : Bool) (start end : ℕ) (f : Finds list start 10
 
   module _ (i : ℕ) (begun : Bool) (m : Memory) (r : Step) (row : r.row ≡ i) (next : r.next ≡ end + 1) where
     -- it does not read as an edit
-    pub edits_none : (x : Row) → x ≡ say_in row_of v (take (end - start) (drop start list)) → OneOf (0 ∷ 2 ∷ 3 ∷ []) (tag_of the_type x) → r.number ≡ no_edit x
+    pub edits_none : (x : Row) → x ≡ say_in row_of v (take (end - start) (drop start list)) → ((c : Change) → x ≡ Edit c → ⊥) → r.number ≡ no_edit x
         → EditsRow list v start i begun m r m
     edits_none x e k z = record {
       row = row;

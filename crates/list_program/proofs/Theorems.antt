@@ -4,13 +4,10 @@ use mathlib.Core.Path.{◌≡◌, sym}
 use Prim.Native.Nat.{ℕ, ◌≤◌}
 use native.Mathlib.Omega.{arith}
 use lib.ListN.{length}
-use Rattle.rule.specs.Graph.{Graph}
 use Rattle.memory.specs.Cells.{over}
-use Rattle.memory.specs.Plan.{PlanOf}
 use Rattle.list_pass.specs.Pass.{ListResult, read_list}
 use Rattle.list_pass.specs.Ends.{end_of}
 use Rattle.list_pass.proofs.Theorems.{accepted_holds, accepted_fits}
-use Rattle.wave_lines.specs.Calls.{TextResult, text_result, write_text}
 use Rattle.sheet_writer.proofs.Theorems as Sheets
 use Rattle.poster_writer.proofs.Theorems as Posters
 use Rattle.list_program.specs.declared.texts.Text.{Text}

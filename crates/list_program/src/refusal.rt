@@ -1,6 +1,6 @@
 // The answer to a list that was refused.
 ghost use Rattle.std.specs.Prelude.{◌≤◌, length};
-ghost use Rattle.text.specs.Places.{Wrote};
+ghost use Rattle.text.specs.Places.{Puts};
 ghost use Rattle.list_program.specs.Answers.{refusal_text};
 
 use text::{put_byte, put_number, put_text};
@@ -8,7 +8,7 @@ use text::{put_byte, put_number, put_text};
 // Writes `REFUSED c ROW r` to the front of out.
 pub fn put_refusal(out: &mut [u8], number: u16, row: u16) -> usize
     requires { 24 ≤ length out.old }
-    ensures { Wrote (refusal_text number row) 0 out result × (result ≤ length out.new) }
+    ensures { Puts (refusal_text number row) 0 out.old result out.new × (result ≤ length out.new) }
 {
     let c = put_text(out, 0, b"REFUSED ");
     let middle = put_number(out, c, number);

@@ -1,6 +1,6 @@
 // The texts of a plan that a program can print.
+ghost use Rattle.memory.specs.Plan.{slices_of};
 ghost use Rattle.std.specs.Prelude.{◌≡◌};
-ghost use Rattle.memory.specs.Lent.{slices_before};
 ghost use Rattle.wave_lines.specs.Calls.{text_result, write_text};
 ghost use Rattle.list_program.specs.Answers.{text_of};
 
@@ -10,7 +10,7 @@ use sheet_writer::write_sheet;
 use wave_lines::Written;
 
 // Which text.
-#[derive(Drop)]
+#[derive(Clone, Copy)]
 pub enum Text {
     Sheet,
     Poster,
@@ -28,7 +28,7 @@ pub fn write_text(
     out: &mut [u8],
 ) -> Written
     ensures { text_result result out.new
-        ≡ write_text (text_of text) (slices_before neighbours degrees waves counts ranks) tally out.old }
+        ≡ write_text (text_of text) (slices_of neighbours.now degrees.now waves.now counts.now ranks.now) tally out.old }
 {
     match text {
         Text::Sheet => write_sheet(neighbours, degrees, waves, counts, ranks, tally, out),

@@ -1,6 +1,6 @@
 // The pass over a list.
 ghost use Rattle.std.specs.Prelude.{◌≡◌};
-ghost use Rattle.memory.specs.Lent.{before, after};
+ghost use Rattle.memory.specs.Lent.{given};
 ghost use Rattle.list_pass.specs.Pass.{list_result, read_list};
 ghost use Rattle.list_pass.specs.inner.Steps.{AsksBegin, Begins};
 
@@ -24,8 +24,8 @@ pub fn read_list_core(
     moved: &mut [u16],
     tally: Tally,
 ) -> Listed
-    ensures { list_result result.answer (after neighbours degrees waves counts ranks trail moved result.tally)
-        ≡ read_list list.now (before neighbours degrees waves counts ranks trail moved tally) }
+    ensures { list_result result.answer (given neighbours.new degrees.new waves.new counts.new ranks.new trail.new moved.new result.tally)
+        ≡ read_list list.now (given neighbours.old degrees.old waves.old counts.old ranks.old trail.old moved.old tally) }
 {
     if MOST_BYTES < list.len() {
         return Listed {
@@ -70,8 +70,8 @@ fn begin(
 ) -> Listed
     requires { AsksBegin list.now row next }
     ensures { Begins list.now v2 row next banks
-        (before neighbours degrees waves counts ranks trail moved tally) result
-        (after neighbours degrees waves counts ranks trail moved result.tally) }
+        (given neighbours.old degrees.old waves.old counts.old ranks.old trail.old moved.old tally) result
+        (given neighbours.new degrees.new waves.new counts.new ranks.new trail.new moved.new result.tally) }
 {
     let opened = open_all(
         neighbours, degrees, waves, counts, ranks, trail, moved, banks, tally,

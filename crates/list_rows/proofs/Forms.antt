@@ -1,14 +1,10 @@
 -- What the parts of a row read as, test by test.
 use mathlib.Core.Bool.{Bool, true, false, cond, ◌&&◌}
 use mathlib.Core.List.{List, [], ◌∷◌}
-use mathlib.Core.Logic.{⊎_elim}
 use mathlib.Core.Path.{◌≡◌, refl, ap, ◌∙◌}
 use Prim.Native.Nat.{ℕ, ◌+◌, ◌-◌, ◌≤◌, ◌<◌}
-use native.Mathlib.Omega.{arith}
 use lib.Dec.{eqb}
 use lib.ListN.{length, get_or, take, drop}
-use types.Run.{OneOf}
-use denote.Enum.Declared.{tag_of}
 use borrow.Author.Tests.{ne_eqb}
 use Rattle.rule.specs.Numbers.{bank}
 use Rattle.rule.specs.declared.Kind.TheVariants.{Adding, Striking}
@@ -23,8 +19,7 @@ use Rattle.list_rows.specs.declared.row.Change.TheVariants.{One, StrikeAll}
 use Rattle.list_rows.specs.declared.row.Change.{Change}
 use Rattle.list_rows.specs.declared.row.Row.{Row}
 use Rattle.list_rows.specs.declared.row.Row.TheVariants.{Banks, Edit, Unreadable, Retired}
-use Rattle.list_rows.specs.Rows.{is_byte, two_parts, three_parts, from_parts, row_of, is_v2, retire_change, retire, say_in}
-use Rattle.list_rows.specs.contracts.row.Row.{the_type}
+use Rattle.list_rows.specs.Rows.{is_byte, two_parts, three_parts, from_parts, row_of, is_v2, retire, say_in}
 
 module _ (head : List ℕ) (n : Number) where
   pub two_none : n ≡ Nothing → Unreadable ≡ two_parts head n
@@ -132,10 +127,10 @@ module _ (s : List ℕ) where
     v2_digit e f = rw (l, e, f)
 
 -- what a row says in a V 2 list
-pub retire_other : (r : Row) → OneOf (0 ∷ 2 ∷ 3 ∷ []) (tag_of the_type r) → r ≡ retire r
+pub retire_other : (r : Row) → ((x : Change) → r ≡ Edit x → ⊥) → r ≡ retire r
 unfolding retire
 retire_other (Banks n) k = refl
-retire_other (Edit c) k = absurd (⊎_elim (λ q. omega arith) (λ p. ⊎_elim (λ q. omega arith) (λ q. omega arith) p) k)
+retire_other (Edit c) k = absurd (k c refl)
 retire_other Unreadable k = refl
 retire_other Retired k = refl
 

@@ -1,7 +1,7 @@
 -- Rows of the unpadded form read as they did.
 use mathlib.Core.Bool.{◌&&◌}
 use mathlib.Core.List.{List, [], ◌∷◌}
-use mathlib.Core.Path.{◌≡◌, refl, sym, ap, ap₂, ◌∙◌}
+use mathlib.Core.Path.{◌≡◌, refl, ap, ap₂}
 use Prim.Native.Nat.{ℕ}
 use lib.Dec.{T}
 use Rattle.rule.proofs.Booleans.{and_l, and_r}
@@ -11,7 +11,6 @@ use Rattle.text.specs.Text.{parts}
 use Rattle.text.specs.Numbers.{number}
 use Rattle.text.specs.Unpadded.{unpadded_number, is_plain}
 use Rattle.text.proofs.Theorems.{number_kept, number_same}
-use Rattle.list_rows.specs.declared.row.Row.{Row}
 use Rattle.list_rows.specs.declared.row.Row.TheVariants.{Unreadable}
 use Rattle.list_rows.specs.Rows.{two_parts, three_parts, from_parts, row_of}
 use Rattle.list_rows.specs.Unpadded.{unpadded_row, all_plain, plain_row}

@@ -7,14 +7,14 @@ use rule::{Bank, Entry, Kind};
 use text::{Number, find, read_number};
 
 // The edit that a row asks for: one entry, or all clashes of a bank struck.
-#[derive(Drop)]
+#[derive(Clone, Copy)]
 pub enum Change {
     One(Entry),
     StrikeAll(Bank),
 }
 
 // What a row reads as. Retired is the D row of a list that starts with `V 2`.
-#[derive(Drop)]
+#[derive(Clone, Copy)]
 pub enum Row {
     Banks(u16),
     Edit(Change),

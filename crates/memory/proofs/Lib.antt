@@ -1,5 +1,4 @@
--- Theorems: what to cite. Fronts, Parts, Standing: laws of slices and counts, for the layer above too. Thin: functions that are
--- lent the tally. The others: the proofs.
+-- Theorems: what to cite. Fronts, Parts, Standing: laws of slices and counts, for the layer above too. The others: the proofs.
 pub mod Theorems
 pub mod Fronts
 pub mod Parts
@@ -16,4 +15,3 @@ pub mod ClashPairs
 pub mod Apart
 pub mod Tested
 pub mod Question
-pub mod Thin

@@ -1,12 +1,11 @@
 -- What the code tests is true exactly if memory holds the plan of the clashes that its rows name.
-use mathlib.Core.Bool.{Bool, true, false, not}
+use mathlib.Core.Bool.{Bool, true, false}
 use mathlib.Core.List.{List, map}
 use mathlib.Core.Logic.{inl, inr}
 use mathlib.Core.Path.{◌≡◌, refl, sym, ap, ◌∙◌, subst}
 use Prim.Native.Nat.{ℕ, zero, suc, ◌+◌, ◌-◌, ◌≤◌, ◌<◌}
 use native.Mathlib.Omega.{arith}
 use borrow.Author.Count.{below_more}
-use borrow.Author.Tests.{not_true, not_false}
 use lib.Dec.{T}
 use lib.ListN.{get_or}
 use Rattle.rule.specs.Lists.{memb}
@@ -29,12 +28,12 @@ use Rattle.memory.proofs.Rows.{group_at, in_rows, rowed, row_right-law}
 use Rattle.memory.proofs.Tallies.{shown, counts_are}
 use Rattle.memory.proofs.Sums.{clash_count_is, wave_count_is}
 
--- a test's answer, where the code tests its denial
-pub granted : (P : Type 0) (r : Bool) → Says P r → not r ≡ false → P
-granted P r s e = subst (λ (b : Bool). Says P b) (not_false r e) s
+-- a test's answer
+pub granted : (P : Type 0) (r : Bool) → Says P r → r ≡ true → P
+granted P r s e = subst (λ (b : Bool). Says P b) e s
 
-pub denied : (P : Type 0) (r : Bool) → Says P r → not r ≡ true → P → ⊥
-denied P r s e = subst (λ (b : Bool). Says P b) (not_true r e) s
+pub denied : (P : Type 0) (r : Bool) → Says P r → r ≡ false → P → ⊥
+denied P r s e = subst (λ (b : Bool). Says P b) e s
 
 -- u of m cells passed, and all did exactly if u is m; the next cell passes, or not, or is not counted
 abbrev pub Passed : Type 0 → ℕ → ℕ → Type 0

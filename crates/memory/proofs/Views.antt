@@ -1,6 +1,5 @@
 -- Memory that holds a plan, and the plan's cells as facts: the one gives the other.
 use mathlib.Core.Path.{◌≡◌, ap}
-use mathlib.Core.List.{List}
 use Prim.Native.Nat.{ℕ, ◌*◌, ◌<◌}
 use native.Mathlib.Omega.{arith}
 use lib.ListN.{get_or}

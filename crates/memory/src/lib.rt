@@ -1,4 +1,6 @@
 // Plan memory: what its cells hold. `plan_test` has the test whether they hold a plan.
+#![tactic(auto)]
+
 mod count;
 mod order;
 mod put;
@@ -10,7 +12,7 @@ pub use put::put_front;
 pub use room::long_enough;
 
 // The record that the caller owns and each edit brings up to date. The cap is the most waves that edits may lead to.
-#[derive(Drop)]
+#[derive(Clone, Copy)]
 pub struct Tally {
     pub banks: u16,
     pub clashes: u16,

@@ -1,7 +1,6 @@
 // Question 4 of the five slices of plan memory.
 ghost use Rattle.std.specs.Prelude.{◌≡◌};
-ghost use Rattle.memory.specs.Plan.{long_enough};
-ghost use Rattle.memory.specs.Lent.{slices_before};
+ghost use Rattle.memory.specs.Plan.{long_enough, slices_of};
 
 use rule::{COUNT_CELLS, ROW_CELLS, wide};
 
@@ -14,7 +13,7 @@ pub fn long_enough(
     ranks: &[u16],
     banks: u16,
 ) -> bool
-    ensures { result ≡ long_enough banks (slices_before neighbours degrees waves counts ranks) }
+    ensures { result ≡ long_enough banks (slices_of neighbours.now degrees.now waves.now counts.now ranks.now) }
 {
     let n = wide(banks);
     if neighbours.len() < n * ROW_CELLS {

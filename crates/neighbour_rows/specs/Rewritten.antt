@@ -6,7 +6,6 @@ use Rattle.rule.specs.declared.Kind.{Kind}
 use Rattle.memory.specs.Cells.{Beyond}
 use Rattle.memory.specs.inner.View.{Rowed}
 use Rattle.neighbour_rows.specs.declared.clash.Degrees.{Degrees}
-use Rattle.memory.specs.Lent.{Lent}
 use Rattle.neighbour_rows.specs.Acceptable.{Acceptable}
 
 -- rows and degrees are those of G after the edit of a and b, whose degrees before it are r
@@ -22,7 +21,5 @@ abbrev pub Changeable : Kind → List ℕ → List ℕ → ℕ → ℕ → Type 
 Changeable k ns ds a b = (G : Graph) × Rowed G ns ds × Acceptable k G a b
 
 -- they are rewritten, whichever clashes these are
-abbrev pub ChangesClash : Kind → Lent → Lent → ℕ → ℕ → Degrees → Type 0
-ChangesClash k ns ds a b r =
-    (G : Graph) → Rowed G ns.entry.now ds.entry.now → Acceptable k G a b
-    → Rewritten k G a b ns.entry.now ds.entry.now ns.exit.now ds.exit.now r
+abbrev pub ChangesClash : Kind → List ℕ → List ℕ → List ℕ → List ℕ → ℕ → ℕ → Degrees → Type 0
+ChangesClash k ns ds ns' ds' a b r = (G : Graph) → Rowed G ns ds → Acceptable k G a b → Rewritten k G a b ns ds ns' ds' r

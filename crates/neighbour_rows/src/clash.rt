@@ -6,7 +6,7 @@ use crate::row::change_row;
 use rule::{Bank, Kind, ROW_CELLS};
 
 // The degrees of the two banks of an edit, before it.
-#[derive(Drop)]
+#[derive(Clone, Copy)]
 pub struct Degrees {
     pub a: u16,
     pub b: u16,
@@ -21,7 +21,7 @@ fn change_neighbour(
     v: Bank,
 ) -> u16
     requires { NeighbourReady kind neighbours.old degrees.old b.0 v.0 }
-    ensures { NeighbourChanged kind neighbours degrees b.0 v.0 result }
+    ensures { NeighbourChanged kind neighbours.old degrees.old neighbours.new degrees.new b.0 v.0 result }
 {
     let at = b.0 as usize;
     let start = at * ROW_CELLS;
@@ -41,7 +41,7 @@ pub fn change_clash(
     b: Bank,
 ) -> Degrees
     requires { Changeable kind neighbours.old degrees.old a.0 b.0 }
-    ensures { ChangesClash kind neighbours degrees a.0 b.0 result }
+    ensures { ChangesClash kind neighbours.old degrees.old neighbours.new degrees.new a.0 b.0 result }
 {
     let old_a = change_neighbour(kind, neighbours, degrees, a, b);
     let old_b = change_neighbour(kind, neighbours, degrees, b, a);

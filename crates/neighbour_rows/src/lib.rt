@@ -1,4 +1,6 @@
 // Rows and degrees of Neighbours when one clash is added or struck.
+#![tactic(auto)]
+
 mod clash;
 mod row;
 

@@ -1,6 +1,7 @@
 // The call open, and opening for a pass over edits.
+ghost use Rattle.memory.specs.Plan.{slices_of};
 ghost use Rattle.std.specs.Prelude.{◌≡◌, ◌++◌, ◌≤◌, min, length, drop, replicate};
-ghost use Rattle.memory.specs.Lent.{slices_before, slices_after, before, after};
+ghost use Rattle.memory.specs.Lent.{given};
 ghost use Rattle.planner.specs.Calls.{open_result, opened};
 ghost use Rattle.planner.specs.inner.Held.{OpensAll, room_number};
 
@@ -41,8 +42,8 @@ pub fn open_core(
     banks: u16,
     tally: Tally,
 ) -> Opened
-    ensures { open_result result.number (slices_after neighbours degrees waves counts ranks) result.tally
-        ≡ opened banks (slices_before neighbours degrees waves counts ranks) tally }
+    ensures { open_result result.number (slices_of neighbours.new degrees.new waves.new counts.new ranks.new) result.tally
+        ≡ opened banks (slices_of neighbours.old degrees.old waves.old counts.old ranks.old) tally }
 {
     let n = wide(banks);
     if MOST_BANKS < n {
@@ -103,8 +104,8 @@ pub fn open_all(
     tally: Tally,
 ) -> Opened
     ensures { OpensAll banks
-        (before neighbours degrees waves counts ranks trail moved tally) result
-        (after neighbours degrees waves counts ranks trail moved result.tally) }
+        (given neighbours.old degrees.old waves.old counts.old ranks.old trail.now moved.now tally) result
+        (given neighbours.new degrees.new waves.new counts.new ranks.new trail.now moved.now result.tally) }
 {
     let number = room_number(banks, trail.len(), moved.len());
     if number != 0 {

@@ -9,7 +9,6 @@ use native.Mathlib.Decide.{ℕ_discrete}
 use native.Mathlib.Nat.{eq-or-lt_of_le}
 use native.Mathlib.Numerals.{add-one}
 use native.Mathlib.Omega.{arith}
-use borrow.Author.Tests.{not_true, not_false}
 use lib.Dec.{T, eqb, eqb→eq}
 use lib.ListN.{length, get_or, take, set, length-append, length-set, length-take, replicate, length-replicate, get_or-replicate, get_or-append}
 use lib.Seq.{get_or-take, get_or-set_same, get_or-set_other, get_or_at, length-take-le}
@@ -411,10 +410,10 @@ module _ {ns ds rs ws cs cl : List ℕ} {n b : ℕ} (l : n ≤ b) (s : Seen ns d
   seen_end counts true t = (λ x y hx hy m. s.met x y (omega arith) hy m, λ x h. part_along (λ c k. cell_is x c h k) (s.ground.waves.small x h) (t x h))
   seen_end counts false t = λ p. t (λ x h. part_along (λ c k. sym (cell_is x c h k)) (s.ground.waves.small x h) (p.1 x h))
 
--- the answer, where the code tests its denial
+-- the answer, as the code tests it
 module _ (state : Type 0) (ns : List ℕ) (n : ℕ) (q : Bool) (h : OrNot state ns n q) where
-  pub goes_on : not q ≡ false → state
-  goes_on e = subst (λ (z : Bool). OrNot state ns n z) (not_false q e) h
+  pub goes_on : q ≡ true → state
+  goes_on e = subst (λ (z : Bool). OrNot state ns n z) e h
 
-  pub is_not : not q ≡ true → Symmetric ns n → ⊥
-  is_not e = subst (λ (z : Bool). OrNot state ns n z) (not_true q e) h
+  pub is_not : q ≡ false → Symmetric ns n → ⊥
+  is_not e = subst (λ (z : Bool). OrNot state ns n z) e h

@@ -1,4 +1,6 @@
 // Question 5: the test whether lent memory holds a plan.
+#![tactic(auto)]
+
 mod test;
 mod walk;
 

@@ -1,9 +1,8 @@
 // Question 5: whether lent memory holds a plan. Each bank is tested from the cells alone; no plan is worked out.
 ghost use Rattle.std.specs.Prelude.{true, ◌≡◌, ℕ, ◌+◌, ◌*◌, ◌≤◌, ◌<◌, length, get_or};
-ghost use Rattle.memory.specs.Plan.{long_enough, is_plan, cap_fits, holds};
-ghost use Rattle.memory.specs.Lent.{slices_given, slices_before};
-ghost use Rattle.memory.specs.inner.Test.{Says, row, part, Named, RowRight, RowsRight, Rows, Symmetric, Lowest};
-ghost use Rattle.memory.specs.inner.Test.{PartRight, CellsRight, CountsRight, ClashesRight, Under, Small, WavesSmall, sum};
+ghost use Rattle.memory.specs.Plan.{long_enough, is_plan, cap_fits, holds, slices_of};
+ghost use Rattle.memory.specs.inner.Test.{Says, row, part, Named, RowRight, RowsRight, Rows, Lowest};
+ghost use Rattle.memory.specs.inner.Test.{PartRight, CellsRight, ClashesRight, Under, Small, WavesSmall, sum};
 
 use crate::walk::{ALL_COUNTS, row_matched};
 use memory::{Tally, wave_count};
@@ -232,7 +231,7 @@ fn clashes_right(
     requires waves_small { WavesSmall waves.now banks }
     requires banks_in_bounds { 24 * banks ≤ length counts.now }
     requires banks_in_bounds_2 { banks ≤ length ranks.now }
-    ensures { Says (ClashesRight (slices_before neighbours degrees waves counts ranks) banks) result }
+    ensures { Says (ClashesRight (slices_of neighbours.now degrees.now waves.now counts.now ranks.now) banks) result }
 {
     let mut cursors = [0u16; MOST_BANKS];
     let mut cells = [0u16; ALL_COUNTS];
@@ -282,8 +281,8 @@ fn is_plan(
     tally: Tally,
 ) -> bool
     requires banks_bound { tally.banks ≤ 1024 }
-    requires ranks_value { long_enough tally.banks (slices_given neighbours degrees waves counts ranks) ≡ true }
-    ensures { result ≡ is_plan (slices_before neighbours degrees waves counts ranks) tally }
+    requires ranks_value { long_enough tally.banks (slices_of neighbours.now degrees.now waves.now counts.now ranks.now) ≡ true }
+    ensures { result ≡ is_plan (slices_of neighbours.now degrees.now waves.now counts.now ranks.now) tally }
 {
     let banks = tally.banks;
     if !rows_right(neighbours, degrees, banks) {
@@ -333,8 +332,8 @@ pub fn holds_plan(
     tally: Tally,
 ) -> bool
     requires banks_bound { tally.banks ≤ 1024 }
-    requires ranks_value { long_enough tally.banks (slices_given neighbours degrees waves counts ranks) ≡ true }
-    ensures { result ≡ holds (slices_before neighbours degrees waves counts ranks) tally }
+    requires ranks_value { long_enough tally.banks (slices_of neighbours.now degrees.now waves.now counts.now ranks.now) ≡ true }
+    ensures { result ≡ holds (slices_of neighbours.now degrees.now waves.now counts.now ranks.now) tally }
 {
     if !cap_fits(tally) {
         return false;

@@ -5,7 +5,7 @@ use mathlib.Core.Logic.{inl, inr, ◌≢◌}
 use mathlib.Core.Path.{◌≡◌, refl, sym, ap, ◌∙◌}
 use native.Mathlib.Decide.{ℕ_discrete}
 use native.Mathlib.Omega.{arith}
-use Prim.Native.Nat.{ℕ, zero, suc, ◌+◌, ◌*◌, ◌≤◌, ◌<◌}
+use Prim.Native.Nat.{ℕ, ◌≤◌, ◌<◌}
 use lib.Dec.{T, eqb, T_not}
 use lib.ListN.{length, get_or}
 use Rattle.rule.specs.Graph.{Graph, neighbours, degree, earlier, earlier_neighbours, pair, added, struck, Same}
@@ -22,7 +22,7 @@ use Rattle.rule.proofs.Pairs.{pair_is, pair_here}
 use Rattle.rule.proofs.Turned.{edited_one, on_trail_taken}
 use Rattle.rule.proofs.Theorems.{off_trail}
 use Rattle.memory.specs.inner.Counts.{standing}
-use Rattle.memory.specs.Plan.{Slices, long_enough, tally_of, plan_in, graph_in, Clashes, PlanOf}
+use Rattle.memory.specs.Plan.{Slices, long_enough, tally_of, plan_in, Clashes, PlanOf}
 use Rattle.memory.specs.PlanCells.{SameCells}
 use Rattle.memory.specs.inner.View.{Held}
 use Rattle.memory.proofs.Plans.{plan_over, long_again}

@@ -1,17 +1,15 @@
 -- What an edit of memory that holds a plan leaves, refused and accepted.
 use mathlib.Core.Bool.{◌&&◌, not}
-use mathlib.Core.List.{List, [], ◌∷◌}
+use mathlib.Core.List.{[], ◌∷◌}
 use mathlib.Core.Logic.{◌≢◌}
 use mathlib.Core.Path.{◌≡◌, refl, sym, ap, ap₂, ◌∙◌}
-use native.Mathlib.Omega.{arith}
-use Prim.Native.Nat.{ℕ, zero, suc, ◌≤◌, ◌<◌}
+use Prim.Native.Nat.{ℕ, zero, suc, ◌<◌}
 use lib.Dec.{T, ltb, eqb}
-use lib.ListN.{length}
 use Rattle.rule.specs.Graph.{Graph, degree}
 use Rattle.rule.specs.WorkList.{Allowed}
-use borrow.Author.Tests.{ltb-true, eqb-false, not_true}
+use borrow.Author.Tests.{ltb-true, eqb-false, not-true}
 use Rattle.planner.specs.Questions.{first_no}
-use Rattle.rule.specs.Reach.{edited, changed, on_trail, trail, moved}
+use Rattle.rule.specs.Reach.{edited, trail, moved}
 use Rattle.rule.specs.declared.Kind.{Kind}
 use Rattle.rule.specs.declared.Kind.TheVariants.{Adding, Striking}
 use Rattle.memory.specs.declared.Tally.{Tally}
@@ -19,7 +17,7 @@ use Rattle.edits.specs.declared.edit.Accepted.{Accepted}
 use Rattle.edits.specs.Edits.{HasRoom, Acceptable, Editable, Result}
 use Rattle.planner.specs.declared.Answer.{Answer}
 use Rattle.planner.specs.declared.Edited.{Edited}
-use Rattle.memory.specs.Memory.{Memory, memory_of}
+use Rattle.memory.specs.Memory.{Memory}
 use Rattle.planner.specs.Calls.{edit_result, no_edit, refused, accepted, clash_questions, edit_number, edit_by, edit_of}
 use Rattle.memory.specs.Memory.{Ready}
 use Rattle.planner.specs.inner.Held.{graph_by, graph_after, EditMade}
@@ -39,7 +37,7 @@ module _ (G : Graph) (a b : ℕ) where
       let r = none (not (eqb a b)) 4 (clash_questions k (G.clash a b) (degree G a) (degree G b)) q.1 in
       let u = both_true (ltb a N) (ltb b N) q.0 in
       let w = clashes k r.1 in
-      record { bank_a = ltb-true a N u.0; bank_b = ltb-true b N u.1; differ = eqb-false a b (not_true (eqb a b) r.0); allowed = w.0; room = w.1 }
+      record { bank_a = ltb-true a N u.0; bank_b = ltb-true b N u.1; differ = eqb-false a b (not-true (eqb a b) r.0); allowed = w.0; room = w.1 }
     where
       clashes : (k : Kind) → first_no (clash_questions k (G.clash a b) (degree G a) (degree G b)) ≡ 0 → Allowed k G a b × HasRoom k G a b
       clashes Adding e = unfold clash_questions in free (unfold clash_questions in e)
@@ -50,7 +48,7 @@ module _ (G : Graph) (a b : ℕ) where
               let r = none (not (G.clash a b)) 5 (record { holds = ltb (degree G a) 23 && ltb (degree G b) 23; number = 8 } ∷ []) e in
               let u = none (ltb (degree G a) 23 && ltb (degree G b) 23) 7 [] r.1 in
               let w = both_true (ltb (degree G a) 23) (ltb (degree G b) 23) u.0 in
-              (t_along (not_true (G.clash a b) r.0), (ltb-true (degree G a) 23 w.0, ltb-true (degree G b) 23 w.1))
+              (t_along (not-true (G.clash a b) r.0), (ltb-true (degree G a) 23 w.0, ltb-true (degree G b) 23 w.1))
       clashes Striking e = there (unfold clash_questions in e)
         where
           there : first_no (record { holds = G.clash a b; number = 7 } ∷ []) ≡ 0 → T (G.clash a b) × Unit {0}

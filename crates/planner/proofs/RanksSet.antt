@@ -8,7 +8,7 @@ use native.Mathlib.Omega.{arith}
 use lib.Dec.{eqb, ltb}
 use lib.ListN.{length, get_or, set, length-set}
 use lib.Seq.{get_or-set_same, get_or-set_other}
-use borrow.Author.Tests.{eq-eqb, ne_eqb, lt-ltb, le-ltb, not_true, ltb-true}
+use borrow.Author.Tests.{eq-eqb, ne_eqb, lt-ltb, le-ltb, not-true, ltb-true}
 use Rattle.rule.specs.Graph.{Graph, neighbours, degree, ranked}
 use Rattle.rule.specs.Wave.{waves}
 use Rattle.rule.specs.declared.Bank.{Bank}
@@ -17,11 +17,11 @@ use Rattle.rule.specs.declared.Entry.{Entry}
 use Rattle.rule.specs.declared.Entry.TheVariants.{Clash, Rank}
 use Rattle.memory.specs.declared.Tally.{Tally}
 use Rattle.memory.specs.Cells.{over}
-use Rattle.memory.specs.Plan.{Slices, slices_of, neighbour_cells, degree_cells, count_cells, rank_cells, tally_of, plan_in, Clashes, PlanOf}
+use Rattle.memory.specs.Plan.{Slices, slices_of, rank_cells, tally_of, plan_in, Clashes, PlanOf}
 use Rattle.memory.specs.Memory.{Memory, memory_of, Ready}
 use Rattle.memory.proofs.Cells.{cells_over}
 use Rattle.memory.proofs.Views.{fronts_of}
-use Rattle.memory.proofs.Theorems.{held_of, plan_of}
+use Rattle.memory.proofs.Theorems.{held_of}
 use Rattle.planner.specs.declared.Edited.{Edited}
 use Rattle.planner.specs.Questions.{first_no}
 use Rattle.rule.specs.Reach.{edited}
@@ -138,7 +138,7 @@ rank_passed : (begun : Bool) (b n : ℕ) → rank_number begun b n ≡ 0 → (be
 rank_passed begun b n z =
     let p = none (not begun) 17 (record { holds = ltb b n; number = 4 } ∷ []) z in
     let q = none (ltb b n) 3 [] p.1 in
-    (not_true begun p.0, ltb-true b n q.0)
+    (not-true begun p.0, ltb-true b n q.0)
 
 -- an entry to which no refusal is due keeps it so
 pub enter_sound : (e : Entry) (s : State) → Sound s → RankFits e → entry_number e s ≡ 0 → Sound (enter e s)

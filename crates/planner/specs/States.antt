@@ -1,5 +1,5 @@
 -- Where a pass over entries stands, a list's or a journal's: it opens a plan, then sets ranks and makes edits in turn.
-use Rattle.std.specs.Prelude.{Bool, true, false, not, List, [], ◌∷◌, ℕ, ltb, leb}
+use Rattle.std.specs.Prelude.{Bool, true, false, not, [], ◌∷◌, ℕ, ltb, leb}
 use Rattle.rule.specs.Graph.{Graph, empty, ranked}
 use Rattle.rule.specs.Reach.{edited}
 use Rattle.rule.specs.declared.Kind.{Kind}

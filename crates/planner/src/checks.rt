@@ -1,6 +1,7 @@
 // The questions about lent memory: 3, 4, 5 and 7. Each function answers 0, or the number of the first no.
+ghost use Rattle.memory.specs.Plan.{slices_of};
 ghost use Rattle.std.specs.Prelude.{◌≡◌, ◌<◌};
-ghost use Rattle.memory.specs.Lent.{slices_before, before};
+ghost use Rattle.memory.specs.Lent.{given};
 ghost use Rattle.planner.specs.Calls.{plan_number, bank_number, memory_number};
 ghost use Rattle.planner.specs.inner.Held.{PlanIn, ReadyIn};
 
@@ -17,8 +18,8 @@ pub fn check_plan(
     ranks: &[u16],
     tally: Tally,
 ) -> u16
-    ensures number { result ≡ plan_number (slices_before neighbours degrees waves counts ranks) tally }
-    ensures plan { result ≡ 0 → PlanIn (slices_before neighbours degrees waves counts ranks) tally }
+    ensures number { result ≡ plan_number (slices_of neighbours.now degrees.now waves.now counts.now ranks.now) tally }
+    ensures plan { result ≡ 0 → PlanIn (slices_of neighbours.now degrees.now waves.now counts.now ranks.now) tally }
 {
     let banks = tally.banks;
     if MOST_BANKS < wide(banks) {
@@ -43,8 +44,8 @@ pub fn check_bank(
     tally: Tally,
     b: Bank,
 ) -> u16
-    ensures number { result ≡ bank_number b.0 (slices_before neighbours degrees waves counts ranks) tally }
-    ensures plan { result ≡ 0 → PlanIn (slices_before neighbours degrees waves counts ranks) tally × (b.0 < tally.banks) }
+    ensures number { result ≡ bank_number b.0 (slices_of neighbours.now degrees.now waves.now counts.now ranks.now) tally }
+    ensures plan { result ≡ 0 → PlanIn (slices_of neighbours.now degrees.now waves.now counts.now ranks.now) tally × (b.0 < tally.banks) }
 {
     let number = check_plan(neighbours, degrees, waves, counts, ranks, tally);
     if number != 0 {
@@ -67,8 +68,8 @@ pub fn check_memory(
     moved: &[u16],
     tally: Tally,
 ) -> u16
-    ensures number { result ≡ memory_number (before neighbours degrees waves counts ranks trail moved tally) }
-    ensures ready { result ≡ 0 → ReadyIn (before neighbours degrees waves counts ranks trail moved tally) }
+    ensures number { result ≡ memory_number (given neighbours.now degrees.now waves.now counts.now ranks.now trail.now moved.now tally) }
+    ensures ready { result ≡ 0 → ReadyIn (given neighbours.now degrees.now waves.now counts.now ranks.now trail.now moved.now tally) }
 {
     let n = wide(tally.banks);
     if MOST_BANKS < n {

@@ -1,5 +1,7 @@
 // The planner: the questions that its calls ask of lent memory, what they answer, and reading a plan. `opening` opens one, `held_edits` and `entries`
 // change one that is known to be held, `edit_calls` has the calls.
+#![tactic(auto)]
+
 mod checks;
 mod reading;
 
@@ -7,7 +9,7 @@ pub use checks::{check_memory, check_plan};
 pub use reading::{clashes_held, clashes_of, wave_of};
 
 // The answer of an edit: 01's number, and how many banks moved and were taken up.
-#[derive(Drop)]
+#[derive(Clone, Copy)]
 pub struct Answer {
     pub number: u16,
     pub moved: u16,
@@ -15,21 +17,21 @@ pub struct Answer {
 }
 
 // What an edit leaves beside its slices.
-#[derive(Drop)]
+#[derive(Clone, Copy)]
 pub struct Edited {
     pub answer: Answer,
     pub tally: memory::Tally,
 }
 
 // What opening leaves beside its slices.
-#[derive(Drop)]
+#[derive(Clone, Copy)]
 pub struct Opened {
     pub number: u16,
     pub tally: memory::Tally,
 }
 
 // The answer of wave_of.
-#[derive(Drop)]
+#[derive(Clone, Copy)]
 pub struct Found {
     pub number: u16,
     pub wave: rule::Wave,

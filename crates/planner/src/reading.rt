@@ -1,8 +1,7 @@
 // The calls that only read: the wave of a bank and its clashes.
 ghost use Rattle.std.specs.Prelude.{◌≡◌, ◌<◌};
 ghost use Rattle.rule.specs.Graph.{Graph, neighbours as neighboursOf};
-ghost use Rattle.memory.specs.Plan.{PlanOf};
-ghost use Rattle.memory.specs.Lent.{slices_given, slices_before};
+ghost use Rattle.memory.specs.Plan.{PlanOf, slices_of};
 ghost use Rattle.planner.specs.Calls.{bank_number, wave_of, clashes_of};
 
 use crate::Found;
@@ -20,8 +19,8 @@ pub fn wave_of(
     tally: Tally,
     b: Bank,
 ) -> Found
-    ensures number { result.number ≡ bank_number b.0 (slices_before neighbours degrees waves counts ranks) tally }
-    ensures wave { result.wave.0 ≡ wave_of b.0 (slices_before neighbours degrees waves counts ranks) tally }
+    ensures number { result.number ≡ bank_number b.0 (slices_of neighbours.now degrees.now waves.now counts.now ranks.now) tally }
+    ensures wave { result.wave.0 ≡ wave_of b.0 (slices_of neighbours.now degrees.now waves.now counts.now ranks.now) tally }
 {
     let number = check_bank(neighbours, degrees, waves, counts, ranks, tally, b);
     if number != 0 {
@@ -47,9 +46,9 @@ pub fn clashes_held<'a>(
     tally: Tally,
     b: Bank,
 ) -> &'a [u16]
-    requires { ((G : Graph) × PlanOf G (slices_given neighbours degrees waves counts ranks) tally) × (b.0 < tally.banks) }
+    requires { ((G : Graph) × PlanOf G (slices_of neighbours.now degrees.now waves.now counts.now ranks.now) tally) × (b.0 < tally.banks) }
     ensures { (G : Graph)
-        → PlanOf G (slices_before neighbours degrees waves counts ranks) tally
+        → PlanOf G (slices_of neighbours.now degrees.now waves.now counts.now ranks.now) tally
         → result.now ≡ neighboursOf G b.0 }
 {
     let at = wide(b.0);
@@ -68,7 +67,7 @@ pub fn clashes_of<'a>(
     tally: Tally,
     b: Bank,
 ) -> &'a [u16]
-    ensures { result.now ≡ clashes_of b.0 (slices_before neighbours degrees waves counts ranks) tally }
+    ensures { result.now ≡ clashes_of b.0 (slices_of neighbours.now degrees.now waves.now counts.now ranks.now) tally }
 {
     if check_bank(neighbours, degrees, waves, counts, ranks, tally, b) != 0 {
         return &neighbours[0..0];

@@ -1,6 +1,8 @@
 // Reads a list from standard input, and writes its poster or its refusal to standard output.
+#![tactic(auto)]
+
 use list_program::{Text, run};
 
-fn main() {
-    run(Text::Poster);
+fn main(rt: HostRuntime) {
+    run(&rt, Text::Poster);
 }

@@ -1,4 +1,6 @@
 // The lines of the poster: the lines of one wave with its banks in columns, the line of the foot, and the filling lines.
+#![tactic(auto)]
+
 mod column;
 mod lines;
 

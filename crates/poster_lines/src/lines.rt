@@ -1,7 +1,7 @@
 // The lines of one wave, the foot and the filling. Each function writes at `at` and answers the place after what it wrote.
 ghost use Rattle.std.specs.Prelude.{[], map, ◌≡◌, ◌+◌, ◌*◌, ◌/◌, ◌≤◌, ◌<◌, min, length, get_or, replicate};
 ghost use Rattle.text.specs.Text.{joined};
-ghost use Rattle.text.specs.Places.{Room, Wrote};
+ghost use Rattle.text.specs.Places.{Room, Puts};
 ghost use Rattle.wave_lines.specs.Lines.{letters};
 ghost use Rattle.wave_lines.specs.Foot.{foot_text};
 ghost use Rattle.poster_lines.specs.Poster.{right_aligned, padded, poster_line, foot_line};
@@ -19,7 +19,7 @@ const LINE_BANKS: usize = 7;
 // Banks, each in its five columns.
 fn put_banks(out: &mut [u8], at: usize, banks: &[u16]) -> usize
     requires { Small banks.now × (at + 5 * length banks.now ≤ length out.old) }
-    ensures { Wrote (joined (map right_aligned banks.now)) at out result }
+    ensures { Puts (joined (map right_aligned banks.now)) at out.old result out.new }
 {
     let mut next = at;
     let mut i = 0;
@@ -33,7 +33,7 @@ fn put_banks(out: &mut [u8], at: usize, banks: &[u16]) -> usize
 // A line: its mark, a space, its banks, and its end.
 fn put_line(out: &mut [u8], at: usize, mark: u8, banks: &[u16]) -> usize
     requires { Small banks.now × (length banks.now ≤ 7) × (at + 41 ≤ length out.old) }
-    ensures { Wrote (poster_line mark banks.now) at out result }
+    ensures { Puts (poster_line mark banks.now) at out.old result out.new }
 {
     let space = put_byte(out, at, mark);
     let first = put_byte(out, space, b' ');
@@ -71,7 +71,7 @@ fn put_line_at(out: &mut [u8], at: usize, c: Wave, banks: &[u16], i: usize) -> u
         × (length banks.now ≤ 1024)
         × (7 * i < length banks.now)
         × (at + 41 ≤ length out.old) }
-    ensures { Wrote (get_or (lines_with c.0 banks.now) i []) at out result }
+    ensures { Puts (get_or (lines_with c.0 banks.now) i []) at out.old result out.new }
 {
     let from = LINE_BANKS * i;
     let to = line_end(from, banks.len());
@@ -91,8 +91,8 @@ pub fn put_wave(out: &mut [u8], at: usize, c: Wave, banks: &[u16]) -> usize
     requires { (c.0 < 24)
         × Small banks.now
         × (length banks.now ≤ 1024)
-        × Room (joined (lines_with c.0 banks.now)) at out }
-    ensures { Wrote (joined (lines_with c.0 banks.now)) at out result }
+        × Room (joined (lines_with c.0 banks.now)) at out.old }
+    ensures { Puts (joined (lines_with c.0 banks.now)) at out.old result out.new }
 {
     let lines = lines_for(banks.len());
     let mut next = at;
@@ -107,7 +107,7 @@ pub fn put_wave(out: &mut [u8], at: usize, c: Wave, banks: &[u16]) -> usize
 // The foot of a plan with this tally, and its end.
 pub fn put_foot_line(out: &mut [u8], at: usize, tally: Tally) -> usize
     requires { (length (foot_text tally.banks tally.clashes) ≤ 40) × (at + 41 ≤ length out.old) }
-    ensures { Wrote (foot_line tally.banks tally.clashes) at out result }
+    ensures { Puts (foot_line tally.banks tally.clashes) at out.old result out.new }
 {
     let end = put_foot(out, at, tally);
     put_end(out, end, end - at)
@@ -116,7 +116,7 @@ pub fn put_foot_line(out: &mut [u8], at: usize, tally: Tally) -> usize
 // Lines of 40 spaces.
 pub fn put_blank_lines(out: &mut [u8], at: usize, count: usize) -> usize
     requires { at + 41 * count ≤ length out.old }
-    ensures { Wrote (joined (replicate count (padded []))) at out result }
+    ensures { Puts (joined (replicate count (padded []))) at out.old result out.new }
 {
     let mut next = at;
     let mut i = 0;

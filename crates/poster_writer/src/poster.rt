@@ -1,6 +1,6 @@
 // Writing the poster of a plan.
+ghost use Rattle.memory.specs.Plan.{slices_of};
 ghost use Rattle.std.specs.Prelude.{◌≡◌};
-ghost use Rattle.memory.specs.Lent.{slices_before};
 ghost use Rattle.wave_lines.specs.Calls.{text_result};
 ghost use Rattle.poster_writer.specs.Calls.{write_poster};
 
@@ -30,7 +30,7 @@ pub fn write_poster(
 ) -> Written
     ensures { text_result result out.new
         ≡ write_poster
-        (slices_before neighbours degrees waves counts ranks)
+        (slices_of neighbours.now degrees.now waves.now counts.now ranks.now)
         tally
         out.old }
 {

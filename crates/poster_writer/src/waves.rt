@@ -1,6 +1,6 @@
 // The waves of a plan: the banks of each, ascending, and the lines that they take.
 ghost use Rattle.std.specs.Prelude.{cond, [], ◌∷◌, ◌≡◌, ◌+◌, ◌*◌, ◌≤◌, ◌<◌, eqb, length};
-ghost use Rattle.text.specs.Places.{Room, Wrote};
+ghost use Rattle.text.specs.Places.{Room, Puts};
 ghost use Rattle.wave_lines.specs.inner.Cells.{members_of};
 ghost use Rattle.poster_lines.specs.inner.Lines.{lines_with};
 ghost use Rattle.poster_writer.specs.inner.Cells.{poster_wave, poster_waves, cell_lines};
@@ -11,7 +11,7 @@ use rule::{Bank, MOST_BANKS, Wave};
 // Bank b, whose wave is w, if it is one of wave c.
 fn put_member(banks: &mut [u16], at: usize, w: Wave, c: Wave, b: Bank) -> usize
     requires { at < length banks.old }
-    ensures { Wrote (cond (eqb w.0 c.0) (b.0 ∷ []) []) at banks result }
+    ensures { Puts (cond (eqb w.0 c.0) (b.0 ∷ []) []) at banks.old result banks.new }
 {
     if w.0 != c.0 {
         return at;
@@ -23,7 +23,7 @@ fn put_member(banks: &mut [u16], at: usize, w: Wave, c: Wave, b: Bank) -> usize
 // The banks of wave c, ascending, of n banks in all, at the front of `banks`.
 fn gather(banks: &mut [u16], waves: &[u16], n: u16, c: Wave) -> usize
     requires { (n ≤ length waves.now) × (n ≤ length banks.old) }
-    ensures { Wrote (members_of waves.now c.0 n) 0 banks result }
+    ensures { Puts (members_of waves.now c.0 n) 0 banks.old result banks.new }
 {
     let mut next = 0;
     let mut b: u16 = 0;
@@ -60,8 +60,8 @@ pub fn count_lines(waves: &[u16], n: u16, k: u16) -> usize
 
 // The lines of wave c.
 fn put_wave_of(out: &mut [u8], at: usize, waves: &[u16], n: u16, c: Wave) -> usize
-    requires { (c.0 < 24) × (n ≤ 1024) × (n ≤ length waves.now) × Room (poster_wave waves.now n c.0) at out }
-    ensures { Wrote (poster_wave waves.now n c.0) at out result }
+    requires { (c.0 < 24) × (n ≤ 1024) × (n ≤ length waves.now) × Room (poster_wave waves.now n c.0) at out.old }
+    ensures { Puts (poster_wave waves.now n c.0) at out.old result out.new }
 {
     let mut banks = [0u16; MOST_BANKS];
     let count = gather(&mut banks, waves, n, c);
@@ -70,8 +70,8 @@ fn put_wave_of(out: &mut [u8], at: usize, waves: &[u16], n: u16, c: Wave) -> usi
 
 // The lines of the first k waves, at the front.
 pub fn put_waves(out: &mut [u8], waves: &[u16], n: u16, k: u16) -> usize
-    requires { (n ≤ 1024) × (k ≤ 24) × (n ≤ length waves.now) × Room (poster_waves waves.now n k) 0 out }
-    ensures { Wrote (poster_waves waves.now n k) 0 out result }
+    requires { (n ≤ 1024) × (k ≤ 24) × (n ≤ length waves.now) × Room (poster_waves waves.now n k) 0 out.old }
+    ensures { Puts (poster_waves waves.now n k) 0 out.old result out.new }
 {
     let mut next = 0;
     let mut c: u16 = 0;

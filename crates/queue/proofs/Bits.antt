@@ -102,7 +102,7 @@ lowest_under w a zero t e n rest =
     record {
       inside = omega (arith, r.inside);
       set = t_along (sym (bit_next a t)) r.set;
-      below = λ i. elim i [
+      below = λ i. elim i as (λ k. k < suc t → T (test_bit a k) → ⊥) [
         | zero ↦ λ l u. omega (arith, eqb→eq (a % 2) 1 (t_along (bit_first a) u))
         | suc j ↦ λ l u. r.below j (omega arith) (t_along (bit_next a j) u)
       ];

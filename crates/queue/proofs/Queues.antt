@@ -2,7 +2,7 @@
 use mathlib.Core.Bool.{Bool, true, false, not}
 use mathlib.Core.List.{List}
 use mathlib.Core.Logic.{inl, inr}
-use mathlib.Core.Path.{◌≡◌, refl, sym, ap, ap₂, ◌∙◌}
+use mathlib.Core.Path.{◌≡◌, sym, ap, ap₂, ◌∙◌}
 use Prim.Native.Nat.{ℕ, ◌+◌, ◌*◌, ◌-◌, ◌/◌, ◌%◌, ◌^◌, ◌<◌, ◌≤◌}
 use native.Mathlib.Decide.{ℕ_discrete}
 use native.Mathlib.Omega.{arith}
@@ -95,18 +95,10 @@ reranked idle plain others = record {
   zeros = idle.zeros;
 }
 
-pub not_false : (r : Bool) → not r ≡ false → r ≡ true
-not_false true e = refl
-not_false false e = sym e
-
-not_true : (r : Bool) → not r ≡ true → r ≡ false
-not_true true e = sym e
-not_true false e = refl
-
--- what `is_empty` said, where the code tests its denial
+-- what `is_empty` said, as the code tests it
 module _ {G : Graph} {words : List ℕ} {r : Bool} (tells : TellsEmpty G words r) where
-  pub none_waits : not r ≡ false → Empty G words
-  none_waits e = tells.none (not_false r e)
+  pub none_waits : r ≡ true → Empty G words
+  none_waits e = tells.none e
 
-  pub some_waits : {rs : List ℕ} → Keyed G → Queue G words → G.banks ≤ length rs → ((b : ℕ) → b < G.banks → get_or rs b 0 ≡ G.rank b) → not r ≡ true → Waiting G rs words
-  some_waits keyed queue wide ranks e = record { keyed = keyed; queue = queue; some = tells.some (not_true r e); wide_ranks = wide; ranks = ranks }
+  pub some_waits : {rs : List ℕ} → Keyed G → Queue G words → G.banks ≤ length rs → ((b : ℕ) → b < G.banks → get_or rs b 0 ≡ G.rank b) → r ≡ false → Waiting G rs words
+  some_waits keyed queue wide ranks e = record { keyed = keyed; queue = queue; some = tells.some e; wide_ranks = wide; ranks = ranks }

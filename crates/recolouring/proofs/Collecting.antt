@@ -13,9 +13,7 @@ use Rattle.rule.specs.Graph.{Graph, earlier_neighbours}
 use Rattle.rule.specs.Wave.{lowest_free}
 use Rattle.rule.proofs.Booleans.{test_ext, is_true, is_false, eq→eqb}
 use Rattle.rule.proofs.Lists.{in_head, in_tail, in_cons, in_none, in_upto, upto_below, in_filter, filter_in}
-use Rattle.rule.proofs.Theorems.{lowest_free_free, lowest_free_smaller}
 use Rattle.rule.proofs.Waves.{earlier_neighbours_in}
-use Rattle.memory.proofs.Fronts.{pos}
 use Rattle.memory.proofs.Standing.{standing_pos, pos_standing}
 use Rattle.recolouring.specs.Recolouring.{waves_in, collected, Indexed, Collects, Assigns}
 

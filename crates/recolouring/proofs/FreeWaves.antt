@@ -9,7 +9,7 @@ use native.Mathlib.Omega.{arith}
 use borrow.Author.Count.{below_more}
 use lib.Bits.{bit_or, or_lt, or_zero_r}
 use lib.Count.{count_trailing_zeros}
-use lib.Dec.{T, eqb, eqb→eq}
+use lib.Dec.{eqb, eqb→eq}
 use lib.ListN.{get_or}
 use lib.Pow.{pow-lt, pow_mono, shl_exact}
 use mir.Val.{bool_byte}

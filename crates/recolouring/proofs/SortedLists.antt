@@ -1,16 +1,15 @@
 -- Sorted lists: cut, with one more put in, and how long they can be.
-use mathlib.Core.Bool.{Bool, true, ◌&&◌, ◌||◌, not}
+use mathlib.Core.Bool.{Bool, true, ◌&&◌, not}
 use mathlib.Core.List.{List, [], ◌∷◌, ◌++◌}
 use mathlib.Core.Logic.{inl, inr}
-use mathlib.Core.Path.{◌≡◌, refl}
-use Prim.Native.Nat.{ℕ, zero, suc, ◌≤◌, ◌<◌}
+use mathlib.Core.Path.{refl}
+use Prim.Native.Nat.{ℕ, ◌≤◌, ◌<◌}
 use native.Mathlib.Omega.{arith}
 use lib.Dec.{T, eqb, eqb→eq, not_T, T_not}
-use lib.ListN.{length, get_or}
+use lib.ListN.{length}
 use Rattle.rule.specs.Lists.{filter, memb, upto, Sorted}
-use Rattle.rule.proofs.Booleans.{and_l, and_r, both, or_l, or_r, or_cases, test_ext, eq→eqb}
+use Rattle.rule.proofs.Booleans.{and_l, and_r, both, eq→eqb}
 use Rattle.rule.proofs.Lists.{in_head, in_tail, in_cons, in_none, in_append, in_append_l, in_append_r, in_upto, count_lt, filter_true, length_upto}
-use Rattle.memory.proofs.Fronts.{in_cell}
 
 module _ (R : ℕ → ℕ → Bool) where
   pub sorted_cut : (xs ys : List ℕ) → Sorted R (xs ++ ys) → (x y : ℕ) → T (memb x xs) → T (memb y ys) → T (R x y)

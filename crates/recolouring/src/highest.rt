@@ -5,7 +5,7 @@ ghost use Rattle.recolouring.specs.inner.Tops.{KeepsTop};
 use rule::Wave;
 
 // Every wave is below `most`. A bank stands in the highest one below it, unless `left`: then perhaps none does.
-#[derive(Drop)]
+#[derive(Clone, Copy)]
 pub struct Highest {
     pub most: u16,
     pub left: bool,

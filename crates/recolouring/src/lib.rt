@@ -1,4 +1,6 @@
 // One bank treated by the operators of 000: its colours collected, its wave assigned, its later neighbours notified; and the highest wave kept up.
+#![tactic(auto)]
+
 mod assign;
 mod collect;
 mod highest;

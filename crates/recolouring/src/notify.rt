@@ -10,7 +10,7 @@ use rule::{Bank, COUNT_CELLS, ROW_CELLS, Wave, earlier};
 // If `notified`, moves one count of bank v from wave `old` to wave `new`. No branch: about half of the neighbours are notified.
 fn move_count(counts: &mut [u16], v: Bank, old: Wave, new: Wave, notified: bool)
     requires { Movable counts.old v.0 old.0 new.0 notified }
-    ensures { MovesCount counts v.0 old.0 new.0 notified }
+    ensures { MovesCount counts.old counts.new v.0 old.0 new.0 notified }
 {
     let one = notified as u16;
     let base = v.0 as usize * COUNT_CELLS;
@@ -40,7 +40,7 @@ fn notify_one(
         × Notifying s neighbours.now degrees.now ranks.now counts.old queue.old b.0 old.0 new.0 i }
     requires i_bound { i < get_or degrees.now b.0 0 }
     requires degree_value { (degree ≡ get_or degrees.now b.0 0) × (rank ≡ get_or ranks.now b.0 0) }
-    ensures { NotifiesNext neighbours degrees ranks counts queue b.0 old.0 new.0 i }
+    ensures { NotifiesNext neighbours.now degrees.now ranks.now counts.old queue.old counts.new queue.new b.0 old.0 new.0 i }
 {
     let at = b.0 as usize;
     let v = Bank(neighbours[at * ROW_CELLS + i]);
@@ -65,7 +65,7 @@ pub fn notify_colours(
 )
     requires { (G : Graph)
         × Notifiable G neighbours.now degrees.now ranks.now counts.old queue.old b.0 changed old.0 new.0 }
-    ensures { NotifiesLater neighbours degrees ranks counts queue b.0 changed old.0 new.0 }
+    ensures { NotifiesLater neighbours.now degrees.now ranks.now counts.old queue.old counts.new queue.new b.0 changed old.0 new.0 }
 {
     if !changed {
         return;

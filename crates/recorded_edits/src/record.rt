@@ -1,7 +1,7 @@
 // The calls that make an edit and record it.
 ghost use Rattle.std.specs.Prelude.{◌≡◌};
 ghost use Rattle.rule.specs.declared.Kind.TheVariants.{Adding, Striking};
-ghost use Rattle.memory.specs.Lent.{before, after};
+ghost use Rattle.memory.specs.Lent.{given};
 ghost use Rattle.journal_fields.specs.Fields.{numbered as isNumbered};
 ghost use Rattle.journal_fields.specs.Numbers.{head_number};
 ghost use Rattle.journal.specs.Calls.{no_record, later_in, next_space, record_result, recorded};
@@ -28,7 +28,7 @@ fn check_record(
     journal: &[u8],
     size: usize,
 ) -> u16
-    ensures { Checked (before neighbours degrees waves counts ranks trail moved tally) size journal.now result }
+    ensures { Checked (given neighbours.now degrees.now waves.now counts.now ranks.now trail.now moved.now tally) size journal.now result }
 {
     let head = head_number(journal, size);
     if head != 0 {
@@ -108,8 +108,8 @@ pub fn record_core(
     journal: &mut [u8],
     size: usize,
 ) -> RecordedEdit
-    ensures { record_result result.answer (after neighbours degrees waves counts ranks trail moved result.tally) journal.new
-        ≡ recorded kind a.0 b.0 (before neighbours degrees waves counts ranks trail moved tally) size journal.old }
+    ensures { record_result result.answer (given neighbours.new degrees.new waves.new counts.new ranks.now trail.new moved.new result.tally) journal.new
+        ≡ recorded kind a.0 b.0 (given neighbours.old degrees.old waves.old counts.old ranks.now trail.old moved.old tally) size journal.old }
 {
     let checked = check_record(
         neighbours, degrees, waves, counts, ranks, trail, moved, tally, journal, size,
@@ -147,8 +147,8 @@ pub fn add_recorded_core(
     journal: &mut [u8],
     size: usize,
 ) -> RecordedEdit
-    ensures { record_result result.answer (after neighbours degrees waves counts ranks trail moved result.tally) journal.new
-        ≡ recorded Adding a.0 b.0 (before neighbours degrees waves counts ranks trail moved tally) size journal.old }
+    ensures { record_result result.answer (given neighbours.new degrees.new waves.new counts.new ranks.now trail.new moved.new result.tally) journal.new
+        ≡ recorded Adding a.0 b.0 (given neighbours.old degrees.old waves.old counts.old ranks.now trail.old moved.old tally) size journal.old }
 {
     record_core(
         Kind::Adding,
@@ -182,8 +182,8 @@ pub fn strike_recorded_core(
     journal: &mut [u8],
     size: usize,
 ) -> RecordedEdit
-    ensures { record_result result.answer (after neighbours degrees waves counts ranks trail moved result.tally) journal.new
-        ≡ recorded Striking a.0 b.0 (before neighbours degrees waves counts ranks trail moved tally) size journal.old }
+    ensures { record_result result.answer (given neighbours.new degrees.new waves.new counts.new ranks.now trail.new moved.new result.tally) journal.new
+        ≡ recorded Striking a.0 b.0 (given neighbours.old degrees.old waves.old counts.old ranks.now trail.old moved.old tally) size journal.old }
 {
     record_core(
         Kind::Striking,

@@ -10,8 +10,8 @@ use Prim.Native.Nat.{ℕ, zero, suc, ◌+◌, ◌*◌, ◌-◌, ◌≤◌, ◌<�
 use lib.Dec.{T, leb, leb→le, le→leb}
 use lib.ListN.{length}
 use Rattle.rule.specs.Lists.{upto, filter, memb, Sorted}
-use Rattle.rule.specs.Graph.{Graph, degree, earlier, earlier_neighbours, order, Same}
-use Rattle.rule.specs.Wave.{wave, wave_count}
+use Rattle.rule.specs.Graph.{Graph, degree, earlier, earlier_neighbours, Same}
+use Rattle.rule.specs.Wave.{wave_count}
 use Rattle.rule.specs.Bounds.{largest_from, wave_bound, largest_degree, banks_from}
 use Rattle.rule.proofs.Booleans.{and_r, passes?, is_true, is_false, lt_or_ge}
 use Rattle.rule.proofs.Lists.{in_head, in_tail, in_upto, upto_below, length_upto, filter_in, filter_cong, count_lt, filter_short, most_above}

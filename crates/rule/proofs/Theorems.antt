@@ -133,7 +133,7 @@ module _ (G : Graph) (symmetric : (x y : ℕ) → x < G.banks → y < G.banks �
     -- (ii), in 01's words, is that the order turned over
     pub is_turned-law : (x : ℕ)
         → (is_turned k G (edited k G a b) a x ≡ turned G (edited k G a b) a x) × (is_turned k G (edited k G a b) b x ≡ turned G (edited k G a b) b x)
-    is_turned-law = Turned.is_turned G symmetric a b la lb d k allowed
+    is_turned-law = Turned.is_turned-law G symmetric a b la lb d k allowed
 
     -- so the trail is what the work-list takes up
     pub trail_taken : trail k G (edited k G a b) a b ≡ taken G (edited k G a b) a b

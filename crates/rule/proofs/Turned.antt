@@ -59,18 +59,21 @@ still_earlier lo hi a b r x t = go (ℕ_discrete x a) (ℕ_discrete x b)
     by_lower : T (earlier hi x a) → T (earlier_by (degree hi x) (lo.rank x) x (degree hi a) (lo.rank a) a)
     by_lower u = unfold earlier in subst (λ (k : ℕ → ℕ). T (earlier_by (degree hi x) (k x) x (degree hi a) (k a) a)) r.ranks u
 
+    lowered : T (earlier_by (degree lo x) (lo.rank x) x (degree lo a) (lo.rank a) a) → T (earlier lo x a)
+    lowered u = unfold earlier in u
+
     go : Dec (x ≡ a) → Dec (x ≡ b) → T (earlier lo x a)
     go (yes e) d = absurd (earlier_irrefl hi a (rw e at t))
     go (no na) (yes e) =
         let dx : degree hi x ≡ degree lo x + 1 = rw e r.at_b in
         let at = carry (lo.rank x) x (lo.rank a) a (degree hi x) (degree hi a) (degree lo x) (degree lo a) (λ h. omega (arith, r.at_a))
         (λ q h. by_tie (lo.rank x) x (lo.rank a) a (degree lo x) (degree lo a) (omega (arith, r.at_a)) h) in
-        unfold earlier in at (by_lower t)
+        lowered (at (by_lower t))
     go (no na) (no nb) =
         let dx = r.others x na nb in
         let at = carry (lo.rank x) x (lo.rank a) a (degree hi x) (degree hi a) (degree lo x) (degree lo a) (λ h. omega (arith, r.at_a))
         (λ q h. by_more (lo.rank x) x (lo.rank a) a (degree lo x) (degree lo a) (omega (arith, r.at_a))) in
-        unfold earlier in at (by_lower t)
+        lowered (at (by_lower t))
 
 -- one way only
 turns_down : (p q : Bool) → (T q → T p) → (p && not q) ≡ not (beq p q)

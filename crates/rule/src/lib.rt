@@ -1,24 +1,26 @@
 // The numbers of a plan, and the rule order of its banks.
+#![tactic(auto)]
+
 ghost use Rattle.std.specs.Prelude.{◌≡◌, ◌+◌, ◌*◌};
 ghost use Rattle.rule.specs.Order.{earlier_by};
 
 // A bank's number: the vertex id of a graph.
-#[derive(Drop)]
+#[derive(Clone, Copy)]
 pub struct Bank(pub u16);
 
 // A wave's number: the colour of a vertex.
-#[derive(Drop)]
+#[derive(Clone, Copy)]
 pub struct Wave(pub u16);
 
 // The two kinds of edit of one clash.
-#[derive(Drop)]
+#[derive(Clone, Copy)]
 pub enum Kind {
     Adding,
     Striking,
 }
 
 // What an entry of a list or of a journal asks for: the edit of one clash, or a bank's rank.
-#[derive(Drop)]
+#[derive(Clone, Copy)]
 pub enum Entry {
     Clash(Kind, Bank, Bank),
     Rank(Bank, u16),

@@ -1,6 +1,8 @@
 // Reads a list from standard input, and writes its sheet or its refusal to standard output.
+#![tactic(auto)]
+
 use list_program::{Text, run};
 
-fn main() {
-    run(Text::Sheet);
+fn main(rt: HostRuntime) {
+    run(&rt, Text::Sheet);
 }

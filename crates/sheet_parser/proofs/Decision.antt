@@ -13,7 +13,7 @@ use Rattle.rule.specs.Lists.{upto, memb, some}
 use Rattle.rule.proofs.Booleans.{both_true, is_true, is_false, t_along, eq→eqb}
 use Rattle.rule.proofs.Lists.{in_head, in_tail, in_cons, in_none, in_upto, upto_below, length_upto, filter_cong, some_in, in_some}
 use Rattle.rule.specs.Wave.{banks_by}
-use Rattle.wave_lines.specs.Lines.{letters, Line, line_by, lines_by}
+use Rattle.wave_lines.specs.Lines.{Line, line_by, lines_by}
 use Rattle.wave_lines.proofs.Letters.{letter_high}
 use Rattle.sheet_writer.specs.Sheet.{head_text, last_text, sheet_by}
 use Rattle.sheet_writer.specs.Reading.{waves_read}

@@ -1,4 +1,6 @@
 // Sheets from anybody, read: whether bytes are the text of some waves of a plan's banks, with its foot. `read_sheet` reads one.
+#![tactic(auto)]
+
 mod line;
 mod number;
 mod sheet;

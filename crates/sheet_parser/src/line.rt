@@ -13,7 +13,7 @@ use wave_lines::letter;
 pub const UNNAMED: u16 = 24;
 
 // Where reading a line has come to: whether it goes on, the next place, and the lowest bank that may stand there.
-#[derive(Drop)]
+#[derive(Clone, Copy)]
 pub struct Place {
     pub ok: bool,
     pub next: usize,

@@ -4,7 +4,7 @@ ghost use Rattle.memory.specs.inner.Test.{Says};
 ghost use Rattle.sheet_parser.specs.inner.Numbers.{ByteAt, DigitAt, Stands, Stopped, NumberRead};
 
 // A number that was read and the place after it, or none.
-#[derive(Drop)]
+#[derive(Clone, Copy)]
 pub struct Number {
     pub ok: bool,
     pub value: u16,

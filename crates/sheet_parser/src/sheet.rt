@@ -1,5 +1,5 @@
 // A sheet: its first line, the lines of its waves, its foot.
-ghost use Rattle.std.specs.Prelude.{◌≡◌, ℕ, ◌≤◌, ◌<◌, length, get_or, drop};
+ghost use Rattle.std.specs.Prelude.{◌≡◌, ◌≤◌, ◌<◌, length, drop};
 ghost use Rattle.memory.specs.inner.Test.{Says};
 ghost use Rattle.sheet_writer.specs.Sheet.{last_text};
 ghost use Rattle.sheet_parser.specs.inner.Lines.{Enough, HeadAt, HeadRead, LinesRead, SheetRead, NoneNamed, AllNamed};
@@ -12,7 +12,7 @@ use text::put_byte;
 use wave_lines::{foot_length, put_foot};
 
 // The first line: how many waves it says there are, and the place after it.
-#[derive(Drop)]
+#[derive(Clone, Copy)]
 struct Head {
     ok: bool,
     waves: u16,
@@ -20,7 +20,7 @@ struct Head {
 }
 
 // The lines of the waves: whether all were read and the place after them, and the line, from 1, at fault if the bytes are no sheet.
-#[derive(Drop)]
+#[derive(Clone, Copy)]
 struct Body {
     ok: bool,
     next: usize,
@@ -28,7 +28,7 @@ struct Body {
 }
 
 // What reading a sheet answers: how many waves it has, or the line, from 1, at fault.
-#[derive(Drop)]
+#[derive(Clone, Copy)]
 pub struct Sheet {
     pub ok: bool,
     pub waves: u16,

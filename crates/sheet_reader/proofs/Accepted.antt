@@ -6,7 +6,7 @@ use mathlib.Core.Path.{◌≡◌, refl, sym, ap, subst, ◌∙◌}
 use Prim.Native.Nat.{ℕ, ◌≤◌, ◌<◌}
 use native.Mathlib.Omega.{arith}
 use lib.Dec.{T, eqb, leb, eqb→eq}
-use borrow.Author.Tests.{le-leb, leb-true, leb-false, not_true}
+use borrow.Author.Tests.{le-leb, leb-true, leb-false, not-true}
 use Rattle.rule.specs.Lists.{upto, filter, memb, some}
 use Rattle.rule.specs.Graph.{Graph, neighbours, Same}
 use Rattle.rule.specs.Wave.{wave, wave_count}
@@ -183,7 +183,7 @@ module _ (s : Slices) (t : Tally) (bytes : List ℕ) (e : plan_number s t ≡ 0)
           → ◌≡◌ {A = ℕ} (cond a (cond b 0 27) 26) 0 → Passes
       by true true p q z =
           let r = both_true (not (any_clash H (wave_read bytes))) (leb (waves_count bytes) t.waves) q in
-          record { is_sheet-law = p; apart = not_true (any_clash H (wave_read bytes)) r.0; few = leb-true (waves_count bytes) t.waves r.1 }
+          record { is_sheet-law = p; apart = not-true (any_clash H (wave_read bytes)) r.0; few = leb-true (waves_count bytes) t.waves r.1 }
       by true false p q z = absurd (omega arith)
       by false b p q z = absurd (omega arith)
 

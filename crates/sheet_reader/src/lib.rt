@@ -1,8 +1,10 @@
 // The sheet reader: whether bytes from anybody are a sheet of a plan that keeps clashing banks apart. `check_sheet` is the call.
+#![tactic(auto)]
+
 mod rows;
 
+ghost use Rattle.memory.specs.Plan.{slices_of};
 ghost use Rattle.std.specs.Prelude.{◌≡◌, ◌≤◌, length};
-ghost use Rattle.memory.specs.Lent.{slices_before};
 ghost use Rattle.memory.specs.inner.View.{Rowed};
 ghost use Rattle.sheet_reader.specs.Calls.{Answered};
 ghost use Rattle.sheet_parser.specs.inner.Lines.{wave_in};
@@ -16,7 +18,7 @@ use sheet_parser::{UNNAMED, read_sheet};
 
 // The answer of check_sheet: the number; beside 26 the line at fault, from 1; beside 27 two clashing banks in one wave, the
 // lowest first bank, then the lowest second, or 0 and 0 where there are too many waves alone.
-#[derive(Drop)]
+#[derive(Clone, Copy)]
 pub struct Verdict {
     pub number: u16,
     pub line: u16,
@@ -68,7 +70,7 @@ pub fn check_sheet(
     tally: Tally,
     sheet: &[u8],
 ) -> Verdict
-    ensures { Answered (slices_before neighbours degrees waves counts ranks) tally sheet.now result }
+    ensures { Answered (slices_of neighbours.now degrees.now waves.now counts.now ranks.now) tally sheet.now result }
 {
     let number = check_plan(neighbours, degrees, waves, counts, ranks, tally);
     if number != 0 {

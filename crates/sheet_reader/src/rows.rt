@@ -1,5 +1,5 @@
 // The pass over the rows: two clashing banks in one wave.
-ghost use Rattle.std.specs.Prelude.{◌≡◌, ◌≤◌, ◌<◌, length};
+ghost use Rattle.std.specs.Prelude.{◌≤◌, ◌<◌, length};
 ghost use Rattle.memory.specs.inner.View.{Rowed};
 ghost use Rattle.sheet_parser.specs.inner.Lines.{wave_in};
 ghost use Rattle.sheet_reader.specs.inner.Rows.{rows_in, PartnerOf, PairOf};
@@ -7,14 +7,14 @@ ghost use Rattle.sheet_reader.specs.inner.Rows.{rows_in, PartnerOf, PairOf};
 use rule::{Bank, ROW_CELLS, wide};
 
 // The lowest bank that clashes with a bank and stands in its wave, or none.
-#[derive(Drop)]
+#[derive(Clone, Copy)]
 struct Partner {
     found: bool,
     bank: Bank,
 }
 
 // Two clashing banks in one wave, the lowest first bank, then the lowest second; or none.
-#[derive(Drop)]
+#[derive(Clone, Copy)]
 pub struct Pair {
     pub found: bool,
     pub first: Bank,

@@ -1,4 +1,6 @@
 // The sheet writer: the waves of a plan as text. `write_sheet` is the call.
+#![tactic(auto)]
+
 mod lines;
 mod sheet;
 

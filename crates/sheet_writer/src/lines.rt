@@ -1,6 +1,6 @@
 // The lines of a sheet. Each function writes at `at` and answers the place after what it wrote.
 ghost use Rattle.std.specs.Prelude.{◌≤◌, ◌<◌, length};
-ghost use Rattle.text.specs.Places.{Room, Wrote};
+ghost use Rattle.text.specs.Places.{Room, Puts};
 ghost use Rattle.sheet_writer.specs.Sheet.{head_text, last_text};
 ghost use Rattle.sheet_writer.specs.inner.Cells.{member_text, members_text, sheet_wave, sheet_waves};
 
@@ -11,8 +11,8 @@ use wave_lines::{letter, put_foot};
 
 // Bank b, whose wave is w, if it stands on the line of wave c.
 fn put_member(out: &mut [u8], at: usize, w: Wave, c: Wave, b: Bank) -> usize
-    requires { Room (member_text w.0 c.0 b.0) at out }
-    ensures { Wrote (member_text w.0 c.0 b.0) at out result }
+    requires { Room (member_text w.0 c.0 b.0) at out.old }
+    ensures { Puts (member_text w.0 c.0 b.0) at out.old result out.new }
 {
     if w.0 != c.0 {
         return at;
@@ -23,8 +23,8 @@ fn put_member(out: &mut [u8], at: usize, w: Wave, c: Wave, b: Bank) -> usize
 
 // The banks of wave c, ascending, of n banks in all.
 fn put_members(out: &mut [u8], at: usize, waves: &[u16], n: u16, c: Wave) -> usize
-    requires { (n ≤ length waves.now) × Room (members_text waves.now c.0 n) at out }
-    ensures { Wrote (members_text waves.now c.0 n) at out result }
+    requires { (n ≤ length waves.now) × Room (members_text waves.now c.0 n) at out.old }
+    ensures { Puts (members_text waves.now c.0 n) at out.old result out.new }
 {
     let mut next = at;
     let mut b: u16 = 0;
@@ -38,8 +38,8 @@ fn put_members(out: &mut [u8], at: usize, waves: &[u16], n: u16, c: Wave) -> usi
 
 // The line of wave c.
 fn put_line(out: &mut [u8], at: usize, waves: &[u16], n: u16, c: Wave) -> usize
-    requires { (c.0 < 24) × (n ≤ length waves.now) × Room (sheet_wave waves.now n c.0) at out }
-    ensures { Wrote (sheet_wave waves.now n c.0) at out result }
+    requires { (c.0 < 24) × (n ≤ length waves.now) × Room (sheet_wave waves.now n c.0) at out.old }
+    ensures { Puts (sheet_wave waves.now n c.0) at out.old result out.new }
 {
     let banks = put_byte(out, at, letter(c));
     let feed = put_members(out, banks, waves, n, c);
@@ -48,8 +48,8 @@ fn put_line(out: &mut [u8], at: usize, waves: &[u16], n: u16, c: Wave) -> usize
 
 // The lines of the first k waves.
 pub fn put_lines(out: &mut [u8], at: usize, waves: &[u16], n: u16, k: u16) -> usize
-    requires { (k ≤ 24) × (n ≤ length waves.now) × Room (sheet_waves waves.now n k) at out }
-    ensures { Wrote (sheet_waves waves.now n k) at out result }
+    requires { (k ≤ 24) × (n ≤ length waves.now) × Room (sheet_waves waves.now n k) at out.old }
+    ensures { Puts (sheet_waves waves.now n k) at out.old result out.new }
 {
     let mut next = at;
     let mut c: u16 = 0;
@@ -62,8 +62,8 @@ pub fn put_lines(out: &mut [u8], at: usize, waves: &[u16], n: u16, k: u16) -> us
 
 // The last line.
 pub fn put_last(out: &mut [u8], at: usize, tally: Tally) -> usize
-    requires { Room (last_text tally.banks tally.clashes) at out }
-    ensures { Wrote (last_text tally.banks tally.clashes) at out result }
+    requires { Room (last_text tally.banks tally.clashes) at out.old }
+    ensures { Puts (last_text tally.banks tally.clashes) at out.old result out.new }
 {
     let next = put_foot(out, at, tally);
     put_byte(out, next, b'\n')
@@ -72,7 +72,7 @@ pub fn put_last(out: &mut [u8], at: usize, tally: Tally) -> usize
 // The first line, at the front.
 pub fn put_head(out: &mut [u8], k: u16) -> usize
     requires { length (head_text k) ≤ length out.old }
-    ensures { Wrote (head_text k) 0 out result }
+    ensures { Puts (head_text k) 0 out.old result out.new }
 {
     let number = put_text(out, 0, b"WAVES ");
     let end = put_number(out, number, k);

@@ -1,7 +1,7 @@
 // Writing the sheet of a plan.
+ghost use Rattle.memory.specs.Plan.{slices_of};
 ghost use Rattle.std.specs.Prelude.{◌≡◌, map, ◌+◌, ◌*◌, ◌≤◌, length};
 ghost use Rattle.rule.specs.Lists.{upto};
-ghost use Rattle.memory.specs.Lent.{slices_before};
 ghost use Rattle.text.specs.Text.{joined};
 ghost use Rattle.wave_lines.specs.Calls.{text_result};
 ghost use Rattle.sheet_writer.specs.Sheet.{bank_text, head_text};
@@ -58,7 +58,7 @@ pub fn write_sheet(
 ) -> Written
     ensures { text_result result out.new
         ≡ write_sheet
-        (slices_before neighbours degrees waves counts ranks)
+        (slices_of neighbours.now degrees.now waves.now counts.now ranks.now)
         tally
         out.old }
 {

@@ -1,4 +1,6 @@
 // The shelf of kept states: its names, its cells, and question 5 of it.
+#![tactic(auto)]
+
 mod cells;
 mod names;
 mod shelf;

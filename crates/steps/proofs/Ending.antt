@@ -1,5 +1,5 @@
 -- The work-list when nothing waits.
-use mathlib.Core.Bool.{Bool, true, false, ◌&&◌, not}
+use mathlib.Core.Bool.{Bool, true, false, ◌&&◌}
 use mathlib.Core.List.{List}
 use mathlib.Core.Logic.{inl, inr}
 use mathlib.Core.Path.{◌≡◌, sym, ap, ◌∙◌}
@@ -47,14 +47,14 @@ counts_over G cs was ct beyond =
 
 -- what `is_empty` said, where the code tests its denial
 module _ {e : Edit} {m : Memory} {q : List ℕ} {p : Progress} (wk : Working e m q p) {r : Bool} (tells : Tells q r) where
-  pub steppable : not r ≡ true → Steppable e m q p
+  pub steppable : r ≡ false → Steppable e m q p
   steppable more = record {
     working = wk;
     waiting =
         some_waits (tells (new e) (keyed wk.shown) wk.queue) (keyed wk.shown) wk.queue wk.shown.ranked.wide wk.shown.ranked.cells more;
   }
 
-  empty : not r ≡ false → Empty (new e) q
+  empty : r ≡ true → Empty (new e) q
   empty = none_waits (tells (new e) (keyed wk.shown) wk.queue)
 
 module _ {e : Edit} {m : Memory} {q : List ℕ} {p : Progress} (wk : Working e m q p) (none : Empty (new e) q) where
@@ -122,7 +122,7 @@ module _ {e : Edit} {m : Memory} {q : List ℕ} {p : Progress} (wk : Working e m
         top = wk.top;
       }
 
-pub settled : {e : Edit} {m : Memory} {q : List ℕ} {p : Progress} (wk : Working e m q p) {r : Bool} → Tells q r → not r ≡ false
+pub settled : {e : Edit} {m : Memory} {q : List ℕ} {p : Progress} (wk : Working e m q p) {r : Bool} → Tells q r → r ≡ true
     → Settled e m p × Idle (new e).banks m.slices.ranks q
 settled {m = m} wk tells end =
     let none = empty wk tells end in

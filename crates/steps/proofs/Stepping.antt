@@ -13,7 +13,7 @@ use Rattle.rule.specs.Lists.{memb, filter, Sorted}
 use Rattle.rule.specs.Graph.{Graph, neighbours, earlier, earlier_neighbours}
 use Rattle.rule.specs.Wave.{wave, lowest_free}
 use Rattle.rule.specs.Reach.{changed}
-use Rattle.rule.specs.WorkList.{WorkList, Next}
+use Rattle.rule.specs.WorkList.{WorkList}
 use Rattle.rule.proofs.Booleans.{and_l, and_r, both, or_l, or_r, or_cases, passes?, t_along, test_ext, eq→eqb, cond_yes, cond_no}
 use Rattle.rule.proofs.Lists.{in_none, map_cong, filter_kept, filter_left}
 use Rattle.rule.proofs.Neighbours.{memb_neighbours, earlier_neighbours_sorted}

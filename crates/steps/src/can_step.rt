@@ -1,6 +1,6 @@
 // One bank taken up: a CAN step of 000 (definition 4.10; lines 16 to 18 of algorithm 2), which performs CC, AC and NC in that order.
 ghost use Rattle.std.specs.Prelude.{cond, ◌≡◌, ◌+◌, ◌<◌, length, set};
-ghost use Rattle.memory.specs.Lent.{given, before, after};
+ghost use Rattle.memory.specs.Lent.{given};
 ghost use Rattle.steps.specs.inner.Work.{Edit, Steppable, Stepped};
 
 use queue::{WORDS, dequeue};
@@ -8,7 +8,7 @@ use recolouring::{Highest, assign_colour, collect_colours, highest_after, notify
 use rule::{Bank, Wave};
 
 // How far an edit is: how many banks are taken up, how many of them changed their wave, and the highest wave in use.
-#[derive(Drop)]
+#[derive(Clone, Copy)]
 pub struct Progress {
     pub taken: usize,
     pub moved: usize,
@@ -41,11 +41,11 @@ pub fn can_step(
     queue: &mut [u64; WORDS],
     p: Progress,
 ) -> Progress
-    requires { (e : Edit) × Steppable e (given neighbours degrees waves counts ranks trail moved e.was.tally) queue.old p }
+    requires { (e : Edit) × Steppable e (given neighbours.now degrees.now waves.old counts.old ranks.now trail.old moved.old e.was.tally) queue.old p }
     ensures { (e : Edit)
-        → Steppable e (before neighbours degrees waves counts ranks trail moved e.was.tally) queue.old p
-        → Stepped e (before neighbours degrees waves counts ranks trail moved e.was.tally)
-        (after neighbours degrees waves counts ranks trail moved e.was.tally) queue.old queue.new p result }
+        → Steppable e (given neighbours.now degrees.now waves.old counts.old ranks.now trail.old moved.old e.was.tally) queue.old p
+        → Stepped e (given neighbours.now degrees.now waves.old counts.old ranks.now trail.old moved.old e.was.tally)
+        (given neighbours.now degrees.now waves.new counts.new ranks.now trail.new moved.new e.was.tally) queue.old queue.new p result }
 {
     let taken = p.taken;
     let changes = p.moved;

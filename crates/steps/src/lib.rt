@@ -1,4 +1,6 @@
 // Banks taken up, one after the other, until none waits: the CAN steps of 000.
+#![tactic(auto)]
+
 mod can_step;
 mod work_list;
 

@@ -1,5 +1,5 @@
 // All banks that wait, taken up.
-ghost use Rattle.memory.specs.Lent.{given, before, after};
+ghost use Rattle.memory.specs.Lent.{given};
 ghost use Rattle.queue.specs.Queue.{Idle};
 ghost use Rattle.steps.specs.inner.Work.{Edit, new, begun, Working, Settled};
 
@@ -20,10 +20,10 @@ pub fn settle(
     most: u16,
 ) -> Progress
     requires { (e : Edit)
-        × Working e (given neighbours degrees waves counts ranks trail moved e.was.tally) queue.old (begun most) }
+        × Working e (given neighbours.now degrees.now waves.old counts.old ranks.now trail.old moved.old e.was.tally) queue.old (begun most) }
     ensures { (e : Edit)
-        → Working e (before neighbours degrees waves counts ranks trail moved e.was.tally) queue.old (begun most)
-        → Settled e (after neighbours degrees waves counts ranks trail moved e.was.tally) result
+        → Working e (given neighbours.now degrees.now waves.old counts.old ranks.now trail.old moved.old e.was.tally) queue.old (begun most)
+        → Settled e (given neighbours.now degrees.now waves.new counts.new ranks.now trail.new moved.new e.was.tally) result
         × Idle (new e).banks ranks.now queue.new }
 {
     let top = Highest {

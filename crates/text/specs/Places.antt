@@ -1,7 +1,5 @@
 -- Places in bytes: where a byte is found, and where a text is put.
 use Rattle.std.specs.Prelude.{cond, List, [], ◌∷◌, ◌++◌, ◌≡◌, ℕ, suc, ◌+◌, ◌≤◌, eqb, length, take, drop}
-use Rattle.std.specs.Borrow.{Bor}
-use denote.Triple.Both.{Both}
 
 -- how many bytes stand before the first c, or in all
 unfoldable pub before : ℕ → List ℕ → ℕ
@@ -23,9 +21,6 @@ pub record Puts (text : List ℕ) (at : ℕ) (out : List ℕ) (r : ℕ) (out' : 
   pub next : r ≡ at + length text
   pub left : out' ≡ put text at out
 
--- the same as contracts say it, of an output that is lent: it has room for the text at `at`, and the text was written there
-abbrev pub Room : List ℕ → ℕ → Bor (List ℕ) → Type 0
-Room text at out = at + length text ≤ length out.now
-
-abbrev pub Wrote : List ℕ → ℕ → Both (Bor (List ℕ)) (Bor (List ℕ)) → ℕ → Type 0
-Wrote text at out r = Puts text at out.entry.now r out.exit.now
+-- an output has room for the text at `at`
+abbrev pub Room : List ℕ → ℕ → List ℕ → Type 0
+Room text at out = at + length text ≤ length out

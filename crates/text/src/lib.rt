@@ -1,4 +1,6 @@
 // Text: bytes into rows, numbers read and printed, and bytes put into an output.
+#![tactic(auto)]
+
 mod number;
 mod place;
 mod put;

@@ -7,7 +7,7 @@ ghost use Rattle.text.specs.inner.Digits.{digits_value};
 const MOST_DIGITS: usize = 4;
 
 // What a part reads as, where a number belongs.
-#[derive(Drop)]
+#[derive(Clone, Copy)]
 pub enum Number {
     Value(u16),
     Nothing,

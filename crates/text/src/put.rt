@@ -1,12 +1,12 @@
 // Bytes put into an output. Each function writes at `at` and answers the place after what it wrote.
 ghost use Rattle.std.specs.Prelude.{[], ◌∷◌, ◌<◌, length};
 ghost use Rattle.text.specs.Numbers.{decimal};
-ghost use Rattle.text.specs.Places.{Room, Wrote};
+ghost use Rattle.text.specs.Places.{Room, Puts};
 
 // One byte.
 pub fn put_byte(out: &mut [u8], at: usize, v: u8) -> usize
     requires { at < length out.old }
-    ensures { Wrote (v ∷ []) at out result }
+    ensures { Puts (v ∷ []) at out.old result out.new }
 {
     out[at] = v;
     at + 1
@@ -14,8 +14,8 @@ pub fn put_byte(out: &mut [u8], at: usize, v: u8) -> usize
 
 // Bytes as they are.
 pub fn put_text(out: &mut [u8], at: usize, text: &[u8]) -> usize
-    requires { Room text.now at out }
-    ensures { Wrote text.now at out result }
+    requires { Room text.now at out.old }
+    ensures { Puts text.now at out.old result out.new }
 {
     let mut next = at;
     let mut i = 0;
@@ -28,8 +28,8 @@ pub fn put_text(out: &mut [u8], at: usize, text: &[u8]) -> usize
 
 // A number in decimal.
 pub fn put_number(out: &mut [u8], at: usize, x: u16) -> usize
-    requires { Room (decimal x) at out }
-    ensures { Wrote (decimal x) at out result }
+    requires { Room (decimal x) at out.old }
+    ensures { Puts (decimal x) at out.old result out.new }
 {
     if x < 10 {
         return put_byte(out, at, (48 + x) as u8);

@@ -1,40 +1,35 @@
 -- The count agrees with plan and shelf after each call.
 use mathlib.Core.Bool.{Bool, true, false, cond, ◌||◌}
-use mathlib.Core.List.{List, [], ◌∷◌}
+use mathlib.Core.List.{List, []}
 use mathlib.Core.Logic.{◌⊎◌, inl, inr}
 use mathlib.Core.Path.{◌≡◌, refl, sym, ap, subst, ◌∙◌}
-use Prim.Native.Nat.{ℕ, zero, suc, ◌+◌, ◌-◌, ◌≤◌, ◌<◌}
+use Prim.Native.Nat.{ℕ, zero, suc, ◌-◌, ◌≤◌, ◌<◌}
 use native.Mathlib.Omega.{arith}
 use lib.Dec.{T, eqb, leb}
-use lib.ListN.{drop}
 use borrow.Author.Tests.{le-leb, lt-leb, ne_eqb}
-use Rattle.rule.specs.Graph.{Graph, empty}
-use Rattle.rule.specs.Reach.{edited}
 use Rattle.rule.specs.declared.Kind.{Kind}
 use Rattle.rule.specs.declared.Kind.TheVariants.{Adding, Striking}
 use Rattle.memory.specs.declared.Tally.{Tally}
-use Rattle.memory.specs.Plan.{Slices, tally_of, graph_in}
+use Rattle.memory.specs.Plan.{tally_of, graph_in}
 use Rattle.memory.specs.Memory.{Memory, memory_of}
-use Rattle.planner.specs.Calls.{open_number, opened_by, opened, EditResult, refused, accepted, edit_result}
+use Rattle.planner.specs.Calls.{open_number, opened_by, opened, EditResult, refused, accepted}
 use Rattle.edit_calls.specs.Calls.{edit, set_cap_number, set_cap_by, set_cap}
 use Rattle.planner.proofs.Outcomes.{edited_banks}
 use Rattle.edit_calls.proofs.Theorems.{add_clashes, strike_clashes, refused_same, accepted_edit}
 use Rattle.list_rows.specs.declared.row.Row.{Row}
-use Rattle.list_rows.specs.declared.row.Row.TheVariants as Rows
 use Rattle.list_rows.specs.Rows.{rows_of, first_row}
 use Rattle.list_pass.specs.Pass.{ListResult, read_list}
 use Rattle.list_pass.specs.Ends.{FirstOpens}
 use Rattle.list_pass.proofs.Lists.{Start, opens, refuses, start}
-use Rattle.journal_fields.specs.Fields.{first_size, banks_in, fields}
 use Rattle.journal_replay.specs.Replay.{ReplayResult, replay_number, replay_by, replayed}
 use Rattle.journal.specs.Calls.{record_number, recorded_as, recorded_by, recorded}
 use Rattle.journal.proofs.Theorems.{recorded_edit}
 use Rattle.shelf.specs.Names.{place_of}
 use Rattle.shelf.specs.Shelf.{place, tally_in}
-use Rattle.checkpoints.specs.Calls.{ShelfResult, open_shelf_number, open_shelf_by, open_shelf, keep_number, keep_by, keep, BackResult, come_back}
+use Rattle.checkpoints.specs.Calls.{ShelfResult, open_shelf_number, open_shelf_by, open_shelf, keep, BackResult, come_back}
 use Rattle.checkpoints.proofs.Theorems.{keep_unchanged, back_plan, back_unchanged}
 use Rattle.totals.specs.Runs.{Depot, depot_of, Call, Open, Edit, Record, SetCap, Read, Replay, OpenShelf, Keep, Return, Answer, answer_of, with_plan, made}
-use Rattle.totals.specs.Totals.{edit_total, rows_total, before, Kept, Count, count_of, if_accepted, opens_plan, rows_count, entries_count, of_banks, kept_in}
+use Rattle.totals.specs.Totals.{edit_total, Count, count_of, if_accepted, opens_plan, rows_count, entries_count, of_banks, kept_in}
 use Rattle.totals.specs.Totals.{kept_total, counted, begins, Own}
 use Rattle.totals.proofs.Edits.{tally_banks, no_clash}
 use Rattle.totals.proofs.Lists.{list_clashes, list_banks, list_late}

@@ -1,18 +1,16 @@
 -- A list that opens a plan: the clashes after its rows are the total that is counted of them.
-use mathlib.Core.Bool.{Bool, true, ◌||◌}
 use mathlib.Core.List.{List, [], ◌∷◌}
 use mathlib.Core.Path.{◌≡◌, refl, sym, ap, ap₂, ◌∙◌}
-use Prim.Native.Nat.{ℕ, zero, suc, ◌+◌, ◌-◌, ◌≤◌, ◌<◌}
+use Prim.Native.Nat.{ℕ, zero, suc, ◌-◌, ◌≤◌, ◌<◌}
 use native.Mathlib.Omega.{arith}
 use lib.Dec.{ltb}
 use lib.ListN.{length}
 use borrow.Author.Tests.{ltb-true}
-use Rattle.rule.specs.Graph.{Graph, neighbours, degree, empty}
+use Rattle.rule.specs.Graph.{neighbours, degree, empty}
 use Rattle.rule.specs.Reach.{edited}
 use Rattle.rule.specs.declared.Kind.TheVariants.{Striking}
 use Rattle.memory.specs.Plan.{clash_count}
 use Rattle.memory.specs.Memory.{Memory}
-use Rattle.planner.specs.Questions.{first_no}
 use Rattle.planner.specs.States.{State, make, begin}
 use Rattle.planner.proofs.Numbers.{none}
 use Rattle.planner.proofs.Made.{Holding, make_kept}

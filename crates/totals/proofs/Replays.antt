@@ -5,7 +5,6 @@ use mathlib.Core.Path.{◌≡◌, refl, sym, ap, ◌∙◌}
 use Prim.Native.Nat.{ℕ, zero, suc, ◌≤◌}
 use native.Mathlib.Omega.{arith}
 use lib.ListN.{drop}
-use Rattle.rule.specs.Graph.{Graph, empty}
 use Rattle.memory.specs.Plan.{clash_count}
 use Rattle.memory.specs.Memory.{Memory}
 use Rattle.rule.specs.declared.Entry.{Entry}

@@ -2,7 +2,7 @@
 use mathlib.Core.Bool.{Bool, true, false, cond, ◌&&◌}
 use mathlib.Core.List.{List, [], ◌∷◌}
 use mathlib.Core.Path.{◌≡◌, refl, sym, ap, subst, ◌∙◌}
-use Prim.Native.Nat.{ℕ, zero, suc, ◌*◌, ◌<◌}
+use Prim.Native.Nat.{ℕ, zero, suc, ◌<◌}
 use native.Mathlib.Omega.{arith}
 use lib.Dec.{leb, ltb, eqb}
 use lib.ListN.{length}
@@ -12,8 +12,8 @@ use Rattle.memory.specs.Plan.{Slices, long_enough, holds}
 use Rattle.memory.proofs.Theorems.{long}
 use Rattle.planner.proofs.Numbers.{none}
 use Rattle.shelf.specs.Names.{place_of, known}
-use Rattle.shelf.specs.Shelf.{place_size, place, used, tally_in, shelf_right}
-use Rattle.checkpoints.specs.Calls.{shelf_long, keep_number, keep, back_number, came_back, back_by, come_back}
+use Rattle.shelf.specs.Shelf.{place, tally_in, shelf_right}
+use Rattle.checkpoints.specs.Calls.{shelf_long, keep, back_number, came_back, back_by, come_back}
 use Rattle.checkpoints.proofs.Theorems.{kept_here, kept_other}
 use Rattle.checkpoints.proofs.Kept.{kept_tally}
 use Rattle.checkpoints.proofs.Returns.{keepable, keep_number-law}

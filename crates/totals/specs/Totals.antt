@@ -1,5 +1,5 @@
 -- The total of a run: adds less strikes since the plan was opened, counted from the calls and their answers alone (02, N7).
-use Rattle.std.specs.Prelude.{Bool, true, false, cond, ◌||◌, List, [], ◌∷◌, ◌≡◌, ℕ, zero, suc, ◌+◌, ◌-◌, T, leb, eqb, take, drop}
+use Rattle.std.specs.Prelude.{Bool, true, false, cond, ◌||◌, List, [], ◌∷◌, ◌≡◌, ℕ, zero, suc, ◌+◌, ◌-◌, leb, eqb, take, drop}
 use Rattle.rule.specs.Graph.{Graph, degree, neighbours, empty}
 use Rattle.rule.specs.Reach.{edited}
 use Rattle.rule.specs.declared.Kind.{Kind}

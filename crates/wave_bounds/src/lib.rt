@@ -1,6 +1,8 @@
 // How many waves a plan has at most, from its degrees alone.
+#![tactic(auto)]
+
+ghost use Rattle.memory.specs.Plan.{slices_of};
 ghost use Rattle.std.specs.Prelude.{◌≡◌};
-ghost use Rattle.memory.specs.Lent.{slices_before};
 ghost use Rattle.cell_counts.specs.inner.Cells.{FewEach};
 ghost use Rattle.planner.specs.Calls.{plan_number};
 ghost use Rattle.wave_bounds.specs.Calls.{bound_of};
@@ -12,7 +14,7 @@ use planner::check_plan;
 use rule::{ROW_CELLS, wide};
 
 // The answer of wave_bound.
-#[derive(Drop)]
+#[derive(Clone, Copy)]
 pub struct Bound {
     pub number: u16,
     pub bound: u16,
@@ -51,8 +53,8 @@ pub fn wave_bound(
     ranks: &[u16],
     tally: Tally,
 ) -> Bound
-    ensures number { result.number ≡ plan_number (slices_before neighbours degrees waves counts ranks) tally }
-    ensures bound { result.bound ≡ bound_of (slices_before neighbours degrees waves counts ranks) tally }
+    ensures number { result.number ≡ plan_number (slices_of neighbours.now degrees.now waves.now counts.now ranks.now) tally }
+    ensures bound { result.bound ≡ bound_of (slices_of neighbours.now degrees.now waves.now counts.now ranks.now) tally }
 {
     let number = check_plan(neighbours, degrees, waves, counts, ranks, tally);
     if number != 0 {

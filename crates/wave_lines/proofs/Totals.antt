@@ -1,11 +1,11 @@
 -- The foot of a text: how long it is, written in its pieces and read again.
 use mathlib.Core.List.{List, [], ◌∷◌, ◌++◌, append_assoc}
-use mathlib.Core.Path.{◌≡◌, refl, ap, ◌∙◌}
+use mathlib.Core.Path.{◌≡◌, ap, ◌∙◌}
 use Prim.Native.Nat.{ℕ, ◌+◌, ◌≤◌}
 use native.Mathlib.Omega.{arith}
 use lib.ListN.{length, length-append}
 use Rattle.text.specs.Text.{parts}
-use Rattle.text.specs.Numbers.{value_from, decimal}
+use Rattle.text.specs.Numbers.{decimal}
 use Rattle.text.specs.Places.{Puts}
 use Rattle.text.proofs.Decimal.{decimal_value}
 use Rattle.text.proofs.Putting.{puts_then, puts_three}

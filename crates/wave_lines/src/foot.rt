@@ -1,7 +1,7 @@
 // The foot of a text of a plan: `TOTAL n m`, the banks and the clashes of its tally.
 ghost use Rattle.std.specs.Prelude.{◌≡◌, ◌+◌, ◌≤◌, length};
 ghost use Rattle.text.specs.Numbers.{decimal};
-ghost use Rattle.text.specs.Places.{Room, Wrote};
+ghost use Rattle.text.specs.Places.{Room, Puts};
 ghost use Rattle.wave_lines.specs.Foot.{foot_text};
 
 use memory::Tally;
@@ -36,7 +36,7 @@ pub fn foot_length(tally: Tally) -> usize
 // `TOTAL n m`, at `at`; answers the place after it.
 fn put_totals(out: &mut [u8], at: usize, n: u16, m: u16) -> usize
     requires { at + (7 + (length (decimal n) + length (decimal m))) ≤ length out.old }
-    ensures { Wrote (foot_text n m) at out result }
+    ensures { Puts (foot_text n m) at out.old result out.new }
 {
     let banks = put_text(out, at, b"TOTAL ");
     let space = put_number(out, banks, n);
@@ -46,8 +46,8 @@ fn put_totals(out: &mut [u8], at: usize, n: u16, m: u16) -> usize
 
 // The foot of a plan with this tally, at `at`; answers the place after it.
 pub fn put_foot(out: &mut [u8], at: usize, tally: Tally) -> usize
-    requires { Room (foot_text tally.banks tally.clashes) at out }
-    ensures { Wrote (foot_text tally.banks tally.clashes) at out result }
+    requires { Room (foot_text tally.banks tally.clashes) at out.old }
+    ensures { Puts (foot_text tally.banks tally.clashes) at out.old result out.new }
 {
     put_totals(out, at, tally.banks, tally.clashes)
 }

@@ -1,4 +1,6 @@
 // The waves of a plan as lines, for every text of them: the wave letters, the foot, and the answer of a call that writes such a text.
+#![tactic(auto)]
+
 mod foot;
 
 ghost use Rattle.std.specs.Prelude.{◌≡◌, ◌<◌, get_or};
@@ -8,7 +10,7 @@ pub use foot::{foot_length, put_foot};
 use rule::Wave;
 
 // The answer of a call that writes a text: 01's number, and the bytes of the text.
-#[derive(Drop)]
+#[derive(Clone, Copy)]
 pub struct Written {
     pub number: u16,
     pub length: usize,

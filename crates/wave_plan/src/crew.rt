@@ -1,6 +1,6 @@
 // Trying crew sizes.
+ghost use Rattle.memory.specs.Plan.{slices_of};
 ghost use Rattle.std.specs.Prelude.{◌≡◌};
-ghost use Rattle.memory.specs.Lent.{slices_before};
 ghost use Rattle.c_reads.specs.Reads.{read_answered};
 ghost use Rattle.c_reads.specs.Crews.{crew_answered, crew_call, least_call};
 
@@ -20,7 +20,7 @@ pub extern "C" fn wave_plan_crew_steps(
     couriers: u16,
 ) -> u16
     ensures { crew_answered result steps.new res.new
-        ≡ crew_call couriers (slices_before neighbours degrees waves counts ranks) tally.now steps.old res.old }
+        ≡ crew_call couriers (slices_of neighbours.now degrees.now waves.now counts.now ranks.now) tally.now steps.old res.old }
 {
     crew_steps_in(
         neighbours, degrees, waves, counts, ranks, tally, steps, res, couriers,
@@ -40,7 +40,7 @@ pub extern "C" fn wave_plan_least_crew(
     limit: u16,
 ) -> u16
     ensures { read_answered result res.new
-        ≡ least_call limit (slices_before neighbours degrees waves counts ranks) tally.now res.old }
+        ≡ least_call limit (slices_of neighbours.now degrees.now waves.now counts.now ranks.now) tally.now res.old }
 {
     least_crew_in(neighbours, degrees, waves, counts, ranks, tally, res, limit)
 }

@@ -1,9 +1,9 @@
 // The edits of one clash, whose results are the moved count and the trail count; and the cap.
+ghost use Rattle.memory.specs.Plan.{slices_of};
 ghost use Rattle.std.specs.Prelude.{◌≡◌};
 ghost use Rattle.rule.specs.declared.Kind.TheVariants.{Adding, Striking};
 ghost use Rattle.c_cells.specs.CellMemory.{answered};
-ghost use Rattle.c_cells.specs.Lent.{cells_before, cells_after};
-ghost use Rattle.memory.specs.Lent.{slices_before};
+ghost use Rattle.c_cells.specs.Lent.{cells_given};
 ghost use Rattle.c_calls.specs.Calls.{edit_call, cap_answered, cap_call};
 
 use c_calls::{edit_in, set_cap_in};
@@ -24,8 +24,8 @@ pub extern "C" fn wave_plan_add(
     a: u16,
     b: u16,
 ) -> u16
-    ensures { answered result (cells_after neighbours degrees waves counts ranks trail moved tally res)
-        ≡ edit_call Adding a b (cells_before neighbours degrees waves counts ranks trail moved tally res) }
+    ensures { answered result (cells_given neighbours.new degrees.new waves.new counts.new ranks.now trail.new moved.new tally.new res.new)
+        ≡ edit_call Adding a b (cells_given neighbours.old degrees.old waves.old counts.old ranks.now trail.old moved.old tally.old res.old) }
 {
     edit_in(
         Kind::Adding,
@@ -58,8 +58,8 @@ pub extern "C" fn wave_plan_strike(
     a: u16,
     b: u16,
 ) -> u16
-    ensures { answered result (cells_after neighbours degrees waves counts ranks trail moved tally res)
-        ≡ edit_call Striking a b (cells_before neighbours degrees waves counts ranks trail moved tally res) }
+    ensures { answered result (cells_given neighbours.new degrees.new waves.new counts.new ranks.now trail.new moved.new tally.new res.new)
+        ≡ edit_call Striking a b (cells_given neighbours.old degrees.old waves.old counts.old ranks.now trail.old moved.old tally.old res.old) }
 {
     edit_in(
         Kind::Striking,
@@ -89,7 +89,7 @@ pub extern "C" fn wave_plan_set_cap(
     cap: u16,
 ) -> u16
     ensures { cap_answered result tally.new
-        ≡ cap_call cap (slices_before neighbours degrees waves counts ranks) tally.old }
+        ≡ cap_call cap (slices_of neighbours.now degrees.now waves.now counts.now ranks.now) tally.old }
 {
     set_cap_in(neighbours, degrees, waves, counts, ranks, tally, cap)
 }

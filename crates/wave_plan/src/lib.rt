@@ -1,5 +1,7 @@
 // The C library: the names and parameters of each call, as `include/wave_plan.h` declares them. What a call does is in the crates c_.., but for
 // opening a shelf, which has neither tally nor results: in `checkpoints`.
+#![tactic(auto)]
+
 mod crew;
 mod editing;
 mod plan;

@@ -1,6 +1,6 @@
 // Opening a plan, and reading one bank of it, or how many waves it has at most.
+ghost use Rattle.memory.specs.Plan.{slices_of};
 ghost use Rattle.std.specs.Prelude.{◌≡◌};
-ghost use Rattle.memory.specs.Lent.{slices_before, slices_after};
 ghost use Rattle.c_reads.specs.Reads.{read_answered, wave_call, clashes_call, bound_call, direct_call};
 ghost use Rattle.c_calls.specs.Calls.{open_answered, open_call};
 
@@ -18,8 +18,8 @@ pub extern "C" fn wave_plan_open(
     tally: &mut [u16],
     banks: u16,
 ) -> u16
-    ensures { open_answered result (slices_after neighbours degrees waves counts ranks) tally.new
-        ≡ open_call banks (slices_before neighbours degrees waves counts ranks) tally.old }
+    ensures { open_answered result (slices_of neighbours.new degrees.new waves.new counts.new ranks.new) tally.new
+        ≡ open_call banks (slices_of neighbours.old degrees.old waves.old counts.old ranks.old) tally.old }
 {
     open_in(neighbours, degrees, waves, counts, ranks, tally, banks)
 }
@@ -37,7 +37,7 @@ pub extern "C" fn wave_plan_wave_of(
     b: u16,
 ) -> u16
     ensures { read_answered result res.new
-        ≡ wave_call b (slices_before neighbours degrees waves counts ranks) tally.now res.old }
+        ≡ wave_call b (slices_of neighbours.now degrees.now waves.now counts.now ranks.now) tally.now res.old }
 {
     wave_of_in(neighbours, degrees, waves, counts, ranks, tally, res, b)
 }
@@ -56,7 +56,7 @@ pub extern "C" fn wave_plan_clashes_of(
     b: u16,
 ) -> u16
     ensures { read_answered result res.new
-        ≡ clashes_call b (slices_before neighbours degrees waves counts ranks) tally.now res.old }
+        ≡ clashes_call b (slices_of neighbours.now degrees.now waves.now counts.now ranks.now) tally.now res.old }
 {
     clashes_of_in(neighbours, degrees, waves, counts, ranks, tally, res, b)
 }
@@ -73,7 +73,7 @@ pub extern "C" fn wave_plan_wave_bound(
     res: &mut [u16],
 ) -> u16
     ensures { read_answered result res.new
-        ≡ bound_call (slices_before neighbours degrees waves counts ranks) tally.now res.old }
+        ≡ bound_call (slices_of neighbours.now degrees.now waves.now counts.now ranks.now) tally.now res.old }
 {
     wave_bound_in(neighbours, degrees, waves, counts, ranks, tally, res)
 }
@@ -91,7 +91,7 @@ pub extern "C" fn wave_plan_wave_by_rule(
     b: u16,
 ) -> u16
     ensures { read_answered result res.new
-        ≡ direct_call b (slices_before neighbours degrees waves counts ranks) tally.now res.old }
+        ≡ direct_call b (slices_of neighbours.now degrees.now waves.now counts.now ranks.now) tally.now res.old }
 {
     wave_by_rule_in(neighbours, degrees, waves, counts, ranks, tally, res, b)
 }

@@ -1,7 +1,7 @@
 // The edits that are recorded. Their results are the moved count, the trail count and the journal's new length.
 ghost use Rattle.std.specs.Prelude.{◌≡◌};
 ghost use Rattle.rule.specs.declared.Kind.TheVariants.{Adding, Striking};
-ghost use Rattle.c_cells.specs.Lent.{cells_before, cells_after};
+ghost use Rattle.c_cells.specs.Lent.{cells_given};
 ghost use Rattle.c_calls.specs.Calls.{record_answered, record_call};
 
 use c_calls::record_in;
@@ -24,8 +24,10 @@ pub extern "C" fn wave_plan_add_recorded(
     b: u16,
     length: usize,
 ) -> u16
-    ensures { record_answered result (cells_after neighbours degrees waves counts ranks trail moved tally res) journal.new
-        ≡ record_call Adding a b (cells_before neighbours degrees waves counts ranks trail moved tally res) length journal.old }
+    ensures { record_answered result (cells_given neighbours.new degrees.new waves.new counts.new ranks.now trail.new moved.new tally.new res.new)
+        journal.new
+        ≡ record_call Adding a b (cells_given neighbours.old degrees.old waves.old counts.old ranks.now trail.old moved.old tally.old res.old)
+        length journal.old }
 {
     record_in(
         Kind::Adding,
@@ -62,8 +64,10 @@ pub extern "C" fn wave_plan_strike_recorded(
     b: u16,
     length: usize,
 ) -> u16
-    ensures { record_answered result (cells_after neighbours degrees waves counts ranks trail moved tally res) journal.new
-        ≡ record_call Striking a b (cells_before neighbours degrees waves counts ranks trail moved tally res) length journal.old }
+    ensures { record_answered result (cells_given neighbours.new degrees.new waves.new counts.new ranks.now trail.new moved.new tally.new res.new)
+        journal.new
+        ≡ record_call Striking a b (cells_given neighbours.old degrees.old waves.old counts.old ranks.now trail.old moved.old tally.old res.old)
+        length journal.old }
 {
     record_in(
         Kind::Striking,

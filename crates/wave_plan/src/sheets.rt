@@ -1,5 +1,6 @@
 // Checking a sheet from anybody.
-ghost use Rattle.memory.specs.Lent.{slices_before};
+
+ghost use Rattle.memory.specs.Plan.{slices_of};
 ghost use Rattle.c_reads.specs.Sheets.{SheetChecked};
 
 use c_reads::check_sheet_in;
@@ -17,7 +18,7 @@ pub extern "C" fn wave_plan_check_sheet(
     sheet: &[u8],
 ) -> u16
     ensures { SheetChecked
-        (slices_before neighbours degrees waves counts ranks)
+        (slices_of neighbours.now degrees.now waves.now counts.now ranks.now)
         tally.now
         res.old
         sheet.now

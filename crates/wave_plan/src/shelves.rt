@@ -1,6 +1,6 @@
 // The shelf: opening it, keeping a plan on it, and coming back to one.
+ghost use Rattle.memory.specs.Plan.{slices_of};
 ghost use Rattle.std.specs.Prelude.{◌≡◌};
-ghost use Rattle.memory.specs.Lent.{slices_before, slices_after};
 ghost use Rattle.checkpoints.specs.Calls.{shelf_result, open_shelf};
 ghost use Rattle.c_shelves.specs.Shelves.{keep_call, back_answered, come_back_call};
 
@@ -28,7 +28,7 @@ pub extern "C" fn wave_plan_keep(
     name: &[u8],
 ) -> u16
     ensures { shelf_result result shelf.new
-        ≡ keep_call name.now (slices_before neighbours degrees waves counts ranks) tally.now shelf.old }
+        ≡ keep_call name.now (slices_of neighbours.now degrees.now waves.now counts.now ranks.now) tally.now shelf.old }
 {
     keep_in(
         neighbours, degrees, waves, counts, ranks, tally, shelf, name,
@@ -49,8 +49,8 @@ pub extern "C" fn wave_plan_come_back(
     name: &[u8],
     res: &mut [u16],
 ) -> u16
-    ensures { back_answered result (slices_after neighbours degrees waves counts ranks) moved.new tally.new res.new
-        ≡ come_back_call name.now (slices_before neighbours degrees waves counts ranks) moved.old tally.old
+    ensures { back_answered result (slices_of neighbours.new degrees.new waves.new counts.new ranks.new) moved.new tally.new res.new
+        ≡ come_back_call name.now (slices_of neighbours.old degrees.old waves.old counts.old ranks.old) moved.old tally.old
         shelf.now res.old }
 {
     come_back_in(

@@ -1,7 +1,7 @@
 // The calls that make a plan from bytes.
 ghost use Rattle.std.specs.Prelude.{◌≡◌};
 ghost use Rattle.c_cells.specs.CellMemory.{answered};
-ghost use Rattle.c_cells.specs.Lent.{cells_before, cells_after};
+ghost use Rattle.c_cells.specs.Lent.{cells_given};
 ghost use Rattle.c_texts.specs.Texts.{list_call, replay_call};
 
 use c_texts::{Source, make_plan_in};
@@ -20,8 +20,8 @@ pub extern "C" fn wave_plan_read_list(
     tally: &mut [u16],
     res: &mut [u16],
 ) -> u16
-    ensures { answered result (cells_after neighbours degrees waves counts ranks trail moved tally res)
-        ≡ list_call list.now (cells_before neighbours degrees waves counts ranks trail moved tally res) }
+    ensures { answered result (cells_given neighbours.new degrees.new waves.new counts.new ranks.new trail.new moved.new tally.new res.new)
+        ≡ list_call list.now (cells_given neighbours.old degrees.old waves.old counts.old ranks.old trail.old moved.old tally.old res.old) }
 {
     make_plan_in(
         Source::FromList,
@@ -52,8 +52,8 @@ pub extern "C" fn wave_plan_replay(
     tally: &mut [u16],
     res: &mut [u16],
 ) -> u16
-    ensures { answered result (cells_after neighbours degrees waves counts ranks trail moved tally res)
-        ≡ replay_call journal.now (cells_before neighbours degrees waves counts ranks trail moved tally res) }
+    ensures { answered result (cells_given neighbours.new degrees.new waves.new counts.new ranks.new trail.new moved.new tally.new res.new)
+        ≡ replay_call journal.now (cells_given neighbours.old degrees.old waves.old counts.old ranks.old trail.old moved.old tally.old res.old) }
 {
     make_plan_in(
         Source::FromJournal,

@@ -1,6 +1,6 @@
 // The calls that write bytes of the plan to the front of a slice. The result is how many they are.
+ghost use Rattle.memory.specs.Plan.{slices_of};
 ghost use Rattle.std.specs.Prelude.{◌≡◌};
-ghost use Rattle.memory.specs.Lent.{slices_before};
 ghost use Rattle.c_texts.specs.Texts.{text_answered, sheet_call, poster_call, start_call};
 
 use c_texts::{Text, write_in};
@@ -18,7 +18,7 @@ pub extern "C" fn wave_plan_write_sheet(
     res: &mut [u16],
 ) -> u16
     ensures { text_answered result out.new res.new
-        ≡ sheet_call (slices_before neighbours degrees waves counts ranks) tally.now out.old res.old }
+        ≡ sheet_call (slices_of neighbours.now degrees.now waves.now counts.now ranks.now) tally.now out.old res.old }
 {
     write_in(
         Text::Sheet,
@@ -46,7 +46,7 @@ pub extern "C" fn wave_plan_write_poster(
     res: &mut [u16],
 ) -> u16
     ensures { text_answered result out.new res.new
-        ≡ poster_call (slices_before neighbours degrees waves counts ranks) tally.now out.old res.old }
+        ≡ poster_call (slices_of neighbours.now degrees.now waves.now counts.now ranks.now) tally.now out.old res.old }
 {
     write_in(
         Text::Poster,
@@ -74,7 +74,7 @@ pub extern "C" fn wave_plan_start_journal(
     res: &mut [u16],
 ) -> u16
     ensures { text_answered result journal.new res.new
-        ≡ start_call (slices_before neighbours degrees waves counts ranks) tally.now journal.old res.old }
+        ≡ start_call (slices_of neighbours.now degrees.now waves.now counts.now ranks.now) tally.now journal.old res.old }
 {
     write_in(
         Text::Journal,

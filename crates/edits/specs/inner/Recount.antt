@@ -3,7 +3,6 @@ use Rattle.std.specs.Prelude.{true, List, ◌≡◌, ℕ, ◌+◌, ◌*◌, ◌<
 use Rattle.rule.specs.Graph.{Graph, earlier_neighbours}
 use Rattle.memory.specs.Cells.{Beyond}
 use Rattle.memory.specs.inner.Counts.{standing}
-use Rattle.memory.specs.Lent.{Lent}
 use Rattle.memory.specs.Plan.{Slices, slices_of}
 use Rattle.memory.specs.inner.Test.{counts_of}
 use Rattle.memory.specs.inner.View.{Shown}
@@ -16,9 +15,8 @@ pub record Recounted (cs cs' : List ℕ) (b : ℕ) (counts : ℕ → ℕ) : Type
   pub above : (j : ℕ) → b * 24 + 24 ≤ j → get_or cs' j 0 ≡ get_or cs j 0
 
 -- that is done for b
-abbrev pub Recounts : Lent → Lent → Lent → Lent → Lent → ℕ → Type 0
-Recounts ns ds ws cs rs b =
-    Recounted cs.entry.now cs.exit.now b (counts_of ns.entry.now ds.entry.now rs.entry.now ws.entry.now b)
+abbrev pub Recounts : List ℕ → List ℕ → List ℕ → List ℕ → List ℕ → List ℕ → ℕ → Type 0
+Recounts ns ds ws cs rs cs' b = Recounted cs cs' b (counts_of ns ds rs ws b)
 
 -- Counts of the banks in the queue are those of G with the stored waves, and every other cell is as in `was`
 pub record Recounting (G : Graph) (s : Slices) (was q : List ℕ) (n : ℕ) : Type 0 where

@@ -1,7 +1,5 @@
 -- Entries written into a new journal, as the functions under `start_journal` name them: by how many stand before them.
 use Rattle.std.specs.Prelude.{true, List, ◌≡◌, ℕ, suc, ◌+◌, ◌*◌, ◌≤◌, length, get_or}
-use Rattle.std.specs.Borrow.{Bor}
-use denote.Triple.Both.{Both}
 use Rattle.rule.specs.declared.Entry.{Entry}
 use Rattle.text.specs.Places.{put}
 use Rattle.journal_fields.specs.Fields.{first_size, entry_size, entries_bytes}
@@ -24,9 +22,6 @@ pub record Fit (es : List Entry) (k : ℕ) (out : List ℕ) : Type 0 where
   pub inside : place_of (k + length es) ≤ length out
   pub few : place_of (k + length es) ≤ 60000
 
--- the same as contracts say it, of an output that is lent
-abbrev pub RoomFor : List Entry → ℕ → Bor (List ℕ) → Type 0
-RoomFor es k out = Fit es k out.now
-
-abbrev pub WroteEntries : List Entry → ℕ → Both (Bor (List ℕ)) (Bor (List ℕ)) → ℕ → Type 0
-WroteEntries es k out r = PutsEntries es k out.entry.now r out.exit.now
+-- the same, as contracts say it
+abbrev pub RoomFor : List Entry → ℕ → List ℕ → Type 0
+RoomFor = Fit

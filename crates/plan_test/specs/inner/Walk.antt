@@ -1,7 +1,7 @@
 -- The walk over the clashes that question 5 takes: what its cursors and its cells hold on the way.
 use Rattle.std.specs.Prelude.{Bool, true, false, cond, List, [], ◌∷◌, ◌++◌, ◌≡◌, ℕ, ◌+◌, ◌*◌, ◌≤◌, ◌<◌, T, length, get_or, take}
 use Rattle.rule.specs.Lists.{upto, filter, memb}
-use Rattle.memory.specs.inner.Counts.{by_cells, CountedTo, grown}
+use Rattle.memory.specs.inner.Counts.{by_cells, CountedTo}
 use Rattle.memory.specs.inner.Test.{row, part, Rows, WavesSmall, Symmetric}
 
 -- the cell in which the earlier of two banks is counted for the later one

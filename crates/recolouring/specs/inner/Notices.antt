@@ -2,7 +2,6 @@
 use Rattle.std.specs.Prelude.{Bool, true, cond, ◌&&◌, List, ◌≢◌, ◌≡◌, ℕ, ◌+◌, ◌*◌, ◌<◌, ◌≤◌, T, length, get_or, take}
 use Rattle.rule.specs.Lists.{memb}
 use Rattle.rule.specs.Graph.{Graph, neighbours, earlier}
-use Rattle.memory.specs.Lent.{Lent}
 use Rattle.memory.specs.inner.View.{Shown}
 use Rattle.queue.specs.Queue.{Queue}
 use Rattle.recolouring.specs.Recolouring.{later_neighbour, one_moved, Notified}
@@ -16,8 +15,8 @@ pub record Movable (cs : List ℕ) (v o w : ℕ) (notified : Bool) : Type 0 wher
   pub few : get_or cs (v * 24 + w) 0 < 65535
 
 -- it has
-abbrev pub MovesCount : Lent → ℕ → ℕ → ℕ → Bool → Type 0
-MovesCount cs v o w notified = cs.exit.now ≡ cond notified (one_moved cs.entry.now v o w) cs.entry.now
+abbrev pub MovesCount : List ℕ → List ℕ → ℕ → ℕ → ℕ → Bool → Type 0
+MovesCount cs cs' v o w notified = cs' ≡ cond notified (one_moved cs v o w) cs
 
 -- what notifying asks: if b changed, it went from wave o to another, w; each later neighbour has a count in o
 pub record Notifiable (G : Graph) (ns ds rs cs q : List ℕ) (b : ℕ) (changed : Bool) (o w : ℕ) : Type 0 where
@@ -28,10 +27,9 @@ pub record Notifiable (G : Graph) (ns ds rs cs q : List ℕ) (b : ℕ) (changed 
   pub queue : Queue G q
 
 -- the later neighbours of b are notified if it changed, whichever clashes these are
-abbrev pub NotifiesLater : Lent → Lent → Lent → Lent → Lent → ℕ → Bool → ℕ → ℕ → Type 0
-NotifiesLater ns ds rs cs q b changed o w =
-    (G : Graph) → Notifiable G ns.entry.now ds.entry.now rs.entry.now cs.entry.now q.entry.now b changed o w
-    → Notified G cs.entry.now cs.exit.now q.entry.now q.exit.now o w (λ x. changed && later_neighbour G b x)
+abbrev pub NotifiesLater : List ℕ → List ℕ → List ℕ → List ℕ → List ℕ → List ℕ → List ℕ → ℕ → Bool → ℕ → ℕ → Type 0
+NotifiesLater ns ds rs cs q cs' q' b changed o w =
+    (G : Graph) → Notifiable G ns ds rs cs q b changed o w → Notified G cs cs' q q' o w (λ x. changed && later_neighbour G b x)
 
 -- what the notifying of a bank's later neighbours starts from: the clashes, Counts and the queue
 pub record Notice : Type 0 where
@@ -46,7 +44,6 @@ pub record Notifying (s : Notice) (ns ds rs cs q : List ℕ) (b o w i : ℕ) : T
       (λ x. memb x (take i (neighbours s.graph b)) && earlier s.graph b x)
 
 -- and one neighbour more
-abbrev pub NotifiesNext : Lent → Lent → Lent → Lent → Lent → ℕ → ℕ → ℕ → ℕ → Type 0
-NotifiesNext ns ds rs cs q b o w i =
-    (s : Notice) → Notifying s ns.entry.now ds.entry.now rs.entry.now cs.entry.now q.entry.now b o w i
-    → Notifying s ns.entry.now ds.entry.now rs.entry.now cs.exit.now q.exit.now b o w (i + 1)
+abbrev pub NotifiesNext : List ℕ → List ℕ → List ℕ → List ℕ → List ℕ → List ℕ → List ℕ → ℕ → ℕ → ℕ → ℕ → Type 0
+NotifiesNext ns ds rs cs q cs' q' b o w i =
+    (s : Notice) → Notifying s ns ds rs cs q b o w i → Notifying s ns ds rs cs' q' b o w (i + 1)

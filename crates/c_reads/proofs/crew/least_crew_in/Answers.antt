@@ -1,0 +1,12 @@
+-- `least_crew_in` meets its contract.
+use Rattle.c_cells.proofs.Rooms.{roomed_some}
+use Rattle.c_reads.proofs.CrewsDone.{least_done-law}
+use Rattle.c_reads.specs.Crews.{least_call}
+use Rattle.c_reads.proofs.crew.least_crew_in.Goals as goal
+
+pub returns-then-short-ne0 : goal.returns-then-short-ne0
+unfolding least_call
+returns-then-short-ne0 c = roomed_some _ _ _ _ c.room-short.ensures.number _ _ c.if-short-ne0.true
+
+pub returns : goal.returns
+returns c = least_done-law _ _ _ _ _ c.tally_in-t.ensures c.if-short-ne0.false c.room-short.ensures.number _ _ _ c.least_crew-r.ensures c.put_front.ensures

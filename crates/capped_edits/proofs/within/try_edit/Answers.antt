@@ -1,0 +1,30 @@
+-- `try_edit`: refused at once, made, or made and unmade.
+use Rattle.capped_edits.proofs.Unmade.{made_ready, first_refused, kept, unmade}
+use mathlib.Core.Path.{sym, ◌∙◌}
+use Rattle.capped_edits.proofs.within.try_edit.Goals as goal
+
+pub edit_alone-made-requires : goal.edit_alone-made-requires
+edit_alone-made-requires c = c.requires
+
+pub returns-then-made-ne0 : goal.returns-then-made-ne0
+returns-then-made-ne0 c =
+    let e = c.edit_alone-made.ensures in
+    λ G ready. first_refused (e G ready) _ c.if-made-ne0.true
+
+pub returns-then-number-eq0 : goal.returns-then-number-eq0
+returns-then-number-eq0 c =
+    let e = c.edit_alone-made.ensures in
+    λ G ready. kept (e G ready) _ c.if-made-ne0.false (sym c.late_number-number.ensures ∙ c.if-number-eq0.true)
+
+pub take_back-requires : goal.take_back-requires
+take_back-requires c =
+    let e = c.edit_alone-made.ensures in
+    let p = c.requires in
+    (_, made_ready (e p.0 p.1) c.if-made-ne0.false)
+
+pub returns : goal.returns
+returns c =
+    let e = c.edit_alone-made.ensures in
+    λ G ready.
+    unmade (e G ready) ready c.if-made-ne0.false (c.take_back.ensures _ (made_ready (e G ready) c.if-made-ne0.false)) _ c.late_number-number.result
+    c.late_number-number.ensures c.if-number-eq0.false _ c.refuse.ensures

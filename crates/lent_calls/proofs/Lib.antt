@@ -1,2 +1,0 @@
--- Forms: the parameters of the functions that come in pairs.
-pub mod Forms

@@ -1,0 +1,6 @@
+-- `clear_bit`: by the law of one bit written.
+use Rattle.queue.proofs.Writing.{clear_written}
+use Rattle.queue.proofs.words.clear_bit.Goals as goal
+
+pub returns : goal.returns
+returns c = clear_written c.requires.has_bit c.args.out c.requires.t
