@@ -5,7 +5,7 @@
 # make desk               the dispatcher's program, target/bin/desk
 # make install PREFIX=..  programs, library, headers and a pkg-config file into bin, lib and include of that folder (DESTDIR=..: below that one)
 # make dev CRATE=rule     rechecks one crate while it is worked on, in seconds: not the verdict
-# make check              every proof, no must-fail edit; what has not changed is not proved again
+# make check              every proof, no must-fail edit, and all programs and the library; what has not changed is not proved again
 # make papers             docs, header and README against the sources, in seconds
 # make quick              the tests alone, over the programs and the library as they are built
 # make must-fail          every must-fail edit, over the crates as they are proved (CRATE=rule: those of one crate)
@@ -14,39 +14,32 @@
 # make fmt                the layout of all sources
 PACKAGES = bindings/rust desk tests/independent tests/program tests/library bench
 
-PROGRAMS = $(addprefix target/bin/,sheet poster doubt crew agree)
+NAMES = sheet poster doubt crew agree
+PROGRAMS = $(addprefix target/bin/,$(NAMES))
 ARCHIVE = target/staticlib/libwave_plan.a
 SHARED = target/staticlib/libwave_plan.so
 SONAME = libwave_plan.so.0
 
 .PHONY: run poster lib shared desk install dev check papers quick must-fail test bench fmt
-.SILENT: run poster dev check papers quick must-fail test $(PROGRAMS)
+.SILENT: run poster lib dev papers quick must-fail test $(PROGRAMS) $(ARCHIVE)
 .NOTPARALLEL: # rt and cargo use all cores
 SHELL = bash
 .SHELLFLAGS = -o pipefail -c
-export TMPDIR := $(shell tools/scratch)
-
-# Proves a crate (or all) and what it stands on. Of what rt says its own lines are shown, as crates are done; all of it where one is not proved.
-define prove
-	echo "proving $(or $(1),every crate)$(if $(1), and what it stands on) (the first time: some minutes; unchanged: seconds) .." >&2
-	mkdir -p target
-	rt check $(1) 2>&1 | tee target/$(@F).log | awk '/^rt: / && !/unchanged/ { print; fflush() }' >&2 || { cat target/$(@F).log >&2; exit 1; }
-endef
 
 run:
-	$(call prove,sheet)
+	tools/build sheet
 	target/bin/sheet <examples/depot.list
 
 poster:
-	$(call prove,poster)
+	tools/build poster
 	target/bin/poster <examples/depot.list
 
 # As files, library and programs are built only where they are missing: make lib and make check bring them up to date.
 lib $(ARCHIVE):
-	rt staticlib wave_plan
+	tools/build wave_plan
 
 $(PROGRAMS):
-	$(call prove,$(@F))
+	tools/build $(@F)
 
 shared: $(SHARED)
 $(SHARED): $(ARCHIVE)
@@ -73,10 +66,11 @@ install:
 endif
 
 dev:
-	$(if $(CRATE),rt dev $(CRATE),echo "make dev CRATE=NAME, one of:" $$(sed -n 's/^\([a-z_]*\):.*/\1/p' crates.txt); exit 2)
+	$(if $(CRATE),cd crates/$(CRATE) && rt check,echo "make dev CRATE=NAME, one of:" $$(sed -n 's/^\([a-z_]*\).*:.*/\1/p' crates.txt); exit 2)
 
 check:
-	$(call prove,)
+	rt all check
+	tools/build $(NAMES) wave_plan
 
 papers:
 	tests/papers
@@ -85,18 +79,17 @@ quick:
 	tests/run quick
 
 must-fail:
-	tests/must-fail $(CRATE)
+	rt must-fail $(CRATE)
+	$(if $(CRATE),,tests/must-not-compile/run)
 
 test:
 	tests/run
 
 bench:
-	rt check sheet
-	rt staticlib wave_plan
-	rt staticlib bench_edit
+	tools/build sheet wave_plan bench_edit
 	bench/peers/build
 	cd bench && cargo run --release -- $(BENCH)
 
 fmt:
-	rt fmt
-	for p in $(PACKAGES); do (cd $$p && cargo fmt); done
+	for c in crates/*; do (cd $$c && rt fmt) || exit; done
+	for p in $(PACKAGES); do (cd $$p && cargo fmt) || exit; done

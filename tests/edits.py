@@ -1,16 +1,13 @@
 """The edits that the prover or the compiler must refuse: where they stand, and what each makes of its crate.
 
-crates/CRATE/must-fail/NAME.edit is an edit of CRATE that must not be proved. tests/must-not-compile/NAME.edit names its crate in a
-line `crate:` and must not compile. A line `file:` holds for the pairs `old:` and `new:` after it. Each old text stands in its file
-exactly once, as the pairs before have left it. Other lines are comments.
+crates/CRATE/must-fail/NAME.edit is an edit of CRATE that must not be proved: `rt ci` and `rt must-fail` try it. tests/must-not-compile/NAME.edit
+names its crate in a line `crate:` and must not compile: tests/must-not-compile/run tries it. A line `file:` holds for the pairs `old:` and `new:`
+after it. Each old text stands in its file exactly once, as the pairs before have left it. Other lines are comments.
 """
 import re
 from pathlib import Path
 
 UNCOMPILED = Path("tests/must-not-compile")
-
-# A function with a contract has the brace of its body in a line of its own; one without has it at the end of its head.
-FUNCTION = re.compile(r'^(?:pub )?(?:extern "C" )?fn (?P<name>\w+)(?:.*\n)*?(?P<body>\{|\S.*\{)\n(?:.*\n)*?\}$', re.M)
 
 
 class BadEdit(Exception):
@@ -25,10 +22,9 @@ class Edit:
         self.text = path.read_text(encoding="utf-8")
         self.crate = path.parent.parent.name if self.compiles else re.search(r"^crate: (.*)$", self.text, re.M).group(1)
 
-    def edited(self, root, sources=None):
-        """The files that the edit changes, by their paths in a crate that stands in `root`, with their texts afterwards. `sources`
-        are files that edits before it have changed."""
-        sources, file, old, pairs = dict(sources or {}), None, "", 0
+    def edited(self, root):
+        """The files that the edit changes, by their paths in a crate that stands in `root`, with their texts afterwards."""
+        sources, file, old, pairs = {}, None, "", 0
         for word, rest in self.lines():
             if word == "file":
                 file = rest
@@ -49,20 +45,6 @@ class Edit:
 
     def lines(self):
         return re.findall(r"^(file|old|new):(?: (.*))?$", self.text, re.M)
-
-    def function(self):
-        """The function in whose body all of the edit stands: its source, its name and the line of its head. None if the edit changes
-        anything else, as a constant, a contract or a definition."""
-        found, file = set(), None
-        for word, rest in self.lines():
-            if word == "file":
-                file = rest
-            elif word == "old":
-                source = Path("crates", self.crate, file).read_text(encoding="utf-8")
-                at = source.find(rest)
-                inside = [f for f in FUNCTION.finditer(source) if f.start("body") < at and at + len(rest) <= f.end()] if file.endswith(".rt") else []
-                found |= {(file, f["name"], source.count("\n", 0, f.start()) + 1) for f in inside} or {None}
-        return found.pop() if len(found) == 1 else None
 
 
 def every_edit():
