@@ -2,7 +2,7 @@
 use agree_lines::{VERDICT_BYTES, put_verdict};
 use list_program::put_refusal;
 use list_reader::read_list_core;
-use memory::Tally;
+use memory::{PlanMemory, Tally};
 use rule::{COUNT_CELLS, MOST_BANKS, MOST_WAVES, ROW_CELLS};
 
 // The cells of Neighbours and of Counts for the most banks.
@@ -22,30 +22,14 @@ fn print(rt: &impl Print, text: &[u8]) -> bool {
 fn print_refusal(rt: &impl Print, number: u16, row: u16) -> bool {
     let mut line = [0u8; REFUSAL_BYTES];
     let length = put_refusal(&mut line, number, row);
-    print(rt, &line[0..length])
+    print(rt, &line[..length])
 }
 
-// The verdict on a sheet, where the list got no number. Answers whether it was written.
-fn print_answer(
-    rt: &impl Print,
-    neighbours: &[u16],
-    degrees: &[u16],
-    waves: &[u16],
-    counts: &[u16],
-    ranks: &[u16],
-    tally: Tally,
-    number: u16,
-    row: u16,
-    sheet: &[u8],
-) -> bool {
-    if number != 0 {
-        return print_refusal(rt, number, row);
-    }
+// The verdict on a sheet by the list's plan. Answers whether it was written.
+fn print_verdict(rt: &impl Print, plan: PlanMemory, sheet: &[u8]) -> bool {
     let mut lines = [0u8; VERDICT_BYTES];
-    let length = put_verdict(
-        &mut lines, neighbours, degrees, waves, counts, ranks, tally, sheet,
-    );
-    print(rt, &lines[0..length])
+    let length = put_verdict(&mut lines, plan, sheet);
+    print(rt, &lines[..length])
 }
 
 // The answer to a list and a sheet. Answers whether it was written.
@@ -74,16 +58,16 @@ pub fn answer(rt: &impl Print, list: &[u8], sheet: &[u8]) -> bool {
         },
     );
     let reading = read.answer;
-    print_answer(
-        rt,
-        &neighbours,
-        &degrees,
-        &waves,
-        &counts,
-        &ranks,
-        read.tally,
-        reading.number,
-        reading.row,
-        sheet,
-    )
+    if reading.number != 0 {
+        return print_refusal(rt, reading.number, reading.row);
+    }
+    let plan = PlanMemory {
+        neighbours: &neighbours,
+        degrees: &degrees,
+        waves: &waves,
+        counts: &counts,
+        ranks: &ranks,
+        tally: read.tally,
+    };
+    print_verdict(rt, plan, sheet)
 }

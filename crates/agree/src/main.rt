@@ -22,13 +22,11 @@ fn tell(rt: &impl Eprint, line: &str) {
 // Answers the list and the file of the sheet.
 fn agree(rt: &(impl Env + Files + Print + Eprint), list: &[u8]) {
     let mut sheet = [0u8; SHEET_BYTES];
-    let lines = read_file(rt, 2, &mut sheet);
-    if lines.failed {
+    let Some(length) = read_file(rt, 2, &mut sheet) else {
         tell(rt, "SHEET cannot be read\n");
         return;
-    }
-    let length = lines.length;
-    if !answer(rt, list, &sheet[0..length]) {
+    };
+    if !answer(rt, list, &sheet[..length]) {
         tell(rt, "standard output cannot be written\n");
     }
 }
@@ -39,11 +37,9 @@ fn main(rt: HostRuntime) {
         return;
     }
     let mut list = [0u8; LIST_BYTES];
-    let rows = read_file(&rt, 1, &mut list);
-    if rows.failed {
+    let Some(length) = read_file(&rt, 1, &mut list) else {
         tell(&rt, "LIST cannot be read\n");
         return;
-    }
-    let length = rows.length;
-    agree(&rt, &list[0..length]);
+    };
+    agree(&rt, &list[..length]);
 }

@@ -5,8 +5,7 @@ use Rattle.memory.specs.Plan.{Slices, graph_in}
 use Rattle.text.specs.Places.{Puts}
 use Rattle.sheet_writer.specs.Sheet.{sheet}
 use Rattle.sheet_parser.specs.Sheets.{wave_read, same_bytes}
-use Rattle.sheet_reader.specs.declared.Verdict.{Verdict}
-use Rattle.sheet_reader.specs.Calls.{Answered}
+use Rattle.sheet_reader.specs.Calls.{Verdict, Answered}
 use Rattle.list_program.specs.Answers.{refusal_text}
 use Rattle.agree_lines.specs.Lines.{accepted_text, no_sheet_text, waves_text}
 
@@ -20,7 +19,7 @@ unfoldable pub verdict_text : Slices → Tally → List ℕ → Verdict → List
 verdict_text s t bytes v =
     cond (eqb v.number 0) (accepted_text (is_own s t bytes))
     (cond (eqb v.number 26) (no_sheet_text v.line)
-    (cond (eqb v.number 27) (waves_text v.first.0 v.second.0 (wave_read bytes v.first.0) t.waves) (refusal_text v.number 0)))
+    (cond (eqb v.number 27) (waves_text v.first v.second (wave_read bytes v.first) t.waves) (refusal_text v.number 0)))
 
 -- the lines of what the call answers were written to the front of out, and r is the place after them
 pub record Printed (s : Slices) (t : Tally) (bytes out : List ℕ) (r : ℕ) (out' : List ℕ) : Type 0 where

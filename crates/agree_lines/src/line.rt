@@ -27,9 +27,10 @@ pub fn put_accepted(out: &mut [u8], own: bool) -> usize
     ensures { Puts (accepted_text own) 0 out.old result out.new × (result ≤ 49) }
 {
     if own {
-        return put_text(out, 0, b"ACCEPTED\nthe planner's own sheet\n");
+        put_text(out, 0, b"ACCEPTED\nthe planner's own sheet\n")
+    } else {
+        put_text(out, 0, b"ACCEPTED\nnot the planner's own sheet\n")
     }
-    put_text(out, 0, b"ACCEPTED\nnot the planner's own sheet\n")
 }
 
 // `REFUSED 26 line l`.

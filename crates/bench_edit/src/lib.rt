@@ -34,14 +34,14 @@ fn bench_edit(
     a: u16,
     b: u16,
 ) -> u16
-    requires tally_size_in_bounds { (tally_size ≤ length tally.old) × (2 ≤ length res.old) }
+    requires cells { (tally_size ≤ length tally.old) × (2 ≤ length res.old) }
     requires holds_plan { HoldsPlan (memory_in (cells_given neighbours.old degrees.old waves.old counts.old ranks.now trail.old moved.old tally.old res.old)) }
     requires idle { Idle (tally_in tally.old).banks ranks.now queue.old }
-    ensures res_value { (G : Graph)
+    ensures edited { (G : Graph)
         → Ready G (memory_in (cells_given neighbours.old degrees.old waves.old counts.old ranks.now trail.old moved.old tally.old res.old))
         → answered result (cells_given neighbours.new degrees.new waves.new counts.new ranks.now trail.new moved.new tally.new res.new)
         ≡ held_call kind G a b (cells_given neighbours.old degrees.old waves.old counts.old ranks.now trail.old moved.old tally.old res.old) }
-    ensures idle_2 { Idle (tally_in tally.old).banks ranks.now queue.new }
+    ensures idle_after { Idle (tally_in tally.old).banks ranks.now queue.new }
 {
     let t = tally_in(tally);
     let r = edit_held(

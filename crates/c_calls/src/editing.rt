@@ -7,6 +7,7 @@ ghost use Rattle.c_calls.specs.Calls.{edit_call, cap_answered, cap_call};
 
 use c_cells::{put_answer, put_tally, room, tally_in};
 use edit_calls::{edit_core, set_cap_core};
+use memory::PlanMemory;
 use rule::{Bank, Kind};
 
 const EDIT_RESULTS: usize = 2;
@@ -68,8 +69,19 @@ pub fn set_cap_in(
     if short != 0 {
         return short;
     }
-    let t = tally_in(tally);
-    let r = set_cap_core(neighbours, degrees, waves, counts, ranks, t, cap);
-    put_tally(tally, r.tally);
-    r.number
+    let plan = PlanMemory {
+        neighbours,
+        degrees,
+        waves,
+        counts,
+        ranks,
+        tally: tally_in(tally),
+    };
+    match set_cap_core(plan, cap) {
+        Ok(after) => {
+            put_tally(tally, after);
+            0
+        }
+        Err(refusal) => u16::from(refusal),
+    }
 }

@@ -24,7 +24,11 @@ pub fn open_in(
         return short;
     }
     let t = tally_in(tally);
-    let r = open_core(neighbours, degrees, waves, counts, ranks, banks, t);
-    put_tally(tally, r.tally);
-    r.number
+    match open_core(neighbours, degrees, waves, counts, ranks, banks, t) {
+        Ok(after) => {
+            put_tally(tally, after);
+            0
+        }
+        Err(refusal) => u16::from(refusal),
+    }
 }

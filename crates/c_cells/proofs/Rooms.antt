@@ -1,20 +1,12 @@
 -- Short slices: 2, or else what the call leaves.
 use mathlib.Core.Path.{◌≡◌, refl, sym, ◌∙◌}
-use Prim.Native.Nat.{ℕ, zero, suc, ◌≤◌, ◌<◌}
-use borrow.Author.Tests.{le-leb, lt-leb, leb-true}
+use Prim.Native.Nat.{ℕ, zero, suc, ◌≤◌}
+use borrow.Author.Tests.{le-leb, leb-true}
 use Rattle.planner.specs.Questions.{first_no}
 use Rattle.planner.proofs.Numbers as Numbers
 use Rattle.c_cells.specs.CellMemory.{tally_size, short_number, roomed}
 
 module _ (needed tally result : ℕ) where
-  pub short_tally : tally < tally_size → 2 ≡ short_number needed tally result
-  unfolding short_number first_no
-  short_tally h = rw (lt-leb tally_size tally h)
-
-  pub short_result : tally_size ≤ tally → result < needed → 2 ≡ short_number needed tally result
-  unfolding short_number first_no
-  short_result h k = rw (le-leb tally_size tally h, lt-leb needed result k)
-
   pub none_short : tally_size ≤ tally → needed ≤ result → 0 ≡ short_number needed tally result
   unfolding short_number first_no
   none_short h k = rw (le-leb tally_size tally h, le-leb needed result k)

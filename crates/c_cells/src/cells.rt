@@ -10,17 +10,16 @@ use memory::{Tally, put_front};
 const TALLY_CELLS: usize = 4;
 
 // 2 if a tally slice of so many cells is short, or a result slice of so many has fewer than the call needs; else 0.
+#[tactic(auto, unfolding(crate::specs::CellMemory::short_number, planner::specs::Questions::first_no))]
 pub fn room(tally: usize, res: usize, needed: usize) -> u16
     ensures number { result ≡ short_number needed tally res }
     ensures enough { Enough needed tally res result }
 {
-    if tally < TALLY_CELLS {
-        return 2;
+    if tally < TALLY_CELLS || res < needed {
+        2
+    } else {
+        0
     }
-    if res < needed {
-        return 2;
-    }
-    0
 }
 
 // The tally in the front cells.

@@ -8,6 +8,9 @@ use borrow.Author.Tests.{leb-true, ltb-true}
 use Rattle.rule.specs.Graph.{Graph, neighbours}
 use Rattle.rule.proofs.Booleans.{t_along}
 use Rattle.rule.proofs.Neighbours.{degree_length}
+use Rattle.rule.specs.declared.refusal.Refusal.{Refusal}
+use Rattle.rule.specs.Refusals.{number_of}
+use Rattle.rule.proofs.Refusals.{refused_some}
 use Rattle.memory.specs.declared.Tally.{Tally}
 use Rattle.memory.specs.Plan.{Slices, graph_in, PlanOf}
 use Rattle.memory.proofs.Theorems.{holds_plan-law}
@@ -16,13 +19,14 @@ use Rattle.planner.proofs.Numbers as Numbers
 use Rattle.planner.proofs.Rows as Rows
 use Rattle.c_reads.specs.Reads.{row_start}
 
-pub row_start_none : (b number : ℕ) → number ≡ 0 → 23 * b ≡ row_start number b
+-- where nothing is named the row starts at 0
+pub row_end : (e : Refusal) (b : ℕ) → 0 ≡ row_start (number_of e) b
 unfolding row_start
-row_start_none b number none = rw none
-
-pub row_start_some : (b number : ℕ) → (number ≡ 0 → ⊥) → 0 ≡ row_start number b
-row_start_some b zero some = absurd (some refl)
-row_start_some b (suc c) some = unfold row_start in refl
+row_end e b = none (number_of e) (refused_some e)
+  where
+    none : (c : ℕ) → (c ≡ 0 → ⊥) → 0 ≡ row_start c b
+    none zero n = absurd (n refl)
+    none (suc c) n = refl
 
 module _ (b : ℕ) (s : Slices) (t : Tally) where
   abbrev G : Graph

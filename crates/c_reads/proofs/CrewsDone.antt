@@ -6,9 +6,7 @@ use lib.ListN.{length}
 use Rattle.memory.specs.declared.Tally.{Tally}
 use Rattle.memory.specs.Cells.{over}
 use Rattle.memory.specs.Plan.{Slices}
-use Rattle.crews.specs.declared.Crewed.{Crewed}
-use Rattle.crews.specs.declared.LeastCrew.{LeastCrew}
-use Rattle.crews.specs.Calls.{CrewResult, crew_result, crew_steps, least_of}
+use Rattle.crews.specs.Calls.{Crewed, LeastCrew, CrewResult, crew_result, crew_steps, least_of}
 use Rattle.c_cells.specs.CellMemory.{tally_in, short_number}
 use Rattle.c_cells.proofs.Rooms.{roomed_none}
 use Rattle.c_reads.specs.Reads.{read_answered}

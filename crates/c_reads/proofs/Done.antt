@@ -9,8 +9,7 @@ use Rattle.memory.specs.Plan.{Slices}
 use Rattle.planner.specs.Calls.{plan_number, bank_number, wave_of, clashes_of}
 use Rattle.wave_bounds.specs.Calls.{bound_of}
 use Rattle.direct_rule.specs.Calls.{direct_number, rule_wave_of}
-use Rattle.sheet_reader.specs.declared.Verdict.{Verdict}
-use Rattle.sheet_reader.specs.Calls.{Answered}
+use Rattle.sheet_reader.specs.Calls.{Verdict, Answered}
 use Rattle.c_cells.specs.CellMemory.{tally_in, short_number, roomed}
 use Rattle.c_cells.proofs.Rooms.{roomed_none}
 use Rattle.c_reads.specs.Reads.{read_answered, wave_done, wave_call, bound_done, bound_call, direct_done, direct_call, row_start, clashes_done, clashes_call}
@@ -82,7 +81,7 @@ module _ (s : Slices) (tally result bytes : List ℕ) (short : ℕ) (is : short 
   }
 
   pub sheet_done : (t : Tally) → t ≡ tally_in tally → short ≡ 0 → {v : Verdict} → Answered s t bytes v → {result' : List ℕ}
-      → result' ≡ over (v.line ∷ v.first.0 ∷ v.second.0 ∷ []) result → SheetChecked s tally result bytes v.number result'
+      → result' ≡ over (v.line ∷ v.first ∷ v.second ∷ []) result → SheetChecked s tally result bytes v.number result'
   unfolding verdict_cells
   sheet_done t at none {v} answered put = record {
     short = λ q. absurd (q (sym is ∙ none));

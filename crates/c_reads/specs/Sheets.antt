@@ -2,14 +2,13 @@
 use Rattle.std.specs.Prelude.{List, [], ◌∷◌, ◌≡◌, ℕ, length}
 use Rattle.memory.specs.Cells.{over}
 use Rattle.memory.specs.Plan.{Slices}
-use Rattle.sheet_reader.specs.declared.Verdict.{Verdict}
-use Rattle.sheet_reader.specs.Calls.{Answered}
+use Rattle.sheet_reader.specs.Calls.{Verdict, Answered}
 use Rattle.c_cells.specs.CellMemory.{tally_in, short_number}
 use Rattle.c_reads.specs.Reads.{read_answered}
 
 -- the cells of the answer: the line, and the two banks
 unfoldable pub verdict_cells : Verdict → List ℕ
-verdict_cells v = v.line ∷ v.first.0 ∷ v.second.0 ∷ []
+verdict_cells v = v.line ∷ v.first ∷ v.second ∷ []
 
 -- wave_plan_check_sheet: the answer to this tally, its cells at the front of the result
 pub record SheetChecked (s : Slices) (tally result bytes : List ℕ) (number : ℕ) (result' : List ℕ) : Type 0 where

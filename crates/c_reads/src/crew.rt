@@ -6,7 +6,7 @@ ghost use Rattle.c_reads.specs.Crews.{crew_answered, crew_call, least_call};
 
 use c_cells::{room, tally_in};
 use crews::{crew_steps, least_crew};
-use memory::put_front;
+use memory::{PlanMemory, put_front};
 
 const CREW_RESULTS: usize = 1;
 
@@ -29,12 +29,24 @@ pub fn crew_steps_in(
     if short != 0 {
         return short;
     }
-    let t = tally_in(tally);
-    let r = crew_steps(
-        neighbours, degrees, waves, counts, ranks, t, couriers, steps,
-    );
-    put_front(res, &[r.total]);
-    r.number
+    let plan = PlanMemory {
+        neighbours,
+        degrees,
+        waves,
+        counts,
+        ranks,
+        tally: tally_in(tally),
+    };
+    match crew_steps(plan, couriers, steps) {
+        Ok(total) => {
+            put_front(res, &[total]);
+            0
+        }
+        Err(refusal) => {
+            put_front(res, &[0]);
+            u16::from(refusal)
+        }
+    }
 }
 
 // The least number of couriers that ends within `limit` steps: the result.
@@ -55,8 +67,22 @@ pub fn least_crew_in(
     if short != 0 {
         return short;
     }
-    let t = tally_in(tally);
-    let r = least_crew(neighbours, degrees, waves, counts, ranks, t, limit);
-    put_front(res, &[r.couriers]);
-    r.number
+    let plan = PlanMemory {
+        neighbours,
+        degrees,
+        waves,
+        counts,
+        ranks,
+        tally: tally_in(tally),
+    };
+    match least_crew(plan, limit) {
+        Ok(couriers) => {
+            put_front(res, &[couriers]);
+            0
+        }
+        Err(refusal) => {
+            put_front(res, &[0]);
+            u16::from(refusal)
+        }
+    }
 }

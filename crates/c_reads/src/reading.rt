@@ -1,13 +1,13 @@
 // Reading one bank of a plan, or how many waves it has at most.
 ghost use Rattle.memory.specs.Plan.{slices_of};
-ghost use Rattle.std.specs.Prelude.{◌≡◌, ◌<◌};
-ghost use Rattle.c_reads.specs.Reads.{read_answered, wave_call, row_start, clashes_call, bound_call, direct_call};
+ghost use Rattle.std.specs.Prelude.{◌≡◌};
+ghost use Rattle.c_reads.specs.Reads.{read_answered, wave_call, clashes_call, bound_call, direct_call};
 
 use c_cells::{room, tally_in};
 use direct_rule::wave_by_rule;
-use memory::put_front;
+use memory::{PlanMemory, put_front};
 use planner::{clashes_of, wave_of};
-use rule::{Bank, ROW_CELLS, wide};
+use rule::{Bank, ROW_CELLS};
 use wave_bounds::wave_bound;
 
 const WAVE_RESULTS: usize = 1;
@@ -34,21 +34,24 @@ pub fn wave_of_in(
     if short != 0 {
         return short;
     }
-    let t = tally_in(tally);
-    let r = wave_of(neighbours, degrees, waves, counts, ranks, t, Bank(b));
-    put_front(res, &[r.wave.0]);
-    r.number
-}
-
-// Where the row of bank b starts, or 0 where there is a number.
-fn row_start(number: u16, b: u16) -> u16
-    requires { number ≡ 0 → b < 1024 }
-    ensures { result ≡ row_start number b }
-{
-    if number != 0 {
-        return 0;
+    let plan = PlanMemory {
+        neighbours,
+        degrees,
+        waves,
+        counts,
+        ranks,
+        tally: tally_in(tally),
+    };
+    match wave_of(plan, Bank(b)) {
+        Ok(wave) => {
+            put_front(res, &[wave.0]);
+            0
+        }
+        Err(refusal) => {
+            put_front(res, &[0]);
+            u16::from(refusal)
+        }
     }
-    (ROW_CELLS * wide(b)) as u16
 }
 
 // The clashes of bank b: the results are the cell of `neighbours` where they start, and how many they are. The number is that of
@@ -70,12 +73,28 @@ pub fn clashes_of_in(
     if short != 0 {
         return short;
     }
-    let t = tally_in(tally);
-    let r = wave_of(neighbours, degrees, waves, counts, ranks, t, Bank(b));
-    let part = clashes_of(neighbours, degrees, waves, counts, ranks, t, Bank(b));
-    let start = row_start(r.number, b);
-    put_front(res, &[start, part.len() as u16]);
-    r.number
+    let plan = PlanMemory {
+        neighbours,
+        degrees,
+        waves,
+        counts,
+        ranks,
+        tally: tally_in(tally),
+    };
+    let part = clashes_of(plan, Bank(b));
+    match wave_of(plan, Bank(b)) {
+        Ok(_) => {
+            put_front(
+                res,
+                &[(ROW_CELLS * usize::from(b)) as u16, part.len() as u16],
+            );
+            0
+        }
+        Err(refusal) => {
+            put_front(res, &[0, part.len() as u16]);
+            u16::from(refusal)
+        }
+    }
 }
 
 // How many waves the plan has at most: the result.
@@ -95,10 +114,24 @@ pub fn wave_bound_in(
     if short != 0 {
         return short;
     }
-    let t = tally_in(tally);
-    let r = wave_bound(neighbours, degrees, waves, counts, ranks, t);
-    put_front(res, &[r.bound]);
-    r.number
+    let plan = PlanMemory {
+        neighbours,
+        degrees,
+        waves,
+        counts,
+        ranks,
+        tally: tally_in(tally),
+    };
+    match wave_bound(plan) {
+        Ok(bound) => {
+            put_front(res, &[bound]);
+            0
+        }
+        Err(refusal) => {
+            put_front(res, &[0]);
+            u16::from(refusal)
+        }
+    }
 }
 
 // The wave of bank b, read straight off the rule: the result.
@@ -119,8 +152,22 @@ pub fn wave_by_rule_in(
     if short != 0 {
         return short;
     }
-    let t = tally_in(tally);
-    let r = wave_by_rule(neighbours, degrees, waves, counts, ranks, t, Bank(b));
-    put_front(res, &[r.wave.0]);
-    r.number
+    let plan = PlanMemory {
+        neighbours,
+        degrees,
+        waves,
+        counts,
+        ranks,
+        tally: tally_in(tally),
+    };
+    match wave_by_rule(plan, Bank(b)) {
+        Ok(wave) => {
+            put_front(res, &[wave.0]);
+            0
+        }
+        Err(refusal) => {
+            put_front(res, &[0]);
+            u16::from(refusal)
+        }
+    }
 }

@@ -1,11 +1,10 @@
 // Checking a sheet from anybody.
-
 ghost use Rattle.memory.specs.Plan.{slices_of};
 ghost use Rattle.c_reads.specs.Sheets.{SheetChecked};
 
 use c_cells::{room, tally_in};
-use memory::put_front;
-use sheet_reader::check_sheet;
+use memory::{PlanMemory, put_front};
+use sheet_reader::{SheetRefusal, check_sheet};
 
 const SHEET_RESULTS: usize = 3;
 
@@ -32,8 +31,34 @@ pub fn check_sheet_in(
     if short != 0 {
         return short;
     }
-    let t = tally_in(tally);
-    let r = check_sheet(neighbours, degrees, waves, counts, ranks, t, sheet);
-    put_front(res, &[r.line, r.first.0, r.second.0]);
-    r.number
+    let plan = PlanMemory {
+        neighbours,
+        degrees,
+        waves,
+        counts,
+        ranks,
+        tally: tally_in(tally),
+    };
+    match check_sheet(plan, sheet) {
+        Ok(()) => {
+            put_front(res, &[0, 0, 0]);
+            0
+        }
+        Err(SheetRefusal::Asked(refusal)) => {
+            put_front(res, &[0, 0, 0]);
+            u16::from(refusal)
+        }
+        Err(SheetRefusal::NoSheet { line }) => {
+            put_front(res, &[line, 0, 0]);
+            26
+        }
+        Err(SheetRefusal::Clash { first, second }) => {
+            put_front(res, &[0, first.0, second.0]);
+            27
+        }
+        Err(SheetRefusal::ManyWaves) => {
+            put_front(res, &[0, 0, 0]);
+            27
+        }
+    }
 }

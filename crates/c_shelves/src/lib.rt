@@ -10,6 +10,7 @@ ghost use Rattle.c_shelves.specs.Shelves.{keep_call, back_answered, come_back_ca
 use c_cells::{put_answer, room, tally_in};
 use checkpoints::keep;
 use coming_back::come_back_core;
+use memory::{PlanMemory, put_front};
 
 const BACK_RESULTS: usize = 1;
 
@@ -31,8 +32,18 @@ pub fn keep_in(
     if short != 0 {
         return short;
     }
-    let t = tally_in(tally);
-    keep(neighbours, degrees, waves, counts, ranks, t, shelf, name)
+    let plan = PlanMemory {
+        neighbours,
+        degrees,
+        waves,
+        counts,
+        ranks,
+        tally: tally_in(tally),
+    };
+    match keep(plan, shelf, name) {
+        Ok(()) => 0,
+        Err(refusal) => u16::from(refusal),
+    }
 }
 
 // Comes back to the plan kept under a name. The result is the moved count.
@@ -57,9 +68,16 @@ pub fn come_back_in(
         return short;
     }
     let t = tally_in(tally);
-    let r = come_back_core(
+    match come_back_core(
         neighbours, degrees, waves, counts, ranks, moved, t, shelf, name,
-    );
-    put_answer(tally, res, r.tally, &[r.answer.moved]);
-    r.answer.number
+    ) {
+        Ok(back) => {
+            put_answer(tally, res, back.tally, &[back.moved]);
+            0
+        }
+        Err(refusal) => {
+            put_front(res, &[0]);
+            u16::from(refusal)
+        }
+    }
 }

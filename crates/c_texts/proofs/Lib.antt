@@ -1,3 +1,4 @@
--- Theorems: what to cite. Done, for the functions' proofs: what each function leaves.
+-- Theorems: what to cite. For the functions' proofs: Done, what each function leaves; Starting, how long a new journal is.
 pub mod Done
+pub mod Starting
 pub mod Theorems

@@ -5,5 +5,5 @@
 mod sources;
 mod texts;
 
-pub use sources::{Source, make_plan_in};
-pub use texts::{Text, write_in};
+pub use sources::{read_list_in, replay_in};
+pub use texts::{start_journal_in, write_poster_in, write_sheet_in};

@@ -3,6 +3,7 @@
 ghost use Rattle.std.specs.Prelude.{true, ◌≡◌, ◌≤◌, length};
 ghost use Rattle.rule.specs.Graph.{Graph};
 ghost use Rattle.rule.specs.Reach.{inverse};
+ghost use Rattle.rule.specs.Refusals.{number_in};
 ghost use Rattle.memory.specs.Memory.{Ready};
 ghost use Rattle.memory.specs.Lent.{given};
 ghost use Rattle.planner.specs.Calls.{edit_result};
@@ -12,7 +13,7 @@ ghost use Rattle.capped_edits.specs.inner.Within.{late_number, within_of, Tried,
 use held_edits::{edit_alone, refuse};
 use memory::{Tally, put_front};
 use planner::{Answer, Edited};
-use rule::{Bank, Kind, MOST_BANKS, MOST_WAVES, wide};
+use rule::{Bank, Kind, MOST_BANKS, MOST_WAVES, Refusal};
 
 // The edit that takes one of this kind back.
 fn opposite(kind: Kind) -> Kind
@@ -60,30 +61,24 @@ fn take_back(
     )
 }
 
-// The number of a made edit: 20 if it led to more waves than the cap, else the last one.
-fn late_number(waves: u16, cap: u16, last: u16) -> u16
-    ensures { result ≡ late_number waves cap last }
+// What is asked of a made edit: whether it led to no more waves than the cap, then the last question.
+fn late_number(waves: u16, cap: u16, last: Result<(), Refusal>) -> Result<(), Refusal>
+    ensures { number_in result ≡ late_number waves cap (number_in last) }
 {
     if cap < waves {
-        return 20;
+        return Err(Refusal::OverCap);
     }
     last
 }
 
-// Whether an edit gets no number once it is made: no plan passes a cap of 24.
-fn unlimited(cap: u16, last: u16) -> bool
-    ensures { result ≡ true → (24 ≤ cap) × (last ≡ 0) }
+// Whether an edit is never refused once it is made: no plan passes a cap of 24.
+fn unlimited(cap: u16, last: Result<(), Refusal>) -> bool
+    ensures { result ≡ true → (24 ≤ cap) × (number_in last ≡ 0) }
 {
-    if cap < MOST_WAVES {
-        return false;
-    }
-    if last != 0 {
-        return false;
-    }
-    true
+    MOST_WAVES <= cap && last.is_ok()
 }
 
-// Makes the edit, and unmakes it where it then gets a number. Trail and moved are working space, and keep what the edit wrote, also where it is unmade.
+// Makes the edit, and unmakes it where it is then refused. Trail and moved are working space, and keep what the edit wrote, also where it is unmade.
 fn try_edit(
     kind: Kind,
     neighbours: &mut [u16],
@@ -96,12 +91,12 @@ fn try_edit(
     tally: Tally,
     a: Bank,
     b: Bank,
-    last: u16,
+    last: Result<(), Refusal>,
 ) -> Edited
     requires { HoldsPlan (given neighbours.old degrees.old waves.old counts.old ranks.now trail.old moved.old tally) }
     ensures { (G : Graph)
         → Ready G (given neighbours.old degrees.old waves.old counts.old ranks.now trail.old moved.old tally)
-        → Tried kind G a.0 b.0 last
+        → Tried kind G a.0 b.0 (number_in last)
         (given neighbours.old degrees.old waves.old counts.old ranks.now trail.old moved.old tally) result
         (given neighbours.new degrees.new waves.new counts.new ranks.now trail.new moved.new result.tally) }
 {
@@ -111,14 +106,13 @@ fn try_edit(
     if made.answer.number != 0 {
         return made;
     }
-    let number = late_number(made.tally.waves, tally.cap, last);
-    if number == 0 {
+    let Err(refusal) = late_number(made.tally.waves, tally.cap, last) else {
         return made;
-    }
+    };
     take_back(
         kind, neighbours, degrees, waves, counts, ranks, trail, moved, made.tally, a, b,
     );
-    refuse(number, tally)
+    refuse(u16::from(refusal), tally)
 }
 
 // Puts the first k cells at the front of a slice where the edit got no number. Answers how many were put.
@@ -129,8 +123,7 @@ fn put_kept(slice: &mut [u16], cells: &[u16], number: u16, k: u16) -> u16
     if number != 0 {
         return 0;
     }
-    let n = wide(k);
-    put_front(slice, &cells[0..n]);
+    put_front(slice, &cells[..usize::from(k)]);
     k
 }
 
@@ -147,13 +140,13 @@ fn edit_apart(
     tally: Tally,
     a: Bank,
     b: Bank,
-    last: u16,
+    last: Result<(), Refusal>,
 ) -> Edited
     requires { HoldsPlan (given neighbours.old degrees.old waves.old counts.old ranks.now trail.old moved.old tally) }
     ensures { (G : Graph)
         → Ready G (given neighbours.old degrees.old waves.old counts.old ranks.now trail.old moved.old tally)
         → edit_result result.answer (given neighbours.new degrees.new waves.new counts.new ranks.now trail.new moved.new result.tally)
-        ≡ within_of kind G a.0 b.0 last (given neighbours.old degrees.old waves.old counts.old ranks.now trail.old moved.old tally) }
+        ≡ within_of kind G a.0 b.0 (number_in last) (given neighbours.old degrees.old waves.old counts.old ranks.now trail.old moved.old tally) }
 {
     let mut own_trail = [0u16; MOST_BANKS];
     let mut own_moved = [0u16; MOST_BANKS];
@@ -172,20 +165,19 @@ fn edit_apart(
         last,
     );
     let number = tried.answer.number;
-    let after = tried.tally;
     let taken = put_kept(trail, &own_trail, number, tried.answer.trail);
     let changed = put_kept(moved, &own_moved, number, tried.answer.moved);
     Edited {
         answer: Answer {
-            number: number,
+            number,
             moved: changed,
             trail: taken,
         },
-        tally: after,
+        tally: tried.tally,
     }
 }
 
-// An edit in memory that holds a plan, refused with 4 to 8, with 20, or else with `last` where that is not 0. Under a cap of 24, which no plan passes,
+// An edit in memory that holds a plan, refused with 4 to 8, with 20, or else with the refusal in `last`. Under a cap of 24, which no plan passes,
 // nothing is unmade.
 pub fn edit_within(
     kind: Kind,
@@ -199,13 +191,13 @@ pub fn edit_within(
     tally: Tally,
     a: Bank,
     b: Bank,
-    last: u16,
+    last: Result<(), Refusal>,
 ) -> Edited
     requires { HoldsPlan (given neighbours.old degrees.old waves.old counts.old ranks.now trail.old moved.old tally) }
     ensures { (G : Graph)
         → Ready G (given neighbours.old degrees.old waves.old counts.old ranks.now trail.old moved.old tally)
         → edit_result result.answer (given neighbours.new degrees.new waves.new counts.new ranks.now trail.new moved.new result.tally)
-        ≡ within_of kind G a.0 b.0 last (given neighbours.old degrees.old waves.old counts.old ranks.now trail.old moved.old tally) }
+        ≡ within_of kind G a.0 b.0 (number_in last) (given neighbours.old degrees.old waves.old counts.old ranks.now trail.old moved.old tally) }
 {
     if unlimited(tally.cap, last) {
         return edit_alone(

@@ -13,7 +13,7 @@ use Rattle.memory.specs.Cells.{over}
 use Rattle.memory.specs.Plan.{Slices, slices_of, neighbour_cells, degree_cells, count_cells, rank_cells, plan_in, PlanOf}
 use Rattle.memory.specs.inner.View.{Long}
 use Rattle.memory.proofs.Views.{tally_banks}
-use Rattle.memory.proofs.Theorems.{long, long_enough-law, length_neighbour_cells, length_degree_cells, length_waves, length_count_cells}
+use Rattle.memory.proofs.Theorems.{long_enough-law, length_neighbour_cells, length_degree_cells, length_waves, length_count_cells}
 use Rattle.memory.proofs.Theorems.{length_rank_cells}
 use Rattle.shelf.specs.Shelf.{degrees_at, waves_at, counts_at, tally_at, ranks_at, cap_at, part, slices_in, tally_in, place_cells}
 use Rattle.checkpoints.specs.Calls.{over_all}

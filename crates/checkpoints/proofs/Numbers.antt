@@ -4,7 +4,7 @@ use mathlib.Core.List.{List, [], ◌∷◌}
 use mathlib.Core.Logic.{◌≢◌}
 use mathlib.Core.Path.{◌≡◌, refl, sym, ◌∙◌}
 use native.Mathlib.Omega.{arith}
-use Prim.Native.Nat.{ℕ, ◌*◌, ◌≤◌, ◌<◌}
+use Prim.Native.Nat.{ℕ, ◌+◌, ◌*◌, ◌≤◌, ◌<◌}
 use borrow.Author.Tests.{le-leb, lt-leb, leb-true, lt-ltb, le-ltb}
 use lib.Dec.{leb}
 use lib.ListN.{length, get_or}
@@ -18,7 +18,7 @@ use Rattle.shelf.specs.Names.{place_of, known}
 use Rattle.shelf.specs.Shelf.{place_size, place, used, shelf_right}
 use Rattle.checkpoints.specs.Calls.{shelf_long, open_shelf_number, keep_number, back_number}
 use Rattle.checkpoints.specs.inner.Steps.{KeepReady}
-use Rattle.shelf.proofs.Places.{cell_used, cell_unused}
+use Rattle.shelf.proofs.Places.{place_room, cell_used, cell_unused}
 
 -- opening a shelf
 module _ (n : ℕ) (shelf : List ℕ) where
@@ -109,6 +109,13 @@ module _ (s : Slices) (t : Tally) (name shelf : List ℕ) where
 
     pub keep_ready : place_of name < 3 → KeepReady s t name shelf
     keep_ready k = record { few = room.0; long = plan.long; room = room.1; known = k }
+
+-- the place of the name stands on the shelf
+pub place_lent : {s : Slices} {t : Tally} {name shelf : List ℕ} → KeepReady s t name shelf → {i size : ℕ} → i ≡ place_of name → size ≡ place_size t.banks
+    → (i * size + size ≤ length shelf) × (i * size + size ≤ 153615)
+place_lent ready {i} {size} is e =
+    let room = place_room i size (omega (arith, ready.known, is)) in
+    (omega (arith, room, ready.room, e), omega (arith, room, ready.few, e))
 
 -- coming back
 module _ (s : Slices) (t : Tally) (moved name shelf : List ℕ) where

@@ -17,7 +17,7 @@ use Rattle.rule.proofs.Sorting.{sorted_filter, sorted_upto}
 use Rattle.memory.specs.declared.Tally.{Tally}
 use Rattle.memory.specs.Cells.{over}
 use Rattle.memory.specs.Plan.{Slices, long_enough, plan_in, graph_in, cap_fits, holds, PlanOf}
-use Rattle.memory.proofs.Theorems.{long, holds_plan-law, plan_again, long_again, held_of}
+use Rattle.memory.proofs.Theorems.{holds_plan-law, plan_again, long_again, held_of}
 use Rattle.planner.proofs.Numbers.{none}
 use Rattle.shelf.specs.Names.{place_of, known}
 use Rattle.shelf.specs.Shelf.{degrees_at, waves_at, counts_at, ranks_at, place_size, part, place, used, slices_in, tally_in, holds_in, shelf_right}

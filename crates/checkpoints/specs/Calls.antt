@@ -1,12 +1,15 @@
 -- What the calls on the shelf answer and leave, of what they are lent (02, N5; N9: the cap).
-use Rattle.std.specs.Prelude.{Bool, ◌&&◌, not, List, [], ◌∷◌, ℕ, zero, suc, ◌*◌, eqb, leb, length, get_or}
+use Rattle.std.specs.Prelude.{Bool, ◌&&◌, not, List, [], ◌∷◌, ℕ, zero, suc, ◌*◌, eqb, leb, length, get_or, Result, Ok, Err}
 use Rattle.rule.specs.Lists.{upto, filter}
+use Rattle.rule.specs.declared.refusal.Refusal.{Refusal}
+use Rattle.rule.specs.Refusals.{number_of}
 use Rattle.memory.specs.declared.Tally.{Tally}
 use Rattle.memory.specs.Cells.{over}
 use Rattle.memory.specs.Plan.{Slices, long_enough, holds}
 use Rattle.planner.specs.Questions.{◌else◌, first_no}
 use Rattle.text.specs.Places.{put}
 use Rattle.shelf.specs.Names.{place_of, known}
+use Rattle.checkpoints.specs.declared.CameBack.{CameBack}
 use Rattle.shelf.specs.Shelf.{place_size, shelf_size, place, used, slices_in, tally_in, shelf_right, place_cells}
 
 -- has the shelf room for n banks?
@@ -84,6 +87,11 @@ pub record BackResult : Type 0 where
 
 abbrev pub back_result : ℕ → ℕ → Slices → Tally → List ℕ → BackResult
 back_result number count slices tally moved = record { number = number; count = count; slices = slices; tally = tally; moved = moved }
+
+-- by its answer: refused, no bank is listed, and the tally is as it was
+abbrev pub back_left : Result CameBack Refusal → Slices → Tally → List ℕ → BackResult
+back_left (Ok r) slices tally moved = back_result 0 r.moved slices r.tally moved
+back_left (Err e) slices tally moved = back_result (number_of e) 0 slices tally moved
 
 -- the banks of n whose wave differs, ascending
 unfoldable pub differing : ℕ → List ℕ → List ℕ → List ℕ

@@ -5,16 +5,9 @@ mod keeping;
 
 pub use keeping::{check_keep, keep, open_shelf};
 
-// What coming back answers: 02's number, and how many banks have another wave than before.
-#[derive(Clone, Copy)]
-pub struct Returned {
-    pub number: u16,
-    pub moved: u16,
-}
-
-// What coming back leaves beside its slices.
+// What coming back leaves beside its slices: how many banks have another wave than before, and the tally.
 #[derive(Clone, Copy)]
 pub struct CameBack {
-    pub answer: Returned,
+    pub moved: u16,
     pub tally: memory::Tally,
 }

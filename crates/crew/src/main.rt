@@ -4,7 +4,7 @@
 
 mod arguments;
 
-use crate::arguments::{Arguments, read_arguments};
+use crate::arguments::read_arguments;
 use crew_lines::{ANSWER_BYTES, Question, put_answer};
 use list_program::{LIST_BYTES, read_input};
 
@@ -17,25 +17,23 @@ fn tell(rt: &impl Eprint, line: &str) {
 fn print_answer(rt: &impl Print, question: Question, list: &[u8]) -> bool {
     let mut out = [0u8; ANSWER_BYTES];
     let length = put_answer(&mut out, question, list);
-    rt.write_all(&out[0..length]).is_ok()
+    rt.write_all(&out[..length]).is_ok()
 }
 
 // Reads the list and answers it.
 fn run(rt: &(impl Input + Print + Eprint), question: Question) {
     let mut list = [0u8; LIST_BYTES];
-    let input = read_input(rt, &mut list);
-    if input.failed {
+    let Some(bytes) = read_input(rt, &mut list) else {
         tell(rt, "standard input cannot be read\n");
         return;
-    }
-    let bytes = input.length;
-    if !print_answer(rt, question, &list[0..bytes]) {
+    };
+    if !print_answer(rt, question, &list[..bytes]) {
         tell(rt, "standard output cannot be written\n");
     }
 }
 
 fn main(rt: HostRuntime) {
-    let Arguments::Ask(question) = read_arguments(&rt) else {
+    let Some(question) = read_arguments(&rt) else {
         tell(
             &rt,
             "usage: crew Q <LIST or crew within L <LIST, Q and L numbers of at most four digits\n",

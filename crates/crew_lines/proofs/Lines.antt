@@ -1,13 +1,18 @@
 -- The lines by the cells of waves and steps, step by step; that they are those of the day; and how long they are.
 use mathlib.Core.Bool.{Bool}
+use mathlib.Core.Logic.{◌≢◌}
 use mathlib.Core.List.{List, [], ◌∷◌, ◌++◌, map, map-append}
 use mathlib.Core.Path.{◌≡◌, refl, sym, ap, ap₂, ◌∙◌}
 use native.Mathlib.Numerals.{add-one}
 use native.Mathlib.Omega.{arith}
 use Prim.Native.Nat.{ℕ, zero, suc, ◌+◌, ◌*◌, ◌-◌, ◌≤◌, ◌<◌}
 use lib.Dec.{T, eqb}
-use lib.ListN.{length, get_or, length-append, get_or-append}
+use lib.ListN.{length, get_or, take, length-append, get_or-append}
+use lib.Seq.{length-take-le, get_or-take}
 use borrow.Author.Tests.{eq-eqb, ne_eqb}
+use Rattle.std.specs.List.{AllWithin, HoldsAt}
+use Rattle.std.specs.Option.{unwrap_or}
+use Rattle.std.specs.Prelude.{Option, Some, None, MatchOption}
 use Rattle.rule.specs.Lists.{upto, filter, memb}
 use Rattle.rule.specs.Graph.{Graph}
 use Rattle.rule.specs.Wave.{wave}
@@ -31,7 +36,7 @@ module _ (ss : List ℕ) (k : ℕ) where
   abbrev test : ℕ → Bool
   test b = eqb (get_or ss b 0) k
 
-  pub none_first : members_of ss k 0 ≡ []
+  none_first : members_of ss k 0 ≡ []
   unfolding members_of upto filter
   none_first = refl
 
@@ -39,7 +44,7 @@ module _ (ss : List ℕ) (k : ℕ) where
   unfolding members_of upto
   next b = filter_append test (upto b) (b ∷ [])
 
-  pub none_next : (b : ℕ) → members_of ss k b ≡ [] → (get_or ss b 0 ≡ k → ⊥) → members_of ss k (b + 1) ≡ []
+  none_next : (b : ℕ) → members_of ss k b ≡ [] → (get_or ss b 0 ≡ k → ⊥) → members_of ss k (b + 1) ≡ []
   unfolding filter
   none_next b e d = ap (members_of ss k) (add-one b) ∙ next b ∙ rw (e, ne_eqb (get_or ss b 0) k d)
 
@@ -63,16 +68,35 @@ module _ (ss : List ℕ) (k : ℕ) where
             ∙ before.1,
       )
 
-  pub lowest_found : (b n : ℕ) → b < n → members_of ss k b ≡ [] → get_or ss b 0 ≡ k → b ≡ lowest_in ss k n
+  lowest_found : (b n : ℕ) → b < n → members_of ss k b ≡ [] → get_or ss b 0 ≡ k → b ≡ lowest_in ss k n
   unfolding lowest_in
   lowest_found b n l e f = sym (rw at_n at (stays b (n - suc b) e f).1)
     where
       at_n : suc b + (n - suc b) ≡ n
       at_n = omega arith
 
-  pub lowest_none : (n : ℕ) → members_of ss k n ≡ [] → 0 ≡ lowest_in ss k n
+  none_to : (b : ℕ) → ((i : ℕ) → i < b → get_or ss i 0 ≡ k → ⊥) → members_of ss k b ≡ []
+  none_to zero h = none_first
+  none_to (suc b) h = ap (members_of ss k) (sym (add-one b)) ∙ none_next b (none_to b (λ i l. h i (omega arith))) (h b (omega arith))
+
+  lowest_none : (n : ℕ) → members_of ss k n ≡ [] → 0 ≡ lowest_in ss k n
   unfolding lowest_in
   lowest_none n e = sym (ap (λ (l : List ℕ). get_or l 0 0) e)
+
+  -- the first place of a step in the front of the cells, or none
+  abbrev pub FirstPlace : List ℕ → Option ℕ → Type 0
+  FirstPlace xs r = MatchOption r (AllWithin (λ x. x ≢ k) xs 0 (length xs)) (λ i. (i < length xs) × HoldsAt (λ x. x ≡ k) xs i × AllWithin (λ x. x ≢ k) xs 0 i)
+
+  pub lowest_is : (n : ℕ) → 0 < n → n ≤ length ss → (r : Option ℕ) → FirstPlace (take n ss) r → (unwrap_or r 0 ≡ lowest_in ss k n) × (unwrap_or r 0 < n)
+  lowest_is n some long (Some b) first =
+      let low : b < n = omega (arith, first.0, length-take-le n ss long) in
+      let below : (i : ℕ) → i < b → get_or ss i 0 ≡ k → ⊥ =
+      λ i l e. first.2 i 0 (omega arith) l (get_or-take n ss i 0 (omega arith) ∙ e) in
+      (lowest_found b n low (none_to b below) (sym (get_or-take n ss b 0 low) ∙ first.1 0), low)
+  lowest_is n some long None none =
+      let below : (i : ℕ) → i < n → get_or ss i 0 ≡ k → ⊥ =
+      λ i l e. none i 0 (omega arith) (omega (arith, length-take-le n ss long)) (get_or-take n ss i 0 l ∙ e) in
+      (lowest_none n (none_to n below), some)
 
   -- it is one of the banks
   lowest_below : (n : ℕ) → 0 < n → lowest_in ss k n < n

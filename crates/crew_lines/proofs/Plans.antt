@@ -21,10 +21,8 @@ use Rattle.memory.proofs.Theorems.{held_of}
 use Rattle.planner.specs.Calls.{plan_number}
 use Rattle.planner.proofs.Numbers.{number_plan, plan_passed}
 use Rattle.list_program.specs.Answers.{refused_text}
-use Rattle.crews.specs.declared.Crewed.{Crewed}
-use Rattle.crews.specs.declared.LeastCrew.{LeastCrew}
 use Rattle.crews.specs.Day.{day, step_of, least_crew}
-use Rattle.crews.specs.Calls.{crew_fits, crew_number, step_cells, crew_result, crew_by, crew_steps, least_number, least_by, least_of}
+use Rattle.crews.specs.Calls.{Crewed, LeastCrew, crew_fits, crew_number, step_cells, crew_result, crew_by, crew_steps, least_number, least_by, least_of}
 use Rattle.crews.proofs.Numbers.{crew_of, crew_many, crew_refused, crew_out, steps_found}
 use Rattle.crew_lines.specs.Lines.{day_text}
 use Rattle.crew_lines.specs.Plans.{couriers_by, couriers_text, crew_text, within_by, within_text}

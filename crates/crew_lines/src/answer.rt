@@ -6,7 +6,7 @@ ghost use Rattle.crew_lines.specs.Answers.{answer_text};
 use crate::plan::{Question, put_plan};
 use list_program::put_refusal;
 use list_reader::read_list_core;
-use memory::Tally;
+use memory::{PlanMemory, Tally};
 use rule::{COUNT_CELLS, MOST_BANKS, MOST_WAVES, ROW_CELLS};
 
 // The cells of Neighbours and of Counts for the most banks.
@@ -46,14 +46,13 @@ pub fn put_answer(out: &mut [u8], question: Question, list: &[u8]) -> usize
     if reading.number != 0 {
         return put_refusal(out, reading.number, reading.row);
     }
-    put_plan(
-        out,
-        question,
-        &neighbours,
-        &degrees,
-        &waves,
-        &counts,
-        &ranks,
-        read.tally,
-    )
+    let plan = PlanMemory {
+        neighbours: &neighbours,
+        degrees: &degrees,
+        waves: &waves,
+        counts: &counts,
+        ranks: &ranks,
+        tally: read.tally,
+    };
+    put_plan(out, question, plan)
 }

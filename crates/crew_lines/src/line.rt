@@ -27,29 +27,20 @@ fn put_members(out: &mut [u8], at: usize, steps: &[u16], n: u16, k: u16) -> usiz
     ensures { Puts (members_text steps.now k n) at out.old result out.new }
 {
     let mut next = at;
-    let mut b: u16 = 0;
-    while b < n {
-        let i = b as usize;
-        next = put_member(out, next, steps[i], k, Bank(b));
-        b += 1;
+    // By number, which is written too.
+    for b in 0..n {
+        next = put_member(out, next, steps[usize::from(b)], k, Bank(b));
     }
     next
 }
 
 // The lowest bank of step k, of n banks in all, or 0.
-fn lowest(steps: &[u16], n: u16, k: u16) -> u16
+fn lowest(steps: &[u16], n: u16, k: u16) -> usize
     requires { (0 < n) × (n ≤ length steps.now) }
     ensures { (result ≡ lowest_in steps.now k n) × (result < n) }
 {
-    let mut b: u16 = 0;
-    while b < n {
-        let i = b as usize;
-        if steps[i] == k {
-            return b;
-        }
-        b += 1;
-    }
-    0
+    let banks = &steps[..usize::from(n)];
+    banks.iter().position(|&step| step == k).unwrap_or(0)
 }
 
 // The number of step k, and the letter of its wave.
@@ -68,7 +59,7 @@ fn put_step(out: &mut [u8], at: usize, waves: &[u16], steps: &[u16], n: u16, k: 
         × ((b : ℕ) → b < n → get_or waves.now b 0 < 24) }
     ensures { Puts (step_in waves.now steps.now n k) at out.old result out.new }
 {
-    let b = lowest(steps, n, k) as usize;
+    let b = lowest(steps, n, k);
     let banks = put_head(out, at, k, Wave(waves[b]));
     let feed = put_members(out, banks, steps, n, k);
     put_byte(out, feed, b'\n')
@@ -88,10 +79,8 @@ pub fn put_steps(
     ensures { Puts (steps_in waves.now steps.now n total) at out.old result out.new }
 {
     let mut next = at;
-    let mut k: u16 = 0;
-    while k < total {
+    for k in 0..total {
         next = put_step(out, next, waves, steps, n, k + 1);
-        k += 1;
     }
     next
 }

@@ -1,5 +1,5 @@
 // What the program prints of a plan. Each function writes at `at`, or at the front, and answers the place after what it wrote.
-ghost use Rattle.memory.specs.Plan.{slices_of};
+ghost use Rattle.memory.specs.Lent.{slices_in};
 ghost use Rattle.std.specs.Prelude.{◌+◌, ◌≤◌, length};
 ghost use Rattle.text.specs.Places.{Puts};
 ghost use Rattle.crew_lines.specs.Plans.{crew_text, couriers_text, within_text, plan_text};
@@ -7,7 +7,7 @@ ghost use Rattle.crew_lines.specs.Plans.{crew_text, couriers_text, within_text, 
 use crate::line::put_steps;
 use crews::{crew_steps, least_crew};
 use list_program::{put_named, put_refused};
-use memory::Tally;
+use memory::PlanMemory;
 use rule::MOST_BANKS;
 use text::put_byte;
 
@@ -19,29 +19,16 @@ pub enum Question {
 }
 
 // The day of so many couriers, or the refusal.
-fn put_day(
-    out: &mut [u8],
-    at: usize,
-    neighbours: &[u16],
-    degrees: &[u16],
-    waves: &[u16],
-    counts: &[u16],
-    ranks: &[u16],
-    tally: Tally,
-    couriers: u16,
-) -> usize
+fn put_day(out: &mut [u8], at: usize, plan: PlanMemory, couriers: u16) -> usize
     requires { at + 12288 ≤ length out.old }
-    ensures { Puts (couriers_text couriers (slices_of neighbours.now degrees.now waves.now counts.now ranks.now) tally) at out.old result out.new
+    ensures { Puts (couriers_text couriers (slices_in plan.entry) plan.entry.tally) at out.old result out.new
         × (result ≤ length out.new) }
 {
     let mut steps = [0u16; MOST_BANKS];
-    let crewed = crew_steps(
-        neighbours, degrees, waves, counts, ranks, tally, couriers, &mut steps,
-    );
-    if crewed.number != 0 {
-        return put_refused(out, at, b"CREW ", couriers, crewed.number);
+    match crew_steps(plan, couriers, &mut steps) {
+        Ok(total) => put_steps(out, at, plan.waves, &steps, plan.tally.banks, total),
+        Err(refusal) => put_refused(out, at, b"CREW ", couriers, u16::from(refusal)),
     }
-    put_steps(out, at, waves, &steps, tally.banks, crewed.total)
 }
 
 // `CREW q`, at the front.
@@ -54,59 +41,28 @@ fn put_crew(out: &mut [u8], couriers: u16) -> usize
 }
 
 // The fewest couriers who end within so many steps, and their day; or the refusal.
-fn put_within(
-    out: &mut [u8],
-    neighbours: &[u16],
-    degrees: &[u16],
-    waves: &[u16],
-    counts: &[u16],
-    ranks: &[u16],
-    tally: Tally,
-    limit: u16,
-) -> usize
+fn put_within(out: &mut [u8], plan: PlanMemory, limit: u16) -> usize
     requires { 12299 ≤ length out.old }
-    ensures { Puts (within_text limit (slices_of neighbours.now degrees.now waves.now counts.now ranks.now) tally) 0 out.old result out.new
+    ensures { Puts (within_text limit (slices_in plan.entry) plan.entry.tally) 0 out.old result out.new
         × (result ≤ length out.new) }
 {
-    let least = least_crew(neighbours, degrees, waves, counts, ranks, tally, limit);
-    if least.number != 0 {
-        return put_refused(out, 0, b"WITHIN ", limit, least.number);
+    match least_crew(plan, limit) {
+        Ok(couriers) => {
+            let next = put_crew(out, couriers);
+            put_day(out, next, plan, couriers)
+        }
+        Err(refusal) => put_refused(out, 0, b"WITHIN ", limit, u16::from(refusal)),
     }
-    let next = put_crew(out, least.couriers);
-    put_day(
-        out,
-        next,
-        neighbours,
-        degrees,
-        waves,
-        counts,
-        ranks,
-        tally,
-        least.couriers,
-    )
 }
 
 // What the program prints of a plan, at the front.
-pub fn put_plan(
-    out: &mut [u8],
-    question: Question,
-    neighbours: &[u16],
-    degrees: &[u16],
-    waves: &[u16],
-    counts: &[u16],
-    ranks: &[u16],
-    tally: Tally,
-) -> usize
+pub fn put_plan(out: &mut [u8], question: Question, plan: PlanMemory) -> usize
     requires { 12299 ≤ length out.old }
-    ensures { Puts (plan_text question (slices_of neighbours.now degrees.now waves.now counts.now ranks.now) tally) 0 out.old result out.new
+    ensures { Puts (plan_text question (slices_in plan.entry) plan.entry.tally) 0 out.old result out.new
         × (result ≤ length out.new) }
 {
     match question {
-        Question::Couriers(q) => put_day(
-            out, 0, neighbours, degrees, waves, counts, ranks, tally, q,
-        ),
-        Question::Within(limit) => put_within(
-            out, neighbours, degrees, waves, counts, ranks, tally, limit,
-        ),
+        Question::Couriers(q) => put_day(out, 0, plan, q),
+        Question::Within(limit) => put_within(out, plan, limit),
     }
 }

@@ -21,7 +21,7 @@ use Rattle.crews.specs.Calls.{crew_fits, crew_number, step_cells, crew_result, c
 use Rattle.crews.specs.inner.Serving.{Crew}
 
 -- from 1 to 64
-pub fits_none : (q : ℕ) → q < 1 → false ≡ crew_fits q
+pub fits_none : (q : ℕ) → q < 1 → leb 1 q ≡ crew_fits q
 unfolding crew_fits
 fits_none q l = rw (lt-leb 1 q l)
 

@@ -1,12 +1,12 @@
 -- What the calls crew_steps and least_crew answer and leave, of what they are lent (02, N13).
-use Rattle.std.specs.Prelude.{Bool, ◌&&◌, List, [], ◌∷◌, ℕ, zero, suc, ltb, leb, length}
+use Rattle.std.specs.Prelude.{Bool, ◌&&◌, List, [], ◌∷◌, ℕ, zero, suc, ltb, leb, length, Result}
 use Rattle.rule.specs.Graph.{Graph}
+use Rattle.rule.specs.declared.refusal.Refusal.{Refusal}
+use Rattle.rule.specs.Refusals.{number_in, value_or}
 use Rattle.memory.specs.declared.Tally.{Tally}
 use Rattle.memory.specs.Cells.{cells, over}
 use Rattle.memory.specs.Plan.{Slices, long_enough, graph_in, holds}
 use Rattle.planner.specs.Questions.{◌else◌, first_no}
-use Rattle.crews.specs.declared.Crewed.{Crewed}
-use Rattle.crews.specs.declared.LeastCrew.{LeastCrew}
 use Rattle.crews.specs.Day.{day, step_of, least_crew}
 
 -- is q from 1 to 64?
@@ -26,6 +26,15 @@ crew_number q s t steps =
 -- cell b: the step of bank b
 unfoldable pub step_cells : ℕ → Graph → List ℕ
 step_cells q G = cells G.banks (λ b. step_of b (day q G))
+
+-- what crew_steps answers: its number, and how many steps there are
+pub record Crewed : Type 0 where
+  pub number : ℕ
+  pub total : ℕ
+
+-- refused, 0 steps
+abbrev pub crewed : Result ℕ Refusal → Crewed
+crewed r = record { number = number_in r; total = value_or r 0 }
 
 -- what crew_steps leaves
 pub record CrewResult : Type 0 where
@@ -54,6 +63,15 @@ least_number limit s t =
     ∷ (leb limit 1024 else 24)
     ∷ (ltb 0 (least_crew limit (graph_in t.banks s)) else 25)
     ∷ [])
+
+-- what least_crew answers: its number, and how many couriers
+pub record LeastCrew : Type 0 where
+  pub number : ℕ
+  pub couriers : ℕ
+
+-- refused, 0 couriers
+abbrev pub least_found : Result ℕ Refusal → LeastCrew
+least_found r = record { number = number_in r; couriers = value_or r 0 }
 
 -- by the number of the first no: the least q, or 0 with the number
 unfoldable pub least_by : ℕ → ℕ → Graph → LeastCrew

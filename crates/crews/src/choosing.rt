@@ -11,13 +11,10 @@ pub fn find_crew(sizes: &[u16; COUNT_CELLS], limit: u16) -> u16
     requires { Sizes sizes.now }
     ensures { result ≡ least_by_sizes sizes.now limit }
 {
-    let mut q: u16 = 1;
-    while q <= MOST_COURIERS {
-        let starts = first_steps(sizes, q);
-        if starts.total <= limit {
+    for q in 1..=MOST_COURIERS {
+        if first_steps(sizes, q).total <= limit {
             return q;
         }
-        q += 1;
     }
     0
 }

@@ -4,31 +4,18 @@
 mod choosing;
 mod serving;
 
-ghost use Rattle.memory.specs.Plan.{slices_of};
-ghost use Rattle.std.specs.Prelude.{◌≡◌};
-ghost use Rattle.crews.specs.Calls.{crew_fits, crew_number, crew_result, crew_steps, least_of};
+ghost use Rattle.memory.specs.Lent.{slices_in};
+ghost use Rattle.std.specs.Prelude.{◌≡◌, IfOk};
+ghost use Rattle.rule.specs.Refusals.{number_in};
+ghost use Rattle.crews.specs.Calls.{crew_fits, crew_number, crewed, crew_result, crew_steps, least_found, least_of};
 ghost use Rattle.crews.specs.inner.Serving.{CrewIn};
 
 use cell_counts::count_cells;
 use choosing::find_crew;
-use memory::Tally;
+use memory::PlanMemory;
 use planner::check_plan;
-use rule::{MOST_BANKS, wide};
+use rule::{MOST_BANKS, Refusal};
 use serving::serve_day;
-
-// The answer of crew_steps: its number, and how many steps there are.
-#[derive(Clone, Copy)]
-pub struct Crewed {
-    pub number: u16,
-    pub total: u16,
-}
-
-// The answer of least_crew.
-#[derive(Clone, Copy)]
-pub struct LeastCrew {
-    pub number: u16,
-    pub couriers: u16,
-}
 
 // The most couriers.
 const MOST_COURIERS: u16 = 64;
@@ -40,109 +27,49 @@ const MOST_STEPS: u16 = 1024;
 fn crew_fits(couriers: u16) -> bool
     ensures { result ≡ crew_fits couriers }
 {
-    if couriers < 1 {
-        return false;
-    }
-    couriers <= MOST_COURIERS
+    1 <= couriers && couriers <= MOST_COURIERS
 }
 
-// Questions 3 to 5, of which 4 also asks for n cells of steps, and whether there are 1 to 64 couriers: 0, or the number of the first no.
-fn check_crew(
-    neighbours: &[u16],
-    degrees: &[u16],
-    waves: &[u16],
-    counts: &[u16],
-    ranks: &[u16],
-    tally: Tally,
-    couriers: u16,
-    steps: &[u16],
-) -> u16
-    ensures number { result ≡ crew_number couriers (slices_of neighbours.now degrees.now waves.now counts.now ranks.now) tally steps.now }
-    ensures crew { result ≡ 0 → CrewIn couriers (slices_of neighbours.now degrees.now waves.now counts.now ranks.now) tally steps.now }
+// Questions 3 to 5, of which 4 also asks for n cells of steps, and whether there are 1 to 64 couriers.
+fn check_crew(plan: PlanMemory, couriers: u16, steps: &[u16]) -> Result<(), Refusal>
+    ensures number { number_in result ≡ crew_number couriers (slices_in plan.entry) plan.entry.tally steps.now }
+    ensures crew { IfOk result (λ _. CrewIn couriers (slices_in plan.entry) plan.entry.tally steps.now) }
 {
-    let n = wide(tally.banks);
+    let n = usize::from(plan.tally.banks);
     if MOST_BANKS < n {
-        return 1;
+        return Err(Refusal::ManyBanks);
     }
     if steps.len() < n {
-        return 2;
+        return Err(Refusal::ShortMemory);
     }
-    let crew = crew_fits(couriers);
-    let plan = check_plan(neighbours, degrees, waves, counts, ranks, tally);
-    if plan != 0 {
-        return plan;
+    check_plan(plan)?;
+    if !crew_fits(couriers) {
+        return Err(Refusal::WrongCrew);
     }
-    if !crew {
-        return 24;
-    }
-    0
+    Ok(())
 }
 
-// Stores the step in which each bank is served, from 1, and answers how many steps there are; or changes nothing and answers 0 with the number of the
-// first no.
-pub fn crew_steps(
-    neighbours: &[u16],
-    degrees: &[u16],
-    waves: &[u16],
-    counts: &[u16],
-    ranks: &[u16],
-    tally: Tally,
-    couriers: u16,
-    steps: &mut [u16],
-) -> Crewed
-    ensures { crew_result result steps.new
-        ≡ crew_steps couriers (slices_of neighbours.now degrees.now waves.now counts.now ranks.now) tally steps.old }
+// Stores the step in which each bank is served, from 1, and answers how many steps there are; or changes nothing and gives the refusal of the first no.
+pub fn crew_steps(plan: PlanMemory, couriers: u16, steps: &mut [u16]) -> Result<u16, Refusal>
+    ensures { crew_result (crewed result) steps.new
+        ≡ crew_steps couriers (slices_in plan.entry) plan.entry.tally steps.old }
 {
-    let number = check_crew(
-        neighbours, degrees, waves, counts, ranks, tally, couriers, steps,
-    );
-    if number != 0 {
-        return Crewed {
-            number: number,
-            total: 0,
-        };
-    }
-    Crewed {
-        number: 0,
-        total: serve_day(waves, steps, tally.banks, couriers),
-    }
+    check_crew(plan, couriers, steps)?;
+    Ok(serve_day(plan.waves, steps, plan.tally.banks, couriers))
 }
 
-// The least number of couriers with which the day ends within the limit, or 0 with the number of the first no.
-pub fn least_crew(
-    neighbours: &[u16],
-    degrees: &[u16],
-    waves: &[u16],
-    counts: &[u16],
-    ranks: &[u16],
-    tally: Tally,
-    limit: u16,
-) -> LeastCrew
-    ensures { result ≡ least_of limit (slices_of neighbours.now degrees.now waves.now counts.now ranks.now) tally }
+// The least number of couriers with which the day ends within the limit, or the refusal of the first no.
+pub fn least_crew(plan: PlanMemory, limit: u16) -> Result<u16, Refusal>
+    ensures { least_found result ≡ least_of limit (slices_in plan.entry) plan.entry.tally }
 {
-    let number = check_plan(neighbours, degrees, waves, counts, ranks, tally);
-    if number != 0 {
-        return LeastCrew {
-            number: number,
-            couriers: 0,
-        };
-    }
+    check_plan(plan)?;
     if MOST_STEPS < limit {
-        return LeastCrew {
-            number: 24,
-            couriers: 0,
-        };
+        return Err(Refusal::WrongCrew);
     }
-    let sizes = count_cells(waves, tally.banks);
+    let sizes = count_cells(plan.waves, plan.tally.banks);
     let couriers = find_crew(&sizes, limit);
     if couriers == 0 {
-        return LeastCrew {
-            number: 25,
-            couriers: 0,
-        };
+        return Err(Refusal::NoCrew);
     }
-    LeastCrew {
-        number: 0,
-        couriers: couriers,
-    }
+    Ok(couriers)
 }

@@ -5,7 +5,7 @@ ghost use Rattle.cell_counts.specs.inner.Cells.{FewEach};
 ghost use Rattle.crews.specs.inner.Serving.{Crew, Sizes, StartsTo, step_by, Servable, Served};
 
 use cell_counts::count_cells;
-use rule::{COUNT_CELLS, wide};
+use rule::COUNT_CELLS;
 
 // How many steps come before each wave, and how many there are.
 #[derive(Clone, Copy)]
@@ -22,33 +22,23 @@ pub fn first_steps(sizes: &[u16; COUNT_CELLS], q: u16) -> Starts
 {
     let mut cells = [0u16; COUNT_CELLS];
     let mut total: u16 = 0;
-    let mut w = 0;
-    while w < COUNT_CELLS {
+    for (w, size) in sizes.iter().enumerate() {
         cells[w] = total;
-        total = total + (sizes[w] + (q - 1)) / q;
-        w += 1;
+        total += (*size + (q - 1)) / q;
     }
-    Starts {
-        cells: cells,
-        total: total,
-    }
+    Starts { cells, total }
 }
 
-// Stores the step of each bank, of those that are left the lowest first. `seen` counts the banks of each wave that are served.
+// Stores the step of each bank, the lowest first. `seen` counts the banks of each wave that are served.
 fn serve_banks(waves: &[u16], steps: &mut [u16], banks: u16, starts: &[u16; COUNT_CELLS], q: u16)
     requires { Servable waves.now steps.old starts.now banks q }
     ensures { steps.new ≡ over (cells banks (step_by waves.now starts.now q)) steps.old }
 {
-    let n = wide(banks);
     let mut seen = [0u16; COUNT_CELLS];
-    let mut left = n;
-    while 0 < left {
-        let b = n - left;
-        let w = wide(waves[b]);
-        let before = seen[w];
-        steps[b] = starts[w] + before / q + 1;
-        seen[w] = before + 1;
-        left -= 1;
+    for b in 0..usize::from(banks) {
+        let w = usize::from(waves[b]);
+        steps[b] = starts[w] + seen[w] / q + 1;
+        seen[w] += 1;
     }
 }
 
@@ -61,7 +51,6 @@ pub fn serve_day(waves: &[u16], steps: &mut [u16], banks: u16, q: u16) -> u16
 {
     let sizes = count_cells(waves, banks);
     let starts = first_steps(&sizes, q);
-    let first = starts.cells;
-    serve_banks(waves, steps, banks, &first, q);
+    serve_banks(waves, steps, banks, &starts.cells, q);
     starts.total
 }

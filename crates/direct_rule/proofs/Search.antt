@@ -144,9 +144,6 @@ module _ (count : ℕ → ℕ) {c : ℕ} (met : (k : ℕ) → k < c → count k 
   pub not_past : {w : ℕ} → Lowest count w → c ≤ w
   not_past {w} low = elim (lt_or_ge w c) [ inl l ↦ absurd (met w l low.at) | inr g ↦ g ]
 
-  pub met_more : (count c ≡ 0 → ⊥) → (k : ℕ) → k < c + 1 → count k ≡ 0 → ⊥
-  met_more some k l e = elim (lt_or_ge k c) [ inl m ↦ met k m e | inr g ↦ let q : c ≡ k = omega arith in some (rw q e) ]
-
 -- memory that holds the plan of what its rows name gives the search what it asks, and the wave found is that of the memory
 module _ (s : Slices) (t : Tally) {b : ℕ} (plan : PlanOf (graph_in t.banks s) s t) (bank : b < t.banks) where
   pub plan_readable : Readable s.neighbours s.degrees s.ranks t.banks b

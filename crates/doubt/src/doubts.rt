@@ -3,10 +3,9 @@ use crate::arguments::number_at;
 use doubt_lines::{LINE_BYTES, put_line};
 use list_program::{arg_count, put_refusal};
 use list_reader::read_list_core;
-use memory::Tally;
+use memory::{PlanMemory, Tally};
 use rule::{Bank, COUNT_CELLS, MOST_BANKS, MOST_WAVES, ROW_CELLS};
 use std::rt::Env;
-use text::Number;
 
 // The cells of Neighbours and of Counts for the most banks.
 const NEIGHBOUR_CELLS: usize = ROW_CELLS * MOST_BANKS;
@@ -22,75 +21,30 @@ fn print(rt: &impl Print, text: &[u8]) -> bool {
 }
 
 // Prints the line of bank b. Answers whether it was written.
-fn print_bank(
-    rt: &impl Print,
-    neighbours: &[u16],
-    degrees: &[u16],
-    waves: &[u16],
-    counts: &[u16],
-    ranks: &[u16],
-    tally: Tally,
-    b: Bank,
-) -> bool {
+fn print_bank(rt: &impl Print, plan: PlanMemory, b: Bank) -> bool {
     let mut line = [0u8; LINE_BYTES];
-    let length = put_line(
-        &mut line, neighbours, degrees, waves, counts, ranks, tally, b,
-    );
-    print(rt, &line[0..length])
+    let length = put_line(&mut line, plan, b);
+    print(rt, &line[..length])
 }
 
-// The line of the bank that argument i names.
-fn print_argument(
-    rt: &(impl Env + Print),
-    neighbours: &[u16],
-    degrees: &[u16],
-    waves: &[u16],
-    counts: &[u16],
-    ranks: &[u16],
-    tally: Tally,
-    i: usize,
-) -> bool {
-    let Number::Value(b) = number_at(rt, i) else {
+// The line of the bank that argument i names: each names one, as was asked before.
+fn print_argument(rt: &(impl Env + Print), plan: PlanMemory, i: usize) -> bool {
+    let Some(b) = number_at(rt, i) else {
         return true;
     };
-    print_bank(
-        rt,
-        neighbours,
-        degrees,
-        waves,
-        counts,
-        ranks,
-        tally,
-        Bank(b),
-    )
+    print_bank(rt, plan, Bank(b))
 }
 
 // A line for each argument.
-fn print_all(
-    rt: &(impl Env + Print),
-    neighbours: &[u16],
-    degrees: &[u16],
-    waves: &[u16],
-    counts: &[u16],
-    ranks: &[u16],
-    tally: Tally,
-) -> bool {
-    let count = arg_count(rt);
-    let mut i = 1;
-    while i < count {
-        if !print_argument(rt, neighbours, degrees, waves, counts, ranks, tally, i) {
-            return false;
-        }
-        i += 1;
-    }
-    true
+fn print_all(rt: &(impl Env + Print), plan: PlanMemory) -> bool {
+    (1..arg_count(rt)).all(|i| print_argument(rt, plan, i))
 }
 
 // `REFUSED c ROW r`.
 fn print_refusal(rt: &impl Print, number: u16, row: u16) -> bool {
     let mut line = [0u8; REFUSAL_BYTES];
     let length = put_refusal(&mut line, number, row);
-    print(rt, &line[0..length])
+    print(rt, &line[..length])
 }
 
 // The answer to a list. Answers whether it was written.
@@ -122,13 +76,13 @@ pub fn answer(rt: &(impl Env + Print), list: &[u8]) -> bool {
     if reading.number != 0 {
         return print_refusal(rt, reading.number, reading.row);
     }
-    print_all(
-        rt,
-        &neighbours,
-        &degrees,
-        &waves,
-        &counts,
-        &ranks,
-        read.tally,
-    )
+    let plan = PlanMemory {
+        neighbours: &neighbours,
+        degrees: &degrees,
+        waves: &waves,
+        counts: &counts,
+        ranks: &ranks,
+        tally: read.tally,
+    };
+    print_all(rt, plan)
 }

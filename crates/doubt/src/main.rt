@@ -23,13 +23,11 @@ fn main(rt: HostRuntime) {
         return;
     }
     let mut list = [0u8; LIST_BYTES];
-    let input = read_input(&rt, &mut list);
-    if input.failed {
+    let Some(bytes) = read_input(&rt, &mut list) else {
         tell(&rt, "standard input cannot be read\n");
         return;
-    }
-    let bytes = input.length;
-    if !answer(&rt, &list[0..bytes]) {
+    };
+    if !answer(&rt, &list[..bytes]) {
         tell(&rt, "standard output cannot be written\n");
     }
 }

@@ -17,7 +17,7 @@ use Rattle.memory.specs.inner.View.{Held}
 use Rattle.memory.proofs.Fronts.{in_cell}
 use Rattle.memory.proofs.Theorems.{held_of}
 use Rattle.planner.specs.Calls.{plan_number, bank_number, wave_of, clashes_of}
-use Rattle.planner.proofs.Numbers.{number_plan, bank_refused, bank_far}
+use Rattle.planner.proofs.Numbers.{number_plan, bank_refused, bank_far, bank_fine}
 use Rattle.planner.proofs.Rows as Rows
 use Rattle.direct_rule.specs.Calls.{direct_number, rule_wave_of}
 use Rattle.direct_rule.proofs.Numbers as Numbers
@@ -45,15 +45,28 @@ module _ (s : Slices) (t : Tally) (b : ℕ) where
       go (yes e) = (e, elim (lt_or_ge b t.banks) [ inl l ↦ l | inr g ↦ absurd (omega (arith, bank_far s t b e g)) ])
       go (no n) = absurd (n (sym (bank_refused s t b (plan_number s t) refl n) ∙ z))
 
-  pub direct_passed : direct_number b s t ≡ 0 → (plan_number s t ≡ 0) × (b < t.banks)
+  pub record Passed : Type 0 where
+    pub plan : plan_number s t ≡ 0
+    pub few : t.banks ≤ 16
+    pub bank : b < t.banks
+
+  pub direct_passed : direct_number b s t ≡ 0 → Passed
   direct_passed z = go (ℕ_discrete (plan_number s t) 0)
     where
       near : plan_number s t ≡ 0 → t.banks ≤ 16 → b < t.banks
       near e few = elim (lt_or_ge b t.banks) [ inl l ↦ l | inr g ↦ absurd (omega (arith, Numbers.direct_far s t b e few g)) ]
 
-      go : Dec (plan_number s t ≡ 0) → (plan_number s t ≡ 0) × (b < t.banks)
-      go (yes e) = (e, elim (lt_or_ge 16 t.banks) [ inl m ↦ absurd (omega (arith, Numbers.direct_many s t b e m)) | inr few ↦ near e few ])
+      go : Dec (plan_number s t ≡ 0) → Passed
+      go (yes e) =
+          elim (lt_or_ge 16 t.banks) [
+            | inl m ↦ absurd (omega (arith, Numbers.direct_many s t b e m))
+            | inr few ↦ record { plan = e; few = few; bank = near e few }
+          ]
       go (no n) = absurd (n (sym (Numbers.direct_refused s t b (plan_number s t) refl n) ∙ z))
+
+  -- a wave that is read straight off is kept too
+  pub both_passed : direct_number b s t ≡ 0 → bank_number b s t ≡ 0
+  both_passed z = let p = direct_passed z in bank_fine s t b p.plan p.bank
 
   -- each wave that is answered has a letter
   kept_low : wave_of b s t < 24
@@ -67,7 +80,7 @@ module _ (s : Slices) (t : Tally) (b : ℕ) where
   straight_low = go (ℕ_discrete (direct_number b s t) 0)
     where
       go : Dec (direct_number b s t ≡ 0) → rule_wave_of b s t < 24
-      go (yes z) = let p = direct_passed z in omega (arith, Numbers.wave_found s t b (sym z), low p.0 p.1)
+      go (yes z) = let p = direct_passed z in omega (arith, Numbers.wave_found s t b (sym z), low p.plan p.bank)
       go (no n) = omega (arith, Numbers.wave_refused s t b (direct_number b s t) refl n)
 
   pub kept_letter : {w : ℕ} → w ≡ wave_of b s t → w < 24

@@ -1,16 +1,17 @@
 // The line of a doubted bank. Each function writes at `at`, or at the front, and answers the place after what it wrote.
-ghost use Rattle.memory.specs.Plan.{slices_of};
-ghost use Rattle.std.specs.Prelude.{◌+◌, ◌≤◌, ◌<◌, length};
-ghost use Rattle.planner.specs.Calls.{clashes_of};
-ghost use Rattle.planner.specs.inner.Held.{PlanIn};
+ghost use Rattle.memory.specs.Lent.{slices_in};
+ghost use Rattle.rule.specs.Refusals.{number_in};
+ghost use Rattle.std.specs.Prelude.{◌≡◌, ◌+◌, ◌≤◌, ◌<◌, length, IfOk};
+ghost use Rattle.direct_rule.specs.Calls.{direct_number, rule_wave_of};
+ghost use Rattle.planner.specs.Calls.{plan_number, wave_of, clashes_of};
 ghost use Rattle.text.specs.Places.{Puts};
 ghost use Rattle.doubt_lines.specs.Lines.{lettered, head_text, from_text, link_text, links_text, line_of};
 
 use direct_rule::wave_by_rule;
 use list_program::{put_named, put_refused};
-use memory::{Tally, is_earlier};
+use memory::{PlanMemory, is_earlier};
 use planner::{clashes_of, wave_of};
-use rule::{Bank, Wave};
+use rule::{Bank, Refusal, Wave};
 use text::{put_byte, put_text};
 use wave_lines::letter;
 
@@ -36,55 +37,35 @@ fn put_from(out: &mut [u8], at: usize, v: u16, w: Wave) -> usize
 }
 
 // Neighbour v of bank b with its letter, read straight off, if it is earlier.
-fn put_link(
-    out: &mut [u8],
-    at: usize,
-    neighbours: &[u16],
-    degrees: &[u16],
-    waves: &[u16],
-    counts: &[u16],
-    ranks: &[u16],
-    tally: Tally,
-    b: Bank,
-    v: Bank,
-) -> usize
-    requires plan_in { PlanIn (slices_of neighbours.now degrees.now waves.now counts.now ranks.now) tally }
-    requires v_lt_banks { (v.0 < tally.banks) × (b.0 < tally.banks) × (at + 13 ≤ length out.old) }
-    ensures { Puts (link_text b.0 (slices_of neighbours.now degrees.now waves.now counts.now ranks.now) tally v.0) at out.old result out.new }
+fn put_link(out: &mut [u8], at: usize, plan: PlanMemory, b: Bank, v: Bank) -> usize
+    requires held { plan_number (slices_in plan) plan.tally ≡ 0 }
+    requires few { plan.tally.banks ≤ 16 }
+    requires are_banks { (v.0 < plan.tally.banks) × (b.0 < plan.tally.banks) }
+    requires room { at + 13 ≤ length out.old }
+    ensures { Puts (link_text b.0 (slices_in plan.entry) plan.entry.tally v.0) at out.old result out.new }
 {
-    if is_earlier(degrees, ranks, v, b) {
-        let straight = wave_by_rule(neighbours, degrees, waves, counts, ranks, tally, v);
-        return put_from(out, at, v.0, straight.wave);
+    if !is_earlier(plan.degrees, plan.ranks, v, b) {
+        return at;
     }
-    at
+    match wave_by_rule(plan, v) {
+        Ok(read) => put_from(out, at, v.0, read),
+        Err(_) => at,
+    }
 }
 
 // The earlier neighbours of bank b with their letters.
-fn put_links(
-    out: &mut [u8],
-    at: usize,
-    neighbours: &[u16],
-    degrees: &[u16],
-    waves: &[u16],
-    counts: &[u16],
-    ranks: &[u16],
-    tally: Tally,
-    b: Bank,
-) -> usize
-    requires plan_in { PlanIn (slices_of neighbours.now degrees.now waves.now counts.now ranks.now) tally }
-    requires b_lt_banks { (b.0 < tally.banks) × (at + 299 ≤ length out.old) }
-    ensures { Puts (links_text b.0 (slices_of neighbours.now degrees.now waves.now counts.now ranks.now) tally
-        (clashes_of b.0 (slices_of neighbours.now degrees.now waves.now counts.now ranks.now) tally)) at out.old result out.new × (result ≤ at + 299) }
+fn put_links(out: &mut [u8], at: usize, plan: PlanMemory, b: Bank) -> usize
+    requires held { plan_number (slices_in plan) plan.tally ≡ 0 }
+    requires few { plan.tally.banks ≤ 16 }
+    requires is_bank { b.0 < plan.tally.banks }
+    requires room { at + 299 ≤ length out.old }
+    ensures { Puts (links_text b.0 (slices_in plan.entry) plan.entry.tally (clashes_of b.0 (slices_in plan.entry) plan.entry.tally)) at out.old result out.new
+        × (result ≤ at + 299) }
 {
-    let clashes = clashes_of(neighbours, degrees, waves, counts, ranks, tally, b);
+    let clashes = clashes_of(plan, b);
     let mut next = at;
-    let mut i = 0;
-    while i < clashes.len() {
-        let v = Bank(clashes[i]);
-        next = put_link(
-            out, next, neighbours, degrees, waves, counts, ranks, tally, b, v,
-        );
-        i += 1;
+    for &v in clashes {
+        next = put_link(out, next, plan, b, Bank(v));
     }
     next
 }
@@ -99,29 +80,28 @@ fn put_head(out: &mut [u8], b: u16, kept: Wave, read: Wave) -> usize
     put_lettered(out, second, b" READ ", read)
 }
 
-// The line of bank b, at the front.
-pub fn put_line(
-    out: &mut [u8],
-    neighbours: &[u16],
-    degrees: &[u16],
-    waves: &[u16],
-    counts: &[u16],
-    ranks: &[u16],
-    tally: Tally,
-    b: Bank,
-) -> usize
-    requires { 324 ≤ length out.old }
-    ensures { Puts (line_of b.0 (slices_of neighbours.now degrees.now waves.now counts.now ranks.now) tally) 0 out.old result out.new
-        × (result ≤ length out.new) }
+// The wave of bank b as kept, and as read straight off.
+fn both_waves(plan: PlanMemory, b: Bank) -> Result<(Wave, Wave), Refusal>
+    ensures number { number_in result ≡ direct_number b.0 (slices_in plan.entry) plan.entry.tally }
+    ensures waves { IfOk result (λ pair. (pair.0.0 ≡ wave_of b.0 (slices_in plan.entry) plan.entry.tally)
+        × (pair.1.0 ≡ rule_wave_of b.0 (slices_in plan.entry) plan.entry.tally)) }
 {
-    let straight = wave_by_rule(neighbours, degrees, waves, counts, ranks, tally, b);
-    if straight.number != 0 {
-        return put_refused(out, 0, b"BANK ", b.0, straight.number);
+    let read = wave_by_rule(plan, b)?;
+    let kept = wave_of(plan, b)?;
+    Ok((kept, read))
+}
+
+// The line of bank b, at the front.
+pub fn put_line(out: &mut [u8], plan: PlanMemory, b: Bank) -> usize
+    requires { 324 ≤ length out.old }
+    ensures { Puts (line_of b.0 (slices_in plan.entry) plan.entry.tally) 0 out.old result out.new × (result ≤ length out.new) }
+{
+    match both_waves(plan, b) {
+        Ok((kept, read)) => {
+            let links = put_head(out, b.0, kept, read);
+            let end = put_links(out, links, plan, b);
+            put_byte(out, end, b'\n')
+        }
+        Err(refusal) => put_refused(out, 0, b"BANK ", b.0, u16::from(refusal)),
     }
-    let kept = wave_of(neighbours, degrees, waves, counts, ranks, tally, b);
-    let links = put_head(out, b.0, kept.wave, straight.wave);
-    let end = put_links(
-        out, links, neighbours, degrees, waves, counts, ranks, tally, b,
-    );
-    put_byte(out, end, b'\n')
 }

@@ -4,5 +4,5 @@
 mod capping;
 mod editing;
 
-pub use capping::{Capped, set_cap_core};
-pub use editing::{add_core, edit_core, strike_core};
+pub use capping::set_cap_core;
+pub use editing::edit_core;

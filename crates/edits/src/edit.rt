@@ -26,15 +26,16 @@ pub struct Accepted {
 
 // The number of waves after all steps. The waves are counted only if a bank left the highest and none came there since.
 fn waves_after(waves: &[u16], banks: u16, top: Highest) -> u16
-    requires banks_in_bounds { banks ≤ length waves.now }
-    requires by_index { (x : ℕ) → x < banks → get_or waves.now x 0 < 24 }
+    requires long { banks ≤ length waves.now }
+    requires small { (x : ℕ) → x < banks → get_or waves.now x 0 < 24 }
     requires top { Top banks waves.now top }
     ensures { result ≡ most_of waves.now banks }
 {
     if top.left {
-        return wave_count(waves, banks);
+        wave_count(waves, banks)
+    } else {
+        top.most
     }
-    top.most
 }
 
 // Brings waves and Counts up to date, once rows and degrees are, and writes the trail and the moved list. The tally has the new number of clashes;
@@ -56,10 +57,10 @@ fn propagate(
     requires rows_changed { (o : Origin)
         × RowsChanged (edit_at o a.0 b.0) (given neighbours.now degrees.now waves.old counts.old ranks.now trail.old moved.old o.memory.tally) old tally }
     requires idle { Idle tally.banks ranks.now queue.old }
-    ensures fact { (o : Origin)
+    ensures made { (o : Origin)
         → RowsChanged (edit_at o a.0 b.0) (given neighbours.now degrees.now waves.old counts.old ranks.now trail.old moved.old o.memory.tally) old tally
         → Result o.kind o.graph a.0 b.0 o.memory (given neighbours.now degrees.now waves.new counts.new ranks.now trail.new moved.new result.tally) result }
-    ensures idle_2 { Idle tally.banks ranks.now queue.new }
+    ensures idle { Idle tally.banks ranks.now queue.new }
 {
     let banks = tally.banks;
     queue_seeds(
@@ -76,18 +77,14 @@ fn propagate(
         queue,
         tally.waves,
     );
-    let highest = done.top;
-    let most = waves_after(waves, banks, highest);
-    let after = Tally {
-        banks: banks,
-        clashes: tally.clashes,
-        waves: most,
-        cap: tally.cap,
-    };
+    let most = waves_after(waves, banks, done.top);
     Accepted {
         moved: done.moved as u16,
         trail: done.taken as u16,
-        tally: after,
+        tally: Tally {
+            waves: most,
+            ..tally
+        },
     }
 }
 
@@ -127,12 +124,7 @@ pub fn make_edit(
 {
     let clashes = count_after(kind, tally.clashes);
     let old = change_clash(kind, neighbours, degrees, a, b);
-    let start = Tally {
-        banks: tally.banks,
-        clashes: clashes,
-        waves: tally.waves,
-        cap: tally.cap,
-    };
+    let start = Tally { clashes, ..tally };
     propagate(
         neighbours, degrees, waves, counts, ranks, trail, moved, queue, start, a, b, old,
     )

@@ -20,8 +20,7 @@ pub fn recount_one(
     requires b_in_bounds { b.0 * 24 + 24 ≤ length counts.old }
     ensures { Recounts neighbours.now degrees.now waves.now counts.old ranks.now counts.new b.0 }
 {
-    let at = b.0 as usize;
-    let start = at * COUNT_CELLS;
+    let start = usize::from(b.0) * COUNT_CELLS;
     let end = start + COUNT_CELLS;
     count_earlier(
         neighbours,

@@ -24,15 +24,15 @@ fn queue_seed(
     banks: u16,
     v: Bank,
 )
-    requires by_index { (G : Graph) × (was : List ℕ)
+    requires recounting { (G : Graph) × (was : List ℕ)
         × Recounting G (slices_of neighbours.now degrees.now waves.now counts.old ranks.now) was queue.old banks }
-    requires v_lt_banks { v.0 < banks }
+    requires bank { v.0 < banks }
     ensures { (G : Graph) → (was : List ℕ)
         → Recounting G (slices_of neighbours.now degrees.now waves.now counts.old ranks.now) was queue.old banks
         → SeedQueued G (slices_of neighbours.now degrees.now waves.now counts.new ranks.now) was queue.old queue.new banks v.0 }
 {
     recount_one(neighbours, degrees, waves, counts, ranks, banks, v);
-    enqueue(queue, v, degrees[v.0 as usize], true);
+    enqueue(queue, v, degrees[usize::from(v.0)], true);
 }
 
 // If the order of b and its neighbour i turned over, where b had the degree `old`: the neighbour is a seed.
@@ -49,14 +49,14 @@ fn queue_turned_one(
     i: usize,
 )
     requires turning { (s : Search) × Turning s (slices_of neighbours.now degrees.now waves.now counts.old ranks.now) queue.old banks b.0 old i }
-    requires i_bound { i < get_or degrees.now b.0 0 }
+    requires in_row { i < get_or degrees.now b.0 0 }
     ensures { (s : Search)
         → Turning s (slices_of neighbours.now degrees.now waves.now counts.old ranks.now) queue.old banks b.0 old i
         → Turning s (slices_of neighbours.now degrees.now waves.now counts.new ranks.now) queue.new banks b.0 old (i + 1) }
 {
-    let at = b.0 as usize;
+    let at = usize::from(b.0);
     let v = Bank(neighbours[at * ROW_CELLS + i]);
-    let at_v = v.0 as usize;
+    let at_v = usize::from(v.0);
     let was = earlier(degrees[at_v], ranks[at_v], v, old, ranks[at], b);
     let is = is_earlier(degrees, ranks, v, b);
     if was == is {
@@ -83,14 +83,12 @@ fn queue_turned(
         → Turning s (slices_of neighbours.now degrees.now waves.now counts.new ranks.now) queue.new banks b.0 old
         (get_or degrees.now b.0 0) }
 {
-    let at = b.0 as usize;
-    let degree = degrees[at] as usize;
-    let mut i = 0;
-    while i < degree {
+    let degree = usize::from(degrees[usize::from(b.0)]);
+    // By index: the state of the search counts the cells of the row that are looked at.
+    for i in 0..degree {
         queue_turned_one(
             neighbours, degrees, waves, counts, ranks, queue, banks, b, old, i,
         );
-        i += 1;
     }
 }
 

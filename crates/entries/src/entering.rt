@@ -12,7 +12,7 @@ use memory::Tally;
 use planner::{Answer, Edited};
 use queue::WORDS;
 use queue_places::place_by_rank;
-use rule::{Bank, Entry, Kind, wide};
+use rule::{Bank, Entry, Kind};
 
 // Whether an edit has come, once this entry has.
 pub fn begun_by(entry: Entry, begun: bool) -> bool
@@ -35,7 +35,7 @@ fn rank_held(ranks: &mut [u16], tally: Tally, begun: bool, b: Bank, rank: u16) -
     if tally.banks <= b.0 {
         return refuse(4, tally);
     }
-    let at = wide(b.0);
+    let at = usize::from(b.0);
     ranks[at] = rank;
     Edited {
         answer: Answer {
@@ -43,7 +43,7 @@ fn rank_held(ranks: &mut [u16], tally: Tally, begun: bool, b: Bank, rank: u16) -
             moved: 0,
             trail: 0,
         },
-        tally: tally,
+        tally,
     }
 }
 

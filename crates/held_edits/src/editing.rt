@@ -2,102 +2,79 @@
 ghost use Rattle.std.specs.Prelude.{◌≡◌, ℕ};
 ghost use Rattle.rule.specs.Lists.{memb};
 ghost use Rattle.rule.specs.Graph.{Graph};
+ghost use Rattle.rule.specs.Refusals.{number_in};
 ghost use Rattle.rule.specs.declared.Kind.TheVariants.{Adding, Striking};
-ghost use Rattle.memory.specs.Plan.{PlanOf, slices_of};
+ghost use Rattle.memory.specs.Plan.{PlanOf};
 ghost use Rattle.memory.specs.Memory.{Ready};
-ghost use Rattle.memory.specs.Lent.{given};
+ghost use Rattle.memory.specs.Lent.{given, slices_in};
 ghost use Rattle.queue.specs.Queue.{Idle};
 ghost use Rattle.planner.specs.Calls.{no_edit, edit_number};
 ghost use Rattle.planner.specs.inner.Held.{clash_number, HoldsPlan, EditMade};
 
 use edits::make_edit;
-use memory::Tally;
+use memory::{PlanMemory, Tally};
 use planner::{Answer, Edited, clashes_held};
 use queue::WORDS;
 use queue_places::reset;
-use rule::{Bank, Kind, MOST_CLASHES, wide};
+use rule::{Bank, Kind, MOST_CLASHES, Refusal};
 
-// Whether the cells name bank v.
-fn names(row: &[u16], v: Bank) -> bool
-    ensures { result ≡ memb v.0 row.now }
-{
-    let mut i = 0;
-    while i < row.len() {
-        if row[i] == v.0 {
-            return true;
-        }
-        i += 1;
-    }
-    false
-}
-
-// Questions 9 and 11 of an add: 0, or the number of the first no.
-fn add_number(there: bool, degree_a: u16, degree_b: u16) -> u16
-    ensures { result ≡ clash_number Adding there degree_a degree_b }
+// Questions 9 and 11 of an add.
+fn add_number(there: bool, degree_a: u16, degree_b: u16) -> Result<(), Refusal>
+    ensures { number_in result ≡ clash_number Adding there degree_a degree_b }
 {
     if there {
-        return 6;
+        return Err(Refusal::ClashThere);
     }
-    if MOST_CLASHES <= degree_a {
-        return 8;
+    if MOST_CLASHES <= degree_a || MOST_CLASHES <= degree_b {
+        return Err(Refusal::ManyClashes);
     }
-    if MOST_CLASHES <= degree_b {
-        return 8;
-    }
-    0
+    Ok(())
 }
 
-// Question 10 of a strike: 0, or its number.
-fn strike_number(there: bool) -> u16
-    ensures { (da db : ℕ) → result ≡ clash_number Striking there da db }
+// Question 10 of a strike.
+fn strike_number(there: bool) -> Result<(), Refusal>
+    ensures { (da db : ℕ) → number_in result ≡ clash_number Striking there da db }
 {
-    if there {
-        return 0;
+    if !there {
+        return Err(Refusal::NoClash);
     }
-    7
+    Ok(())
 }
 
-// Questions 9 and 11 of an add, 10 of a strike, of two different banks: 0, or the number of the first no. `row` has the clashes of a.
-fn clash_number(kind: Kind, row: &[u16], b: Bank, degree_a: u16, degree_b: u16) -> u16
-    ensures { result ≡ clash_number kind (memb b.0 row.now) degree_a degree_b }
+// Questions 9 and 11 of an add, 10 of a strike, of two different banks. `row` has the clashes of a.
+fn clash_number(
+    kind: Kind,
+    row: &[u16],
+    b: Bank,
+    degree_a: u16,
+    degree_b: u16,
+) -> Result<(), Refusal>
+    ensures { number_in result ≡ clash_number kind (memb b.0 row.now) degree_a degree_b }
 {
-    let there = names(row, b);
+    let there = row.contains(&b.0);
     match kind {
         Kind::Adding => add_number(there, degree_a, degree_b),
         Kind::Striking => strike_number(there),
     }
 }
 
-// Questions 7 to 11 of an edit: 0, or the number of the first no.
-pub fn edit_number(
-    kind: Kind,
-    neighbours: &[u16],
-    degrees: &[u16],
-    waves: &[u16],
-    counts: &[u16],
-    ranks: &[u16],
-    tally: Tally,
-    a: Bank,
-    b: Bank,
-) -> u16
-    requires { (G : Graph) × PlanOf G (slices_of neighbours.now degrees.now waves.now counts.now ranks.now) tally }
+// Questions 7 to 11 of an edit: the refusal of the first no.
+pub fn edit_number(kind: Kind, plan: PlanMemory, a: Bank, b: Bank) -> Result<(), Refusal>
+    requires { (G : Graph) × PlanOf G (slices_in plan) plan.tally }
     ensures { (G : Graph)
-        → PlanOf G (slices_of neighbours.now degrees.now waves.now counts.now ranks.now) tally
-        → result ≡ edit_number kind G a.0 b.0 }
+        → PlanOf G (slices_in plan.entry) plan.entry.tally
+        → number_in result ≡ edit_number kind G a.0 b.0 }
 {
-    if tally.banks <= a.0 {
-        return 4;
+    if plan.tally.banks <= a.0 || plan.tally.banks <= b.0 {
+        return Err(Refusal::FarBank);
     }
-    if tally.banks <= b.0 {
-        return 4;
+    if a == b {
+        return Err(Refusal::SameBank);
     }
-    if a.0 == b.0 {
-        return 5;
-    }
-    let row = clashes_held(neighbours, degrees, waves, counts, ranks, tally, a);
-    let at_a = wide(a.0);
-    let at_b = wide(b.0);
-    clash_number(kind, row, b, degrees[at_a], degrees[at_b])
+    let row = clashes_held(plan, a);
+    let at_a = usize::from(a.0);
+    let at_b = usize::from(b.0);
+    clash_number(kind, row, b, plan.degrees[at_a], plan.degrees[at_b])
 }
 
 // A refused edit: the number, counts 0, the tally as it was.
@@ -106,11 +83,11 @@ pub fn refuse(number: u16, tally: Tally) -> Edited
 {
     Edited {
         answer: Answer {
-            number: number,
+            number,
             moved: 0,
             trail: 0,
         },
-        tally: tally,
+        tally,
     }
 }
 
@@ -139,21 +116,27 @@ pub fn edit_held(
         (given neighbours.new degrees.new waves.new counts.new ranks.now trail.new moved.new result.tally) }
     ensures idle_2 { Idle tally.banks ranks.now queue.new }
 {
-    let number = edit_number(kind, neighbours, degrees, waves, counts, ranks, tally, a, b);
-    if number != 0 {
-        return refuse(number, tally);
+    let plan = PlanMemory {
+        neighbours,
+        degrees,
+        waves,
+        counts,
+        ranks,
+        tally,
+    };
+    if let Err(refusal) = edit_number(kind, plan, a, b) {
+        return refuse(u16::from(refusal), tally);
     }
     let done = make_edit(
         kind, neighbours, degrees, waves, counts, ranks, trail, moved, queue, tally, a, b,
     );
-    let after = done.tally;
     Edited {
         answer: Answer {
             number: 0,
             moved: done.moved,
             trail: done.trail,
         },
-        tally: after,
+        tally: done.tally,
     }
 }
 

@@ -9,7 +9,7 @@ use lib.ListN.{length, get_or, take, drop, length-append, take-append-drop}
 use lib.Seq.{take-suc}
 use borrow.Author.Tests.{lt-ltb, le-ltb}
 use Rattle.rule.specs.Lists.{filter}
-use Rattle.rule.specs.Graph.{Graph, neighbours, degree}
+use Rattle.rule.specs.Graph.{Graph, neighbours}
 use Rattle.rule.specs.declared.Kind.TheVariants.{Adding}
 use Rattle.rule.specs.declared.Entry.{Entry}
 use Rattle.rule.proofs.Lists.{filter_append}
@@ -23,7 +23,7 @@ use Rattle.journal_fields.proofs.Entries.{fit_append}
 use Rattle.journal.specs.Calls.{entry_for, adds_of, adds_below}
 use Rattle.journal.specs.inner.Adds.{PutsEntries, Fit}
 use Rattle.journal.proofs.Writing.{entries_then, fit_fewer, fit_after}
-use Rattle.journal.proofs.Growing.{grow_room, grow_count, grow_fit, grow_put}
+use Rattle.journal.proofs.Growing.{grow_fit, grow_put}
 
 -- one bank after others
 pub adds_append : (a : ℕ) (xs ys : List ℕ) → adds_of a (xs ++ ys) ≡ adds_of a xs ++ adds_of a ys
@@ -86,12 +86,6 @@ module _ (G : Graph) where
   unfolding adds_below
   below_step a = refl
 
-  pub below_room : (a n : ℕ) → a < n → length (adds_below G a) + length (of a) ≤ length (adds_below G n)
-  below_room = grow_room (adds_below G) of below_step
-
-  pub below_count : (a : ℕ) → length (adds_below G (a + 1)) ≡ length (adds_below G a) + length (of a)
-  below_count = grow_count (adds_below G) of below_step
-
   -- they set no rank
   rows_fit : (a : ℕ) (bs : List ℕ) → RanksFit (map (entry_for Adding a) bs)
   unfolding rank_fits
@@ -107,9 +101,6 @@ module _ (G : Graph) where
 module _ (G : Graph) (s : Slices) (t : Tally) (p : PlanOf G s t) where
   pub plan_banks : t.banks ≡ G.banks
   plan_banks = tally_banks t G p.tally
-
-  pub plan_few : t.banks ≤ 1024
-  plan_few = omega (arith, plan_banks, p.clashes.most)
 
   -- each bank has a rank
   pub plan_ranks : t.banks ≤ length s.ranks
@@ -127,7 +118,3 @@ module _ (G : Graph) (s : Slices) (t : Tally) (p : PlanOf G s t) where
     pub row_put : (r₂ : ℕ) (out₂ : List ℕ) → PutsEntries (adds_of a row) r₁ out₁ r₂ out₂ → PutsEntries (adds_below G (a + 1)) k out r₂ out₂
     row_put r₂ out₂ q =
         grow_put (adds_below G) (of G) (below_step G) a G.banks k below out fit r₁ out₁ w r₂ out₂ (subst (λ (l : List ℕ). PutsEntries (adds_of a l) r₁ out₁ r₂ out₂) e q)
-
-  pub row_few : (a : ℕ) → a < t.banks → length (neighbours G a) ≤ 23
-  unfolding degree
-  row_few a h = p.clashes.few a (omega (arith, plan_banks))

@@ -3,6 +3,7 @@ pub mod Writing
 pub mod Growing
 pub mod Ranks
 pub mod Adds
+pub mod Counting
 pub mod Starting
 pub mod Recording
 pub mod Turns

@@ -5,7 +5,6 @@ use mathlib.Core.Path.{◌≡◌, refl, sym, ap, ◌∙◌}
 use Prim.Native.Nat.{ℕ}
 use Rattle.rule.specs.Graph.{Graph, empty, Same}
 use Rattle.memory.specs.declared.Tally.{Tally}
-use Rattle.memory.specs.Cells.{over}
 use Rattle.memory.specs.Plan.{Slices, tally_of, PlanOf}
 use Rattle.memory.specs.PlanCells.{plan_cells}
 use Rattle.memory.proofs.Theorems.{same_cells, plan_in_agree, tally_agree}

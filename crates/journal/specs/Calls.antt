@@ -1,6 +1,8 @@
 -- What starting a journal, and an edit that is recorded, answer and leave, of what they are lent (02, N2, N6, N9 and N10).
-use Rattle.std.specs.Prelude.{true, cond, List, [], ◌∷◌, ◌++◌, map, ℕ, zero, suc, ◌+◌, ltb, eqb, length, take, drop}
+use Rattle.std.specs.Prelude.{true, cond, List, [], ◌∷◌, ◌++◌, map, Result, ℕ, zero, suc, ◌+◌, ltb, eqb, length, take, drop}
 use Rattle.rule.specs.Lists.{filter}
+use Rattle.rule.specs.Refusals.{number_in, value_or}
+use Rattle.rule.specs.declared.refusal.Refusal.{Refusal}
 use Rattle.rule.specs.Graph.{Graph, neighbours}
 use Rattle.rule.specs.declared.Kind.{Kind}
 use Rattle.rule.specs.declared.Kind.TheVariants.{Adding}
@@ -14,7 +16,6 @@ use Rattle.memory.specs.Memory.{Memory}
 use Rattle.planner.specs.Calls.{plan_number, memory_number, accepted}
 use Rattle.capped_edits.specs.Capped.{capped_number}
 use Rattle.text.specs.Places.{put}
-use Rattle.journal.specs.declared.Started.{Started}
 use Rattle.journal.specs.declared.Recorded.{Recorded}
 use Rattle.journal_fields.specs.Fields.{first_size, entry_size, entry_bytes, journal_bytes, numbered, fields}
 use Rattle.journal_fields.specs.Numbers.{first_of, space_number, head_number, fields_number}
@@ -52,6 +53,14 @@ start_bytes G = journal_bytes true G.banks (start_entries G)
 -- questions 3 to 5, then 15
 unfoldable pub start_number : Slices → Tally → List ℕ → ℕ
 start_number s t journal = first_of (plan_number s t ∷ space_number (length (start_bytes (graph_in t.banks s))) journal ∷ [])
+
+-- what starting answers: the number, and the journal's length, 0 where it is refused
+pub record Started : Type 0 where
+  pub number : ℕ
+  pub length : ℕ
+
+abbrev pub start_answered : Result ℕ Refusal → Started
+start_answered r = record { number = number_in r; length = value_or r 0 }
 
 -- what starting leaves
 pub record StartResult : Type 0 where

@@ -5,13 +5,6 @@ mod start;
 
 pub use start::start_journal;
 
-// The answer of start_journal: the number, and the journal's length, at most 60,000.
-#[derive(Clone, Copy)]
-pub struct Started {
-    pub number: u16,
-    pub length: u16,
-}
-
 // The answer of an edit that is recorded: that of the edit, and the journal's new length, at most 60,000.
 #[derive(Clone, Copy)]
 pub struct Recorded {

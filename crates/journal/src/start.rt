@@ -1,85 +1,25 @@
 // The call that starts a journal.
-ghost use Rattle.std.specs.Prelude.{[], ◌∷◌, ◌≡◌, ℕ, ◌≤◌, length};
+ghost use Rattle.std.specs.Prelude.{[], ◌∷◌, ◌≡◌, ◌≤◌, length};
 ghost use Rattle.rule.specs.Graph.{Graph};
-ghost use Rattle.memory.specs.Plan.{PlanOf, slices_of};
-ghost use Rattle.journal.specs.Calls.{rank_of, ranks_below, adds_of, adds_below, start_result, started};
+ghost use Rattle.memory.specs.Lent.{slices_in};
+ghost use Rattle.memory.specs.Plan.{PlanOf};
+ghost use Rattle.journal.specs.Calls.{rank_of, ranks_below, adds_of, adds_below, start_answered, start_result, started};
 ghost use Rattle.journal.specs.inner.Adds.{rank_in, RoomFor, PutsEntries};
 
-use crate::Started;
 use journal_fields::{FIRST_BYTES, NUMBERED_BYTES, put_entry, put_first, space_number};
-use memory::Tally;
+use memory::PlanMemory;
 use planner::{check_plan, clashes_held};
-use rule::{Bank, Entry, Kind, wide};
-
-// 1 if a rank is other than 0, else 0.
-fn ranked(rank: u16) -> usize
-    ensures { ((b : ℕ) → result ≡ length (rank_of b rank)) × (result ≤ 1) }
-{
-    if rank == 0 {
-        return 0;
-    }
-    1
-}
+use rule::{Bank, Entry, Kind, Refusal};
 
 // How many of the first n ranks are other than 0.
 fn count_ranks(ranks: &[u16], n: u16) -> usize
     requires { n ≤ length ranks.now }
     ensures { (result ≡ length (ranks_below (rank_in ranks.now) n)) × (result ≤ n) }
 {
-    let mut count = 0;
-    let mut b: u16 = 0;
-    while b < n {
-        count += ranked(ranks[wide(b)]);
-        b += 1;
-    }
-    count
-}
-
-// 1 if b is larger than a, else 0.
-fn larger(a: Bank, b: Bank) -> usize
-    ensures { (result ≡ length (adds_of a.0 (b.0 ∷ []))) × (result ≤ 1) }
-{
-    if b.0 <= a.0 {
-        return 0;
-    }
-    1
-}
-
-// How many of these banks are larger than a.
-fn count_larger(row: &[u16], a: Bank) -> usize
-    ensures { (result ≡ length (adds_of a.0 row.now)) × (result ≤ length row.now) }
-{
-    let mut count = 0;
-    let mut i = 0;
-    while i < row.len() {
-        count += larger(a, Bank(row[i]));
-        i += 1;
-    }
-    count
-}
-
-// The number of clashes of a plan, each counted at its smaller bank.
-fn count_adds(
-    neighbours: &[u16],
-    degrees: &[u16],
-    waves: &[u16],
-    counts: &[u16],
-    ranks: &[u16],
-    tally: Tally,
-) -> usize
-    requires { (G : Graph) × PlanOf G (slices_of neighbours.now degrees.now waves.now counts.now ranks.now) tally }
-    ensures { (G : Graph)
-        → PlanOf G (slices_of neighbours.now degrees.now waves.now counts.now ranks.now) tally
-        → (result ≡ length (adds_below G G.banks)) × (result ≤ 23552) }
-{
-    let mut count = 0;
-    let mut a: u16 = 0;
-    while a < tally.banks {
-        let row = clashes_held(neighbours, degrees, waves, counts, ranks, tally, Bank(a));
-        count += count_larger(row, Bank(a));
-        a += 1;
-    }
-    count
+    ranks[..usize::from(n)]
+        .iter()
+        .filter(|rank| **rank != 0)
+        .count()
 }
 
 // Writes an entry into a new journal after the first `done`, with its number, and answers how many stand there then.
@@ -114,10 +54,8 @@ fn put_ranks(journal: &mut [u8], done: usize, ranks: &[u16], n: u16) -> usize
     ensures { PutsEntries (ranks_below (rank_in ranks.now) n) done journal.old result journal.new }
 {
     let mut next = done;
-    let mut b: u16 = 0;
-    while b < n {
-        next = put_rank(journal, next, Bank(b), ranks[wide(b)]);
-        b += 1;
+    for b in 0..n {
+        next = put_rank(journal, next, Bank(b), ranks[usize::from(b)]);
     }
     next
 }
@@ -127,7 +65,7 @@ fn put_add(journal: &mut [u8], done: usize, a: Bank, b: Bank) -> usize
     requires { RoomFor (adds_of a.0 (b.0 ∷ [])) done journal.old }
     ensures { PutsEntries (adds_of a.0 (b.0 ∷ [])) done journal.old result journal.new }
 {
-    if b.0 <= a.0 {
+    if b <= a {
         return done;
     }
     put_new(journal, done, Entry::Clash(Kind::Adding, a, b))
@@ -139,79 +77,39 @@ fn put_adds_of(journal: &mut [u8], done: usize, row: &[u16], a: Bank) -> usize
     ensures { PutsEntries (adds_of a.0 row.now) done journal.old result journal.new }
 {
     let mut next = done;
-    let mut i = 0;
-    while i < row.len() {
-        next = put_add(journal, next, a, Bank(row[i]));
-        i += 1;
+    for b in row {
+        next = put_add(journal, next, a, Bank(*b));
     }
     next
 }
 
 // Writes the clashes of a plan as adds, the lowest pair first.
-fn put_adds(
-    journal: &mut [u8],
-    done: usize,
-    neighbours: &[u16],
-    degrees: &[u16],
-    waves: &[u16],
-    counts: &[u16],
-    ranks: &[u16],
-    tally: Tally,
-) -> usize
-    requires { (G : Graph)
-        × PlanOf G (slices_of neighbours.now degrees.now waves.now counts.now ranks.now) tally
-        × RoomFor (adds_below G G.banks) done journal.old }
+fn put_adds(journal: &mut [u8], done: usize, plan: PlanMemory) -> usize
+    requires { (G : Graph) × PlanOf G (slices_in plan) plan.tally × RoomFor (adds_below G G.banks) done journal.old }
     ensures { (G : Graph)
-        → PlanOf G (slices_of neighbours.now degrees.now waves.now counts.now ranks.now) tally
+        → PlanOf G (slices_in plan.entry) plan.entry.tally
         → RoomFor (adds_below G G.banks) done journal.old
         → PutsEntries (adds_below G G.banks) done journal.old result journal.new }
 {
     let mut next = done;
-    let mut a: u16 = 0;
-    while a < tally.banks {
-        let row = clashes_held(neighbours, degrees, waves, counts, ranks, tally, Bank(a));
-        next = put_adds_of(journal, next, row, Bank(a));
-        a += 1;
+    for a in 0..plan.tally.banks {
+        next = put_adds_of(journal, next, clashes_held(plan, Bank(a)), Bank(a));
     }
     next
 }
 
-// Starts a journal: writes its first field, the ranks other than 0 and the clashes now listed to the front of `journal`.
-pub fn start_journal(
-    neighbours: &[u16],
-    degrees: &[u16],
-    waves: &[u16],
-    counts: &[u16],
-    ranks: &[u16],
-    tally: Tally,
-    journal: &mut [u8],
-) -> Started
-    ensures { start_result result journal.new
-        ≡ started (slices_of neighbours.now degrees.now waves.now counts.now ranks.now) tally journal.old }
+// Starts a journal: writes its first field, the ranks other than 0 and the clashes now listed to the front of `journal`. Answers its length, at
+// most 60,000, or changes nothing and gives the refusal of the first no.
+pub fn start_journal(plan: PlanMemory, journal: &mut [u8]) -> Result<usize, Refusal>
+    ensures { start_result (start_answered result) journal.new ≡ started (slices_in plan.entry) plan.entry.tally journal.old }
 {
-    let number = check_plan(neighbours, degrees, waves, counts, ranks, tally);
-    if number != 0 {
-        return Started {
-            number: number,
-            length: 0,
-        };
-    }
-    let adds = count_adds(neighbours, degrees, waves, counts, ranks, tally);
-    let size = FIRST_BYTES + NUMBERED_BYTES * (count_ranks(ranks, tally.banks) + adds);
-    let space = space_number(journal, size);
-    if space != 0 {
-        return Started {
-            number: space,
-            length: 0,
-        };
-    }
-    put_first(journal, tally.banks);
-    let ranked = put_ranks(journal, 0, ranks, tally.banks);
-    put_adds(
-        journal, ranked, neighbours, degrees, waves, counts, ranks, tally,
-    );
-    Started {
-        number: 0,
-        length: size as u16,
-    }
+    check_plan(plan)?;
+    // Each clash of the tally is one add.
+    let entries = count_ranks(plan.ranks, plan.tally.banks) + usize::from(plan.tally.clashes);
+    let size = FIRST_BYTES + NUMBERED_BYTES * entries;
+    space_number(journal, size)?;
+    put_first(journal, plan.tally.banks);
+    let ranked = put_ranks(journal, 0, plan.ranks, plan.tally.banks);
+    put_adds(journal, ranked, plan);
+    Ok(size)
 }

@@ -13,10 +13,11 @@ use borrow.Author.Tests.{le-leb, le-ltb, leb-true, eqb-true}
 use Rattle.rule.proofs.Booleans.{both_true}
 use Rattle.rule.specs.Numbers.{bank}
 use Rattle.rule.specs.declared.Kind.TheVariants.{Adding, Striking}
+use Rattle.std.proofs.Common.{Result, Ok, Err}
 use Rattle.rule.specs.declared.Entry.{Entry}
 use Rattle.rule.specs.declared.Entry.TheVariants.{Clash, Rank}
-use Rattle.journal_fields.specs.declared.field.Field.{Field}
-use Rattle.journal_fields.specs.declared.field.Field.TheVariants.{Whole, Wrong, Misnumbered, Short}
+use Rattle.journal_fields.specs.declared.field.Fault.{Fault}
+use Rattle.journal_fields.specs.declared.field.Fault.TheVariants.{Wrong, Misnumbered, Short}
 use Rattle.journal_fields.specs.Fields.{head_size, first_size, number_size, value_size, entry_size, first_tag, rank_tag, kind_tag, tag_of, first_in, second_in}
 use Rattle.journal_fields.specs.Fields.{two_bytes, number_at, four_bytes, four_at, field_bytes, first_bytes, number_bytes, entry_bytes, entries_bytes, journal_bytes}
 use Rattle.journal_fields.specs.Fields.{has_first, banks_in, is_entry_tag, kind_of, numbered, is_entry, entry_of, entry_in, number_in, rank_fits, whole_of, field_of}
@@ -141,14 +142,14 @@ pub record WholeField (w : Bool) (i : ℕ) (bytes : List ℕ) (e : Entry) : Type
   pub number : number_in w i bytes ≡ i
 
 module _ (w : Bool) (i : ℕ) where
-  pub whole_field : (bytes : List ℕ) (e : Entry) → field_of w i bytes ≡ Whole e → WholeField w i bytes e
+  pub whole_field : (bytes : List ℕ) (e : Entry) → field_of w i bytes ≡ Ok e → WholeField w i bytes e
   unfolding whole_of
   whole_field bytes e q =
       let l = whole_long w i bytes e (sym q) in
       by (is_entry w bytes) (rank_fits (entry_in w bytes)) (eqb (number_in w i bytes) i) refl refl refl l (sym (long_field w i bytes l) ∙ q)
     where
       by : (a c d : Bool) → is_entry w bytes ≡ a → rank_fits (entry_in w bytes) ≡ c → eqb (number_in w i bytes) i ≡ d → entry_size w ≤ length bytes
-          → cond a (cond c (cond d (Whole (entry_in w bytes)) Misnumbered) Wrong) Wrong ≡ Whole e → WholeField w i bytes e
+          → cond a (cond c (cond d (Ok (entry_in w bytes)) (Err Misnumbered)) (Err Wrong)) (Err Wrong) ≡ Ok e → WholeField w i bytes e
       by true true true p f n l q =
           let s : entry_in w bytes ≡ e = cc in
           record { long = l; is = p; entry = s; fits = ap rank_fits (sym s) ∙ f; number = eqb-true (number_in w i bytes) i n }
@@ -157,7 +158,7 @@ module _ (w : Bool) (i : ℕ) where
       by false c d p f n l q = let z : ◌≡◌ {A = ℕ} 0 1 = cc in absurd (omega arith)
 
   -- bytes with an entry at the front start with its bytes
-  entry_only : (bytes : List ℕ) (e : Entry) → AreBytes bytes → field_of w i bytes ≡ Whole e → bytes ≡ entry_bytes w i e ++ drop (entry_size w) bytes
+  entry_only : (bytes : List ℕ) (e : Entry) → AreBytes bytes → field_of w i bytes ≡ Ok e → bytes ≡ entry_bytes w i e ++ drop (entry_size w) bytes
   unfolding is_entry entry_in number_in entry_bytes
   entry_only bytes e b q =
       let f = whole_field bytes e q in
@@ -170,27 +171,27 @@ module _ (w : Bool) (i : ℕ) where
       (pair_only bytes b w i t f.long refl (eqb-true (number_at 1 bytes) (value_size w) p.1) (λ z. subst (λ (v : Bool). number_in v i bytes ≡ i) z f.number))
 
 -- fields that are whole: none, or one and the others
-whole_none : (f : Field) (size : ℕ) (rest : Fields) → fields_by f size rest ≡ whole [] → size ≡ 0
+whole_none : (f : Result Entry Fault) (size : ℕ) (rest : Fields) → fields_by f size rest ≡ whole [] → size ≡ 0
 unfolding fields_by
-whole_none (Whole e) size rest q =
+whole_none (Ok e) size rest q =
     let l : e ∷ rest.entries ≡ [] = ap (λ (x : Fields). x.entries) q in
     let z : ◌≡◌ {A = ℕ} 0 1 = cc in
     absurd (omega arith)
-whole_none Wrong size rest q = absurd (omega (arith, ap (λ (x : Fields). x.wrong) q))
-whole_none Misnumbered size rest q = absurd (omega (arith, ap (λ (x : Fields). x.wrong) q))
-whole_none Short size rest q = ap (λ (x : Fields). x.left_over) q
+whole_none (Err Wrong) size rest q = absurd (omega (arith, ap (λ (x : Fields). x.wrong) q))
+whole_none (Err Misnumbered) size rest q = absurd (omega (arith, ap (λ (x : Fields). x.wrong) q))
+whole_none (Err Short) size rest q = ap (λ (x : Fields). x.left_over) q
 
-entries_more : (f : Field) (size : ℕ) (rest : Fields) (e : Entry) (es : List Entry) → (fields_by f size rest).entries ≡ e ∷ es
-    → (f ≡ Whole e) × (rest.entries ≡ es)
+entries_more : (f : Result Entry Fault) (size : ℕ) (rest : Fields) (e : Entry) (es : List Entry) → (fields_by f size rest).entries ≡ e ∷ es
+    → (f ≡ Ok e) × (rest.entries ≡ es)
 unfolding fields_by
-entries_more (Whole d) size rest e es q =
+entries_more (Ok d) size rest e es q =
     let h : d ≡ e = cc in
-    (ap Whole h, cc)
-entries_more Wrong size rest e es q = let z : ◌≡◌ {A = ℕ} 0 1 = cc in absurd (omega arith)
-entries_more Misnumbered size rest e es q = let z : ◌≡◌ {A = ℕ} 0 1 = cc in absurd (omega arith)
-entries_more Short size rest e es q = let z : ◌≡◌ {A = ℕ} 0 1 = cc in absurd (omega arith)
+    (ap Ok h, cc)
+entries_more (Err Wrong) size rest e es q = let z : ◌≡◌ {A = ℕ} 0 1 = cc in absurd (omega arith)
+entries_more (Err Misnumbered) size rest e es q = let z : ◌≡◌ {A = ℕ} 0 1 = cc in absurd (omega arith)
+entries_more (Err Short) size rest e es q = let z : ◌≡◌ {A = ℕ} 0 1 = cc in absurd (omega arith)
 
-no_bytes : (bytes : List ℕ) → length bytes ≡ 0 → bytes ≡ []
+pub no_bytes : (bytes : List ℕ) → length bytes ≡ 0 → bytes ≡ []
 no_bytes [] z = refl
 no_bytes (x ∷ xs) z = absurd (omega arith)
 
@@ -209,18 +210,18 @@ module _ (w : Bool) where
 
   -- bytes with an entry first: the field at the front is it, and the rest have the other entries
   module _ (i : ℕ) (bytes : List ℕ) (e : Entry) (es : List Entry) where
-    pub read_first : (fields_from w i bytes).entries ≡ e ∷ es → (field_of w i bytes ≡ Whole e) × ((fields_from w (suc i) (drop (entry_size w) bytes)).entries ≡ es)
+    pub read_first : (fields_from w i bytes).entries ≡ e ∷ es → (field_of w i bytes ≡ Ok e) × ((fields_from w (suc i) (drop (entry_size w) bytes)).entries ≡ es)
     read_first q =
         entries_more (field_of w i bytes) (length bytes) (fields_from w (suc i) (drop (entry_size w) bytes)) e es
         (ap (λ (x : Fields). x.entries) (sym (fields_step w i bytes)) ∙ q)
 
-    pub read_more : fields_from w i bytes ≡ whole (e ∷ es) → (field_of w i bytes ≡ Whole e) × (fields_from w (suc i) (drop (entry_size w) bytes) ≡ whole es)
+    pub read_more : fields_from w i bytes ≡ whole (e ∷ es) → (field_of w i bytes ≡ Ok e) × (fields_from w (suc i) (drop (entry_size w) bytes) ≡ whole es)
     unfolding fields_by
     read_more q =
         let rest = fields_from w (suc i) (drop (entry_size w) bytes) in
         let r = read_first (ap (λ (x : Fields). x.entries) q) in
         let p : following (e ∷ []) rest ≡ whole (e ∷ es) =
-        sym (fields_step w i bytes ∙ ap (λ (f : Field). fields_by f (length bytes) rest) r.0) ∙ q in
+        sym (fields_step w i bytes ∙ ap (λ (f : Result Entry Fault). fields_by f (length bytes) rest) r.0) ∙ q in
         (r.0, λ j. record { entries = r.1 j; wrong = (p j).wrong; left_over = (p j).left_over })
 
   -- bytes that read as entries, and nothing else, are as many as these need
@@ -241,12 +242,12 @@ module _ (w : Bool) where
       ∙ ap (λ (l : List ℕ). entry_bytes w i e ++ l) (fields_only (suc i) es (drop (entry_size w) bytes) (bytes_drop (entry_size w) bytes b) r.1)
 
   -- entries that are read have ranks that fit
-  fit_by : (i : ℕ) (bytes : List ℕ) (f : Field) (rest : Fields) → field_of w i bytes ≡ f → RanksFit rest.entries → RanksFit (fields_by f (length bytes) rest).entries
+  fit_by : (i : ℕ) (bytes : List ℕ) (f : Result Entry Fault) (rest : Fields) → field_of w i bytes ≡ f → RanksFit rest.entries → RanksFit (fields_by f (length bytes) rest).entries
   unfolding fields_by
-  fit_by i bytes (Whole e) rest q h = ((whole_field w i bytes e q).fits, h)
-  fit_by i bytes Wrong rest q h = tt
-  fit_by i bytes Misnumbered rest q h = tt
-  fit_by i bytes Short rest q h = tt
+  fit_by i bytes (Ok e) rest q h = ((whole_field w i bytes e q).fits, h)
+  fit_by i bytes (Err Wrong) rest q h = tt
+  fit_by i bytes (Err Misnumbered) rest q h = tt
+  fit_by i bytes (Err Short) rest q h = tt
 
   fit_in : (depth i : ℕ) (bytes : List ℕ) → RanksFit (fields_in depth w i bytes).entries
   unfolding fields_in fields_by

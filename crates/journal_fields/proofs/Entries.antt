@@ -12,10 +12,11 @@ use lib.Seq.{get_or-take, get_or-append-add, take-nil, drop_at, length-take-le, 
 use borrow.Author.Tests.{lt-ltb, le-ltb, le-leb, eq-eqb}
 use Rattle.rule.proofs.Booleans.{lt_or_ge}
 use Rattle.rule.specs.declared.Kind.TheVariants.{Adding, Striking}
+use Rattle.std.proofs.Common.{Result, Err}
 use Rattle.rule.specs.declared.Entry.{Entry}
 use Rattle.rule.specs.declared.Entry.TheVariants.{Clash, Rank}
-use Rattle.journal_fields.specs.declared.field.Field.{Field}
-use Rattle.journal_fields.specs.declared.field.Field.TheVariants.{Wrong, Short}
+use Rattle.journal_fields.specs.declared.field.Fault.{Fault}
+use Rattle.journal_fields.specs.declared.field.Fault.TheVariants.{Wrong, Short}
 use Rattle.journal_fields.specs.Fields.{head_size, number_size, value_size, entry_size, kind_tag, tag_of, first_in, second_in, two_bytes, number_at, four_bytes, four_at}
 use Rattle.journal_fields.specs.Fields.{field_bytes, number_bytes, entry_bytes, entries_bytes, is_entry_tag, kind_of, numbered, is_entry, entry_of, entry_in, number_in}
 use Rattle.journal_fields.specs.Fields.{rank_fits, whole_of, field_of, Fields, fields_by, fields_from, fields}
@@ -115,7 +116,7 @@ module _ (w : Bool) where
 
   -- the field at the front, where there are enough bytes for an entry
   pub long_field : (i : ℕ) (bytes : List ℕ) → entry_size w ≤ length bytes
-      → field_of w i bytes ≡ cond (is_entry w bytes) (whole_of (eqb (number_in w i bytes) i) (entry_in w bytes)) Wrong
+      → field_of w i bytes ≡ cond (is_entry w bytes) (whole_of (eqb (number_in w i bytes) i) (entry_in w bytes)) (Err Wrong)
   unfolding field_of
   long_field i bytes h = rw (le-ltb (length bytes) head_size (omega arith), le-ltb (length bytes) (entry_size w) h)
 
@@ -192,13 +193,13 @@ module _ (w : Bool) where
       let bytes : List ℕ = entry_bytes w i e ++ rest in
       let n : length (take r bytes) ≡ r = length-take-le r bytes (omega (arith, length-append (entry_bytes w i e) rest, length_entry i e)) in
       fields_step w i (take r bytes)
-      ∙ ap (λ (f : Field). fields_by f (length (take r bytes)) (fields_from w (suc i) (drop (entry_size w) (take r bytes)))) (short (lt_or_ge r head_size) n)
+      ∙ ap (λ (f : Result Entry Fault). fields_by f (length (take r bytes)) (fields_from w (suc i) (drop (entry_size w) (take r bytes)))) (short (lt_or_ge r head_size) n)
       ∙ ap (λ (k : ℕ). record { entries = []; wrong = 0; left_over = k }) n
     where
       three : (bytes : List ℕ) → head_size ≤ r → is_entry w (take r bytes) ≡ is_entry w bytes
       three bytes k = unfold is_entry number_at in rw (get_or-take r bytes 0 0 (omega arith), get_or-take r bytes 1 0 (omega arith), get_or-take r bytes 2 0 (omega arith))
 
-      short : (r < head_size) ⊎ (head_size ≤ r) → length (take r (entry_bytes w i e ++ rest)) ≡ r → field_of w i (take r (entry_bytes w i e ++ rest)) ≡ Short
+      short : (r < head_size) ⊎ (head_size ≤ r) → length (take r (entry_bytes w i e ++ rest)) ≡ r → field_of w i (take r (entry_bytes w i e ++ rest)) ≡ Err Short
       short (inl k) n = unfold field_of in rw (n, lt-ltb r head_size k)
       short (inr k) n = unfold field_of in rw (n, le-ltb r head_size k, three (entry_bytes w i e ++ rest) k, entry_is i e rest, lt-ltb r (entry_size w) h)
 

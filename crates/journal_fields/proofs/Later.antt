@@ -1,26 +1,29 @@
 -- The number of the fields after the first, field by field.
 use mathlib.Core.Bool.{Bool, true, false, ◌&&◌, not}
-use mathlib.Core.List.{List, [], ◌∷◌}
+use mathlib.Core.List.{List, [], ◌∷◌, ◌++◌, append-nil}
 use mathlib.Core.Path.{◌≡◌, refl, sym, ap, ap₂, ◌∙◌}
-use Prim.Native.Nat.{ℕ, suc, ◌+◌, ◌-◌, ◌≤◌, ◌<◌}
+use Prim.Native.Nat.{ℕ, suc, ◌+◌, ◌≤◌, ◌<◌}
 use native.Mathlib.Numerals.{add-one}
 use native.Mathlib.Omega.{arith}
 use lib.Dec.{eqb}
-use lib.ListN.{length, take, drop, length-drop, drop_of_length-le}
-use lib.Seq.{take_all, drop-drop}
+use mathlib.Core.Logic.{◌⊎◌, inl, inr}
+use lib.ListN.{length, get_or, drop, length-append, get_or-append}
+use lib.Seq.{drop_at}
 use borrow.Author.Tests.{ne_eqb, eqb-true}
-use Rattle.rule.proofs.Booleans.{and_false}
+use Rattle.rule.proofs.Booleans.{and_false, lt_or_ge}
+use Rattle.std.proofs.Common.{Result, Ok, Err, min}
 use Rattle.rule.specs.declared.Entry.{Entry}
 use Rattle.rule.specs.declared.Entry.TheVariants.{Clash, Rank}
 use Rattle.planner.specs.Questions.{◌else◌, first_no}
 use Rattle.planner.proofs.Numbers.{none}
-use Rattle.journal_fields.specs.declared.field.Field.{Field}
-use Rattle.journal_fields.specs.declared.field.Field.TheVariants.{Whole, Wrong, Misnumbered, Short}
+use Rattle.journal_fields.specs.declared.field.Fault.{Fault}
+use Rattle.journal_fields.specs.declared.field.Fault.TheVariants.{Wrong, Misnumbered, Short}
 use Rattle.journal_fields.specs.Fields.{entry_size, numbered, field_of, Fields, fields_by, fields_from, fields, is_rank, ranks_from, ranks_first}
 use Rattle.journal_fields.specs.Numbers.{first_of, refusal, later_number}
 use Rattle.journal_fields.proofs.Reading.{fields_step}
 use Rattle.journal_fields.proofs.Forms.{whole_long}
 use Rattle.journal_fields.proofs.Entries.{whole, none_from}
+use Rattle.journal_fields.proofs.Bytes.{no_bytes, field_same}
 use Rattle.journal_fields.proofs.Numbers.{first_zero}
 
 -- the number of fields, `begun` if an edit has come before them
@@ -67,60 +70,69 @@ ranks_late (Rank b r) es h = refl
 
 -- fields, by the one at the front
 module _ (size : ℕ) (rest : Fields) where
-  next_by : (begun : Bool) (e : Entry) → (begun && is_rank e) ≡ false → number_from begun (fields_by (Whole e) size rest) ≡ number_from (not (is_rank e)) rest
+  next_by : (begun : Bool) (e : Entry) → (begun && is_rank e) ≡ false → number_from begun (fields_by (Ok e) size rest) ≡ number_from (not (is_rank e)) rest
   unfolding fields_by
   next_by begun e h =
       ap (λ (b : Bool). first_of (first_no ((b else 18) ∷ []) ∷ rest.wrong ∷ first_no ((eqb rest.left_over 0 else 14) ∷ []) ∷ [])) (ranks_next begun e rest.entries h)
 
-  late_by : (begun : Bool) (e : Entry) → begun ≡ true → is_rank e ≡ true → 18 ≡ number_from begun (fields_by (Whole e) size rest)
+  late_by : (begun : Bool) (e : Entry) → begun ≡ true → is_rank e ≡ true → 18 ≡ number_from begun (fields_by (Ok e) size rest)
   unfolding first_of first_no fields_by
   late_by begun e b h = rw (b, ranks_late e rest.entries h)
 
-  other_by : (begun : Bool) (f : Field) → 0 < size → ((e : Entry) → f ≡ Whole e → ⊥) → refusal f ≡ number_from begun (fields_by f size rest)
+  fault_by : (begun : Bool) (x : Fault) → 0 < size → refusal x ≡ number_from begun (fields_by (Err x) size rest)
   unfolding first_of first_no refusal fields_by ranks_from
-  other_by begun (Whole e) h k = absurd (k e refl)
-  other_by begun Wrong h k = refl
-  other_by begun Misnumbered h k = refl
-  other_by begun Short h k = rw (ne_eqb size 0 (λ z. omega arith))
+  fault_by begun Wrong h = refl
+  fault_by begun Misnumbered h = refl
+  fault_by begun Short h = rw (ne_eqb size 0 (λ z. omega arith))
 
 module _ (w : Bool) (i : ℕ) where
   -- no bytes
-  none_end : (begun : Bool) → 0 ≡ number_from begun (fields_from w i [])
+  pub later_end : (bytes : List ℕ) (begun : Bool) → length bytes ≡ 0 → 0 ≡ number_from begun (fields_from w i bytes)
   unfolding first_of first_no ranks_from
-  none_end begun = rw (none_from w i)
+  later_end bytes begun h = rw (no_bytes bytes h, none_from w i)
 
-  pub later_end : (bytes : List ℕ) (at : ℕ) (begun : Bool) → length bytes ≤ at → 0 ≡ number_from begun (fields_from w i (drop at bytes))
-  later_end bytes at begun h = rw (drop_of_length-le bytes h) (none_end begun)
+  -- bytes cut after an entry's field, or whole where they are fewer: the part in front reads as the field
+  module _ (bytes front more : List ℕ) (parts : bytes ≡ front ++ more) (most : length front ≡ min (entry_size w) (length bytes)) where
+    front_reads : field_of w i front ≡ field_of w i bytes
+    front_reads = by (lt_or_ge (length bytes) (entry_size w))
+      where
+        by : (length bytes < entry_size w) ⊎ (entry_size w ≤ length bytes) → field_of w i front ≡ field_of w i bytes
+        by (inl h) =
+            let z : length more ≡ 0 = omega (arith, ap length parts, length-append front more) in
+            ap (field_of w i) (sym (append-nil front) ∙ ap (λ (l : List ℕ). front ++ l) (sym (no_bytes more z)) ∙ sym parts)
+        by (inr h) =
+            field_same w i front bytes (omega arith) h
+            (λ k l. sym (ap (λ (b : List ℕ). get_or b k 0) parts ∙ get_or-append front more 0 k (omega arith)))
 
-  -- the bytes from `at` on, as a part of all
-  module _ (bytes : List ℕ) (at : ℕ) (below : at < length bytes) (f : Field) (read : f ≡ field_of w i (take (length bytes - at) (drop at bytes))) where
-    here : f ≡ field_of w i (drop at bytes)
-    here = read ∙ ap (field_of w i) (take_all (length bytes - at) (drop at bytes) (omega (arith, length-drop at bytes)))
+    module _ (some : 0 < length bytes) (f : Result Entry Fault) (read : f ≡ field_of w i front) where
+      step : fields_by f (length bytes) (fields_from w (suc i) (drop (entry_size w) bytes)) ≡ fields_from w i bytes
+      step =
+          ap (λ (x : Result Entry Fault). fields_by x (length bytes) (fields_from w (suc i) (drop (entry_size w) bytes))) (read ∙ front_reads)
+          ∙ sym (fields_step w i bytes)
 
-    abbrev rest : Fields
-    rest = fields_from w (suc i) (drop (entry_size w) (drop at bytes))
+      pub later_fault : (begun : Bool) (x : Fault) → f ≡ Err x → refusal x ≡ number_from begun (fields_from w i bytes)
+      later_fault begun x q =
+          fault_by (length bytes) (fields_from w (suc i) (drop (entry_size w) bytes)) begun x some
+          ∙ ap (λ (y : Result Entry Fault). number_from begun (fields_by y (length bytes) (fields_from w (suc i) (drop (entry_size w) bytes)))) (sym q)
+          ∙ ap (number_from begun) step
 
-    step : fields_by f (length (drop at bytes)) rest ≡ fields_from w i (drop at bytes)
-    step = ap (λ (x : Field). fields_by x (length (drop at bytes)) rest) here ∙ sym (fields_step w i (drop at bytes))
+      module _ (e : Entry) (q : f ≡ Ok e) (begun rank : Bool) (r : rank ≡ is_rank e) where
+        rest_is : drop (entry_size w) bytes ≡ more
+        rest_is =
+            let l = whole_long w i bytes e (sym q ∙ read ∙ front_reads) in
+            ap (drop (entry_size w)) parts ∙ drop_at front more (entry_size w) (omega arith)
 
-    pub later_other : (begun : Bool) → ((e : Entry) → f ≡ Whole e → ⊥) → refusal f ≡ number_from begun (fields_from w i (drop at bytes))
-    later_other begun k = other_by _ _ begun f (omega (arith, length-drop at bytes)) k ∙ ap (number_from begun) step
+        whole_step : number_from begun (fields_by (Ok e) (length bytes) (fields_from w (suc i) (drop (entry_size w) bytes))) ≡ number_from begun (fields_from w i bytes)
+        whole_step =
+            ap (λ (y : Result Entry Fault). number_from begun (fields_by y (length bytes) (fields_from w (suc i) (drop (entry_size w) bytes)))) (sym q)
+            ∙ ap (number_from begun) step
 
-    module _ (e : Entry) (q : f ≡ Whole e) where
-      pub later_long : at + entry_size w ≤ length bytes
-      later_long = omega (arith, whole_long w i (drop at bytes) e (sym q ∙ here), length-drop at bytes)
+        pub later_late : begun ≡ true → rank ≡ true → 18 ≡ number_from begun (fields_from w i bytes)
+        later_late b h = late_by _ _ begun e b (sym r ∙ h) ∙ whole_step
 
-      step_whole : fields_by (Whole e) (length (drop at bytes)) rest ≡ fields_from w i (drop at bytes)
-      step_whole = ap (λ (x : Field). fields_by x (length (drop at bytes)) rest) (sym q) ∙ step
-
-      module _ (begun rank : Bool) (r : rank ≡ is_rank e) where
-        pub later_late : begun ≡ true → rank ≡ true → 18 ≡ number_from begun (fields_from w i (drop at bytes))
-        later_late b h = late_by _ _ begun e b (sym r ∙ h) ∙ ap (number_from begun) step_whole
-
-        pub later_next : (begun && rank) ≡ false → (size : ℕ) → size ≡ entry_size w
-            → number_from begun (fields_from w i (drop at bytes)) ≡ number_from (not rank) (fields_from w (i + 1) (drop (at + size) bytes))
-        later_next h size z =
-            ap (number_from begun) (sym step_whole)
+        pub later_next : (begun && rank) ≡ false → number_from begun (fields_from w i bytes) ≡ number_from (not rank) (fields_from w (i + 1) more)
+        later_next h =
+            sym whole_step
             ∙ next_by _ _ begun e (ap (λ (b : Bool). begun && b) (sym r) ∙ h)
-            ∙ ap₂ (λ (b : Bool) (l : List ℕ). number_from (not b) (fields_from w (suc i) l)) (sym r) (drop-drop (entry_size w) at bytes)
-            ∙ ap₂ (λ (k n : ℕ). number_from (not rank) (fields_from w k (drop (at + n) bytes))) (sym (add-one i)) (sym z)
+            ∙ ap₂ (λ (b : Bool) (l : List ℕ). number_from (not b) (fields_from w (suc i) l)) (sym r) rest_is
+            ∙ ap (λ (k : ℕ). number_from (not rank) (fields_from w k more)) (sym (add-one i))

@@ -1,15 +1,14 @@
 -- The numbers of the questions about a journal, answer by answer.
-use mathlib.Core.Bool.{true, false, ◌&&◌}
+use mathlib.Core.Bool.{true, ◌&&◌}
 use mathlib.Core.List.{List, [], ◌∷◌}
-use mathlib.Core.Path.{◌≡◌, refl, sym, ap, ◌∙◌}
-use Prim.Native.Nat.{ℕ, zero, suc, ◌-◌, ◌≤◌, ◌<◌}
+use mathlib.Core.Path.{◌≡◌, refl}
+use Prim.Native.Nat.{ℕ, zero, suc, ◌≤◌}
 use native.Mathlib.Omega.{arith}
 use lib.Dec.{leb}
 use lib.ListN.{length, take}
 use lib.Seq.{length-take-le}
-use borrow.Author.Tests.{le-leb, lt-leb, leb-true}
+use borrow.Author.Tests.{leb-true}
 use Rattle.rule.proofs.Booleans.{both_true}
-use Rattle.planner.specs.Questions.{first_no}
 use Rattle.planner.proofs.Numbers.{none}
 use Rattle.journal_fields.specs.Fields.{first_size, has_first}
 use Rattle.journal_fields.specs.Numbers.{first_of, space_number, head_number}
@@ -38,43 +37,11 @@ first_zero (suc c) cs z = absurd (omega arith)
 
 module _ (size : ℕ) (journal : List ℕ) where
   -- space for `size` bytes
-  pub space_slice : length journal < size → 15 ≡ space_number size journal
-  unfolding space_number first_no
-  space_slice h = rw (lt-leb size (length journal) h)
-
-  pub space_most : size ≤ length journal → 60000 < size → 15 ≡ space_number size journal
-  unfolding space_number first_no
-  space_most h k = rw (le-leb size (length journal) h, lt-leb size 60000 k)
-
-  pub space_yes : size ≤ length journal → size ≤ 60000 → 0 ≡ space_number size journal
-  unfolding space_number first_no
-  space_yes h k = rw (le-leb size (length journal) h, le-leb size 60000 k)
-
   pub space_room : space_number size journal ≡ 0 → (size ≤ length journal) × (size ≤ 60000)
   unfolding space_number
   space_room z =
       let p = both_true (leb size (length journal)) (leb size 60000) (none (leb size (length journal) && leb size 60000) 14 [] z).0 in
       (leb-true size (length journal) p.0, leb-true size 60000 p.1)
-
-  -- the first bytes
-  whole : has_first (take (size - 0) journal) ≡ has_first (take size journal)
-  whole = let e : size - 0 ≡ size = omega arith in ap (λ (n : ℕ). has_first (take n journal)) e
-
-  pub head_long : 60000 < size → 9 ≡ head_number size journal
-  unfolding head_number first_no
-  head_long h = rw (lt-leb size 60000 h)
-
-  pub head_beyond : size ≤ 60000 → length journal < size → 13 ≡ head_number size journal
-  unfolding head_number first_no
-  head_beyond h k = rw (le-leb size 60000 h, lt-leb size (length journal) k)
-
-  pub head_first : size ≤ 60000 → size ≤ length journal → has_first (take (size - 0) journal) ≡ false → 13 ≡ head_number size journal
-  unfolding head_number first_no
-  head_first h k e = rw (le-leb size 60000 h, le-leb size (length journal) k, sym whole ∙ e)
-
-  pub head_yes : size ≤ 60000 → size ≤ length journal → has_first (take (size - 0) journal) ≡ true → 0 ≡ head_number size journal
-  unfolding head_number first_no
-  head_yes h k e = rw (le-leb size 60000 h, le-leb size (length journal) k, sym whole ∙ e)
 
   -- where no question about them is answered by no
   module _ (z : head_number size journal ≡ 0) where

@@ -1,10 +1,11 @@
 -- An entry's field, as it is written: tag and length, edit number, and the two numbers.
 use mathlib.Core.Bool.{Bool, true, false}
 use mathlib.Core.List.{List, [], ◌∷◌, ◌++◌}
-use mathlib.Core.Path.{◌≡◌, refl, sym, ap, ◌∙◌, subst}
-use Prim.Native.Nat.{ℕ, ◌+◌, ◌≤◌}
+use mathlib.Core.Path.{◌≡◌, refl, sym, ap, ap₂, ◌∙◌, subst}
+use Prim.Native.Nat.{ℕ, ◌+◌, ◌%◌, ◌≤◌, ◌<◌}
 use native.Mathlib.Omega.{arith}
-use lib.ListN.{length}
+use lib.ListN.{length, get_or}
+use Rattle.std.specs.Int.{w16, to_le_bytes}
 use Rattle.text.specs.Places.{Puts}
 use Rattle.text.proofs.Putting.{puts_three}
 use Rattle.journal_fields.specs.Fields.{number_size, value_size, entry_size, two_bytes, field_bytes, number_bytes}
@@ -15,6 +16,15 @@ value_low : (w : Bool) → two_bytes (value_size w) ≡ value_size w ∷ 0 ∷ [
 unfolding two_bytes
 value_low true = refl
 value_low false = refl
+
+-- two numbers as four bytes, each as `to_le_bytes` gives them
+bytes_of : (x : ℕ) (b : List ℕ) → x < 65536 → b ≡ to_le_bytes w16 x → get_or b 0 0 ∷ get_or b 1 0 ∷ [] ≡ two_bytes x
+unfolding two_bytes
+bytes_of x b h e = rw e (ap (λ (k : ℕ). x % 256 ∷ k ∷ []) (omega arith))
+
+pub pair_of : (x y : ℕ) (a b : List ℕ) → x < 65536 → y < 65536 → a ≡ to_le_bytes w16 x → b ≡ to_le_bytes w16 y
+    → get_or a 0 0 ∷ get_or a 1 0 ∷ get_or b 0 0 ∷ get_or b 1 0 ∷ [] ≡ two_bytes x ++ two_bytes y
+pair_of x y a b h k d e = ap₂ ◌++◌ (bytes_of x a h d) (bytes_of y b k e)
 
 module _ (w : Bool) (tag i x y at : ℕ) (out : List ℕ) (room : at + entry_size w ≤ length out) (v : ℕ) (size : v ≡ value_size w) where
   abbrev pair : List ℕ
@@ -36,8 +46,8 @@ module _ (w : Bool) (tag i x y at : ℕ) (out : List ℕ) (room : at + entry_siz
       pub pair_room : r₂ + 4 ≤ length out₂
       pair_room = omega (arith, head.next, number.next, length_number w i, l₁, l₂, room)
 
-      pub field_put : (r₃ : ℕ) (out₃ : List ℕ) → Puts pair r₂ out₂ r₃ out₃ → Puts (field_bytes tag (number_bytes w i ++ pair)) at out r₃ out₃
+      pub field_put : (r₃ : ℕ) (out₃ four : List ℕ) → four ≡ pair → Puts four r₂ out₂ r₃ out₃ → Puts (field_bytes tag (number_bytes w i ++ pair)) at out r₃ out₃
       unfolding two_bytes
-      field_put r₃ out₃ p =
+      field_put r₃ out₃ four is p =
           subst (λ (l : List ℕ). Puts l at out r₃ out₃) text
-          (puts_three (tag ∷ v ∷ 0 ∷ []) (number_bytes w i) pair at out (omega (arith, length_number w i, room)) r₁ r₂ r₃ out₁ out₂ out₃ l₁ head number p)
+          (puts_three (tag ∷ v ∷ 0 ∷ []) (number_bytes w i) pair at out (omega (arith, length_number w i, room)) r₁ r₂ r₃ out₁ out₂ out₃ l₁ head number (rw is at p))

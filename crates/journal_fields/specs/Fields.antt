@@ -1,13 +1,13 @@
 -- The fields of a journal (02, N2, N6 and N10): a one-byte tag, a two-byte length and the value, low byte first.
-use Rattle.std.specs.Prelude.{Bool, true, false, cond, ◌&&◌, ◌||◌, not, List, [], ◌∷◌, ◌++◌}
+use Rattle.std.specs.Prelude.{Bool, true, false, cond, ◌&&◌, ◌||◌, not, List, [], ◌∷◌, ◌++◌, Result, Ok, Err}
 use Rattle.std.specs.Prelude.{ℕ, zero, suc, ◌+◌, ◌*◌, ◌/◌, ◌%◌, ltb, leb, eqb, length, get_or, drop}
 use Rattle.rule.specs.Numbers.{bank}
 use Rattle.rule.specs.declared.Kind.{Kind}
 use Rattle.rule.specs.declared.Kind.TheVariants.{Adding, Striking}
 use Rattle.rule.specs.declared.Entry.{Entry}
 use Rattle.rule.specs.declared.Entry.TheVariants.{Clash, Rank}
-use Rattle.journal_fields.specs.declared.field.Field.{Field}
-use Rattle.journal_fields.specs.declared.field.Field.TheVariants.{Whole, Wrong, Misnumbered, Short}
+use Rattle.journal_fields.specs.declared.field.Fault.{Fault}
+use Rattle.journal_fields.specs.declared.field.Fault.TheVariants.{Wrong, Misnumbered, Short}
 
 -- how many bytes: a tag and a length, and the first field
 abbrev pub head_size : ℕ
@@ -138,14 +138,15 @@ number_in false i bytes = i
 number_in true i bytes = four_at head_size bytes
 
 -- a whole field, by its entry: a rank above 9,999 is wrong, then comes whether its number is the next
-unfoldable pub whole_of : Bool → Entry → Field
-whole_of next e = cond (rank_fits e) (cond next (Whole e) Misnumbered) Wrong
+unfoldable pub whole_of : Bool → Entry → Result Entry Fault
+whole_of next e = cond (rank_fits e) (cond next (Ok e) (Err Misnumbered)) (Err Wrong)
 
 -- what stands at the front, where entry i is due: less than a tag and a length, or a right tag and length with a short value, is left over
-unfoldable pub field_of : Bool → ℕ → List ℕ → Field
+unfoldable pub field_of : Bool → ℕ → List ℕ → Result Entry Fault
 field_of numbered i bytes =
     let whole = whole_of (eqb (number_in numbered i bytes) i) (entry_in numbered bytes) in
-    cond (ltb (length bytes) head_size) Short (cond (is_entry numbered bytes) (cond (ltb (length bytes) (entry_size numbered)) Short whole) Wrong)
+    let short = ltb (length bytes) (entry_size numbered) in
+    cond (ltb (length bytes) head_size) (Err Short) (cond (is_entry numbered bytes) (cond short (Err Short) whole) (Err Wrong))
 
 -- what the bytes after the first field read as: the entries, then the number of a field that ends them, 14 or 21, or so many bytes left over
 pub record Fields : Type 0 where
@@ -154,15 +155,15 @@ pub record Fields : Type 0 where
   pub left_over : ℕ
 
 -- by what stands at the front of this many bytes
-unfoldable pub fields_by : Field → ℕ → Fields → Fields
-fields_by (Whole e) size rest = record { entries = e ∷ rest.entries; wrong = rest.wrong; left_over = rest.left_over }
-fields_by Wrong size rest = record { entries = []; wrong = 14; left_over = 0 }
-fields_by Misnumbered size rest = record { entries = []; wrong = 21; left_over = 0 }
-fields_by Short size rest = record { entries = []; wrong = 0; left_over = size }
+unfoldable pub fields_by : Result Entry Fault → ℕ → Fields → Fields
+fields_by (Ok e) size rest = record { entries = e ∷ rest.entries; wrong = rest.wrong; left_over = rest.left_over }
+fields_by (Err Wrong) size rest = record { entries = []; wrong = 14; left_over = 0 }
+fields_by (Err Misnumbered) size rest = record { entries = []; wrong = 21; left_over = 0 }
+fields_by (Err Short) size rest = record { entries = []; wrong = 0; left_over = size }
 
 -- the fields from entry i on, if they are no more than `depth`
 unfoldable pub fields_in : ℕ → Bool → ℕ → List ℕ → Fields
-fields_in zero numbered i bytes = fields_by Short (length bytes) (record { entries = []; wrong = 0; left_over = 0 })
+fields_in zero numbered i bytes = fields_by (Err Short) (length bytes) (record { entries = []; wrong = 0; left_over = 0 })
 fields_in (suc depth) numbered i bytes =
     fields_by (field_of numbered i bytes) (length bytes) (fields_in depth numbered (suc i) (drop (entry_size numbered) bytes))
 

@@ -1,8 +1,8 @@
 -- The numbers of the questions about a journal's bytes (02, N2, N6 and N10).
 use Rattle.std.specs.Prelude.{◌&&◌, List, [], ◌∷◌, ℕ, zero, suc, leb, eqb, length, take, drop}
 use Rattle.planner.specs.Questions.{◌else◌, first_no}
-use Rattle.journal_fields.specs.declared.field.Field.{Field}
-use Rattle.journal_fields.specs.declared.field.Field.TheVariants.{Whole, Wrong, Misnumbered, Short}
+use Rattle.journal_fields.specs.declared.field.Fault.{Fault}
+use Rattle.journal_fields.specs.declared.field.Fault.TheVariants.{Wrong, Misnumbered, Short}
 use Rattle.journal_fields.specs.Fields.{first_size, has_first, Fields, fields, ranks_first}
 
 -- the first number that is not 0
@@ -21,8 +21,7 @@ head_number size journal =
     first_no ((leb size 60000 else 9) ∷ (leb size (length journal) && has_first (take size journal) else 13) ∷ [])
 
 -- the number of a field that is no entry, as recording gives it
-unfoldable pub refusal : Field → ℕ
-refusal (Whole e) = 0
+unfoldable pub refusal : Fault → ℕ
 refusal Wrong = 14
 refusal Misnumbered = 21
 refusal Short = 14

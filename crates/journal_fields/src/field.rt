@@ -7,10 +7,9 @@ ghost use Rattle.journal_fields.specs.Fields.{two_bytes, field_bytes, first_byte
 use rule::{Entry, Kind};
 use text::put_text;
 
-// What stands at the front of the bytes after the first field.
-#[derive(Clone, Copy)]
-pub enum Field {
-    Whole(Entry),
+// Why no entry stands at the front of the bytes after the first field.
+#[derive(Clone, Copy, PartialEq, Eq)]
+pub enum Fault {
     Wrong,
     Misnumbered,
     Short,
@@ -41,37 +40,27 @@ const PLAIN_BYTES: usize = 7;
 
 pub const NUMBERED_BYTES: usize = 11;
 
-// A byte, widened.
-pub fn wide_byte(x: u8) -> u16
-    ensures { (result ≡ x) × (result < 256) }
-{
-    x as u16
-}
-
 // The number at places i and i + 1, low byte first.
+#[tactic(auto, unfolding(crate::specs::Fields::number_at))]
 pub fn number_at(bytes: &[u8], i: usize) -> u16
     requires { i + 1 < length bytes.now }
     ensures { result ≡ number_at i bytes.now }
 {
-    let low = wide_byte(bytes[i]);
-    let high = wide_byte(bytes[i + 1]);
-    low + 256 * high
+    u16::from_le_bytes([bytes[i], bytes[i + 1]])
 }
 
 // Whether the first field is whole, with its tag and length right.
+#[tactic(auto, unfolding(crate::specs::Fields::has_first))]
 pub fn has_first(bytes: &[u8]) -> bool
     ensures { result ≡ has_first bytes.now }
 {
-    if bytes.len() < FIRST_BYTES {
-        return false;
-    }
-    if bytes[0] != FIRST_TAG {
-        return false;
-    }
-    number_at(bytes, 1) == wide_byte(FIRST_VALUE)
+    bytes.len() >= FIRST_BYTES
+        && bytes[0] == FIRST_TAG
+        && number_at(bytes, 1) == u16::from(FIRST_VALUE)
 }
 
 // The tag of an edit of this kind.
+#[tactic(auto, unfolding(crate::specs::Fields::kind_tag))]
 fn kind_tag(kind: Kind) -> u8
     ensures { result ≡ kind_tag kind }
 {
@@ -86,9 +75,10 @@ pub fn value_bytes(numbered: bool) -> u8
     ensures { result ≡ value_size numbered }
 {
     if numbered {
-        return NUMBERED_VALUE;
+        NUMBERED_VALUE
+    } else {
+        PLAIN_VALUE
     }
-    PLAIN_VALUE
 }
 
 // The bytes of an entry's field.
@@ -96,31 +86,32 @@ pub fn entry_bytes(numbered: bool) -> usize
     ensures { result ≡ entry_size numbered }
 {
     if numbered {
-        return NUMBERED_BYTES;
+        NUMBERED_BYTES
+    } else {
+        PLAIN_BYTES
     }
-    PLAIN_BYTES
 }
 
 // Whether the entries of these bytes, those after the first field, are numbered: the length of the first tells.
+#[tactic(auto, unfolding(crate::specs::Fields::numbered))]
 pub fn is_numbered(bytes: &[u8]) -> bool
     ensures { result ≡ isNumbered bytes.now }
 {
-    if HEAD_BYTES <= bytes.len() {
-        return number_at(bytes, 1) != wide_byte(PLAIN_VALUE);
-    }
-    true
+    bytes.len() < HEAD_BYTES || number_at(bytes, 1) != u16::from(PLAIN_VALUE)
 }
 
 // Writes the first field of n banks to the front, and answers the place after it.
+#[tactic(auto, unfolding(crate::specs::Fields::first_bytes, crate::specs::Fields::field_bytes, crate::specs::Fields::two_bytes))]
 pub fn put_first(journal: &mut [u8], n: u16) -> usize
     requires { first_size ≤ length journal.old }
     ensures { Puts (first_bytes n) 0 journal.old result journal.new }
 {
-    let bytes = [FIRST_TAG, FIRST_VALUE, 0, (n % 256) as u8, (n / 256) as u8];
-    put_text(journal, 0, &bytes)
+    let [low, high] = n.to_le_bytes();
+    put_text(journal, 0, &[FIRST_TAG, FIRST_VALUE, 0, low, high])
 }
 
 // Writes an edit number at `at`, where fields have one, and answers the place after it.
+#[tactic(auto, unfolding(crate::specs::Fields::number_bytes, crate::specs::Fields::four_bytes, crate::specs::Fields::two_bytes))]
 fn put_number(journal: &mut [u8], at: usize, numbered: bool, number: usize) -> usize
     requires { (at + number_size numbered ≤ length journal.old) × (number < 4294967296) }
     ensures { Puts (number_bytes numbered number) at journal.old result journal.new }
@@ -128,15 +119,7 @@ fn put_number(journal: &mut [u8], at: usize, numbered: bool, number: usize) -> u
     if !numbered {
         return at;
     }
-    let low = number % 65536;
-    let high = number / 65536;
-    let bytes = [
-        (low % 256) as u8,
-        (low / 256) as u8,
-        (high % 256) as u8,
-        (high / 256) as u8,
-    ];
-    put_text(journal, at, &bytes)
+    put_text(journal, at, &(number as u32).to_le_bytes())
 }
 
 // Writes the field of entry `number`, of this tag and two numbers, at `at`, and answers the place after it.
@@ -155,16 +138,13 @@ fn put_numbers(
     let head = [tag, value_bytes(numbered), 0];
     let after_head = put_text(journal, at, &head);
     let after_number = put_number(journal, after_head, numbered, number);
-    let pair = [
-        (x % 256) as u8,
-        (x / 256) as u8,
-        (y % 256) as u8,
-        (y / 256) as u8,
-    ];
-    put_text(journal, after_number, &pair)
+    let [x_low, x_high] = x.to_le_bytes();
+    let [y_low, y_high] = y.to_le_bytes();
+    put_text(journal, after_number, &[x_low, x_high, y_low, y_high])
 }
 
 // Writes the field of entry `number` at `at`, and answers the place after it.
+#[tactic(auto, unfolding(crate::specs::Fields::entry_bytes, crate::specs::Fields::tag_of, crate::specs::Fields::first_in, crate::specs::Fields::second_in))]
 pub fn put_entry(
     journal: &mut [u8],
     at: usize,

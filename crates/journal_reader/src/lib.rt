@@ -1,4 +1,4 @@
-// A journal's fields, read: what stands at the front, and the number of the first that gets a no.
+// A journal's fields, read: what stands at the front, and the refusal of the first that gets a no.
 #![tactic(auto)]
 
 mod read;

@@ -9,7 +9,10 @@ use lib.ListN.{length, drop}
 use lib.Seq.{take_all}
 use borrow.Author.Tests.{le-leb}
 use Rattle.rule.specs.Graph.{Graph}
-use Rattle.planner.specs.declared.Opened.{Opened}
+use Rattle.std.specs.Prelude.{Result}
+use Rattle.rule.specs.Refusals.{number_in}
+use Rattle.rule.specs.declared.refusal.Refusal.{Refusal}
+use Rattle.memory.specs.declared.Tally.{Tally}
 use Rattle.planner.specs.Questions.{first_no}
 use Rattle.memory.specs.Memory.{Memory, Ready}
 use Rattle.planner.specs.States.{begin, begin_number}
@@ -62,14 +65,14 @@ module _ (bytes : List ℕ) where
     by_none zero z = refl
     by_none (suc c) z = absurd (omega arith)
 
-    module _ (head : head_number (length bytes) bytes ≡ 0) (n : ℕ) (e : n ≡ banks_in bytes) (r : Opened) (m' : Memory) (o : OpensAll n m r m') where
-      number_opened : r.number ≡ replay_number bytes m
+    module _ (head : head_number (length bytes) bytes ≡ 0) (n : ℕ) (e : n ≡ banks_in bytes) (r : Result Tally Refusal) (m' : Memory) (o : OpensAll n m r m') where
+      number_opened : number_in r ≡ replay_number bytes m
       number_opened = o.number ∙ ap (λ (k : ℕ). begin_number k m) e ∙ rest_number head
 
-      pub open_refused : (r.number ≡ 0 → ⊥) → replay_result (refused_first r.number) m' ≡ replayed bytes m
-      open_refused z = ap (replay_result (refused_first r.number)) (o.refused z) ∙ refused_by r.number z number_opened
+      pub open_refused : (number_in r ≡ 0 → ⊥) → replay_result (refused_first (number_in r)) m' ≡ replayed bytes m
+      open_refused z = ap (replay_result (refused_first (number_in r))) (o.refused z) ∙ refused_by (number_in r) z number_opened
 
-      pub open_replayed : r.number ≡ 0 → (x : ReplayResult) → ((G : Graph) → Ready G m' → Fresh false G → x ≡ enter_fields 2 (fields (drop first_size bytes)) (at false G m'))
+      pub open_replayed : number_in r ≡ 0 → (x : ReplayResult) → ((G : Graph) → Ready G m' → Fresh false G → x ≡ enter_fields 2 (fields (drop first_size bytes)) (at false G m'))
           → x ≡ replayed bytes m
       unfolding replayed begin
       open_replayed z x f =

@@ -16,8 +16,9 @@ use Rattle.planner.specs.States.{State, make, set_rank, begun_by, entry_number, 
 use Rattle.planner.specs.inner.Held.{at, Fresh, HoldsState, tried, Stands, RankFits, EntryDone, Enters}
 use Rattle.planner.proofs.Made.{ready_banks}
 use Rattle.planner.proofs.Outcomes.{edited_banks}
-use Rattle.journal_fields.specs.declared.field.Field.{Field}
-use Rattle.journal_fields.specs.declared.field.Field.TheVariants.{Whole, Wrong, Misnumbered, Short}
+use Rattle.journal_fields.specs.declared.field.Fault.{Fault}
+use Rattle.journal_fields.specs.declared.field.Fault.TheVariants.{Wrong, Misnumbered, Short}
+use Rattle.std.proofs.Common.{Result, Ok, Err}
 use Rattle.journal_replay.specs.declared.rerun.Replayed.{Replayed}
 use Rattle.journal_replay.specs.declared.rerun.Entered.{Entered}
 use Rattle.journal_fields.specs.Fields.{entry_size, numbered, rank_fits, Fields, field_of, fields_by, fields_from, fields}
@@ -35,8 +36,8 @@ enter_begun (Clash k a b) s = refl
 enter_begun (Rank b r) s = refl
 
 -- a rank that is read fits
-pub read_fits : (w : Bool) (i : ℕ) (journal : List ℕ) (start : ℕ) (f : Field) → f ≡ field_of w i (take (length journal - start) (drop start journal))
-    → (e : Entry) → f ≡ Whole e → RankFits e
+pub read_fits : (w : Bool) (i : ℕ) (journal : List ℕ) (start : ℕ) (f : Result Entry Fault) → f ≡ field_of w i (take (length journal - start) (drop start journal))
+    → (e : Entry) → f ≡ Ok e → RankFits e
 read_fits w i journal start f read e q = by e (whole_field w i _ e (sym read ∙ q)).fits
   where
     by : (e : Entry) → rank_fits e ≡ true → RankFits e
@@ -44,20 +45,19 @@ read_fits w i journal start f read e q = by e (whole_field w i _ e (sym read ∙
     by (Rank b r) h = leb-true r 9999 (unfold rank_fits in h)
 
 -- a field that is no entry
-field_other : (f : Field) (s : State) (m : Memory) (begun : Bool) → Stands s m → ((e : Entry) → f ≡ Whole e → ⊥) → FieldDone f s (refusal f) begun m
+field_fault : (x : Fault) (s : State) (m : Memory) (begun : Bool) → Stands s m → FieldDone (Err x) s (refusal x) begun m
 unfolding field_number field_step refusal tried
-field_other (Whole e) s m begun h k = absurd (k e refl)
-field_other Wrong s m begun h k = record { is = refl; stands = h; begun_is = λ z. absurd (omega arith) }
-field_other Misnumbered s m begun h k = record { is = refl; stands = h; begun_is = λ z. absurd (omega arith) }
-field_other Short s m begun h k = record { is = refl; stands = h; begun_is = λ z. absurd (omega arith) }
+field_fault Wrong s m begun h = record { is = refl; stands = h; begun_is = λ z. absurd (omega arith) }
+field_fault Misnumbered s m begun h = record { is = refl; stands = h; begun_is = λ z. absurd (omega arith) }
+field_fault Short s m begun h = record { is = refl; stands = h; begun_is = λ z. absurd (omega arith) }
 
 -- a field that is one: its entry is entered
-field_entry : (e : Entry) (s : State) (number : ℕ) (m' : Memory) → EntryDone e s number m' → FieldDone (Whole e) s number (begun_by e s.begun) m'
+field_entry : (e : Entry) (s : State) (number : ℕ) (m' : Memory) → EntryDone e s number m' → FieldDone (Ok e) s number (begun_by e s.begun) m'
 unfolding field_number field_step
 field_entry e s number m' d = record { is = d.is; stands = d.stands; begun_is = λ z. enter_begun e s }
 
 -- the field from `start` on, as a part of the journal: field i is entry n
-module _ (journal : List ℕ) (w : Bool) (start i n : ℕ) (entry : n ≡ i - 1) (f : Field) (read : f ≡ field_of w n (take (length journal - start) (drop start journal)))
+module _ (journal : List ℕ) (w : Bool) (start i n : ℕ) (entry : n ≡ i - 1) (f : Result Entry Fault) (read : f ≡ field_of w n (take (length journal - start) (drop start journal)))
     (begun : Bool) (m : Memory) (r : Entered) (field : r.field ≡ i) (next : r.next ≡ start + entry_size w) where
   here : f ≡ field_of w (i - 1) (drop start journal)
   here =
@@ -65,14 +65,14 @@ module _ (journal : List ℕ) (w : Bool) (start i n : ℕ) (entry : n ≡ i - 1)
       ∙ ap (field_of w n) (take_all (length journal - start) (drop start journal) (omega (arith, length-drop start journal)))
       ∙ ap (λ (k : ℕ). field_of w k (drop start journal)) entry
 
-  pub enters_none : ((e : Entry) → f ≡ Whole e → ⊥) → r.number ≡ refusal f → EntersField journal w start i begun m r m
-  enters_none k z = record {
+  pub enters_none : (x : Fault) → f ≡ Err x → r.number ≡ refusal x → EntersField journal w start i begun m r m
+  enters_none x k z = record {
     field = field;
     next = next;
-    of = λ G h fresh. rw (z, ← here) (field_other f (at begun G m) m r.begun (record { memory = refl; ready = h; fresh = fresh }) k);
+    of = λ G h fresh. rw (z, ← here, k) (field_fault x (at begun G m) m r.begun (record { memory = refl; ready = h; fresh = fresh }));
   }
 
-  pub enters_one : (e : Entry) → f ≡ Whole e → (a : Edited) (m' : Memory) → Enters begun e m a m'
+  pub enters_one : (e : Entry) → f ≡ Ok e → (a : Edited) (m' : Memory) → Enters begun e m a m'
       → r.number ≡ a.answer.number → r.begun ≡ begun_by e begun → EntersField journal w start i begun m r m'
   enters_one e q a m' d z b = record {
     field = field;
@@ -96,14 +96,14 @@ module _ (w : Bool) where
   unfolding ended going tried
   by_wrong c i s bytes = refl
 
-  by_field : (f : Field) (i : ℕ) (s : State) (bytes rest : List ℕ) → f ≡ field_of w i bytes → entry_size w ≤ length bytes
+  by_field : (f : Result Entry Fault) (i : ℕ) (s : State) (bytes rest : List ℕ) → f ≡ field_of w i bytes → entry_size w ≤ length bytes
       → enter_fields (suc i) (fields_by f (length bytes) (fields_from w (suc i) rest)) s
       ≡ going (field_number f s) (suc i) rest (tried (field_number f s) (field_step f s) s)
   unfolding enter_fields fields_by field_number field_step enter_all
-  by_field (Whole e) i s bytes rest q l = by_number (entry_number e s) (suc i) s (enter e s) rest
-  by_field Wrong i s bytes rest q l = by_wrong 13 (suc i) s rest
-  by_field Misnumbered i s bytes rest q l = by_wrong 20 (suc i) s rest
-  by_field Short i s bytes rest q l = absurd (omega (arith, short_short w i bytes q))
+  by_field (Ok e) i s bytes rest q l = by_number (entry_number e s) (suc i) s (enter e s) rest
+  by_field (Err Wrong) i s bytes rest q l = by_wrong 13 (suc i) s rest
+  by_field (Err Misnumbered) i s bytes rest q l = by_wrong 20 (suc i) s rest
+  by_field (Err Short) i s bytes rest q l = absurd (omega (arith, short_short w i bytes q))
 
   field_step-law : (i : ℕ) (bytes : List ℕ) (s : State) → entry_size w ≤ length bytes
       → let f = field_of w i bytes in
@@ -112,13 +112,13 @@ module _ (w : Bool) where
       ap (λ (f : Fields). enter_fields (suc i) f s) (fields_step w i bytes) ∙ by_field (field_of w i bytes) i s bytes (drop (entry_size w) bytes) refl l
 
   -- fewer bytes are left
-  by_last : (f : Field) (i : ℕ) (bytes : List ℕ) (rest : Fields) (s : State) → f ≡ field_of w i bytes → length bytes < entry_size w
+  by_last : (f : Result Entry Fault) (i : ℕ) (bytes : List ℕ) (rest : Fields) (s : State) → f ≡ field_of w i bytes → length bytes < entry_size w
       → enter_fields (suc i) (fields_by f (length bytes) rest) s ≡ replay_result (last_by f (length bytes) i) s.memory
   unfolding enter_fields fields_by last_by enter_all ended
-  by_last (Whole e) i bytes rest s q l = absurd (omega (arith, whole_long w i bytes e q))
-  by_last Wrong i bytes rest s q l = let e : suc i ≡ i + 1 = omega arith in ap (λ (k : ℕ). replay_result (replay_answer 14 k 0) s.memory) e
-  by_last Misnumbered i bytes rest s q l = absurd (omega (arith, misnumbered_long w i bytes q))
-  by_last Short i bytes rest s q l = refl
+  by_last (Ok e) i bytes rest s q l = absurd (omega (arith, whole_long w i bytes e q))
+  by_last (Err Wrong) i bytes rest s q l = let e : suc i ≡ i + 1 = omega arith in ap (λ (k : ℕ). replay_result (replay_answer 14 k 0) s.memory) e
+  by_last (Err Misnumbered) i bytes rest s q l = absurd (omega (arith, misnumbered_long w i bytes q))
+  by_last (Err Short) i bytes rest s q l = refl
 
   going_end : (n i : ℕ) (bytes : List ℕ) (s : State) → (n ≡ 0 → length bytes < entry_size w) → going n i bytes s ≡ replay_result (ending w n i bytes) s.memory
   unfolding going ending
@@ -137,19 +137,19 @@ unfolding enter make set_rank
 enter_banks (Clash k a b) s = edited_banks k s.graph a.0 b.0
 enter_banks (Rank b r) s = refl
 
-step_banks : (f : Field) (s : State) → (field_step f s).graph.banks ≡ s.graph.banks
+step_banks : (f : Result Entry Fault) (s : State) → (field_step f s).graph.banks ≡ s.graph.banks
 unfolding field_step
-step_banks (Whole e) s = enter_banks e s
-step_banks Wrong s = refl
-step_banks Misnumbered s = refl
-step_banks Short s = refl
+step_banks (Ok e) s = enter_banks e s
+step_banks (Err Wrong) s = refl
+step_banks (Err Misnumbered) s = refl
+step_banks (Err Short) s = refl
 
 tried_banks : (n : ℕ) (new old : State) → new.graph.banks ≡ old.graph.banks → (tried n new old).graph.banks ≡ old.graph.banks
 unfolding tried
 tried_banks zero new old e = e
 tried_banks (suc c) new old e = refl
 
-done_banks : (f : Field) (s : State) (n : ℕ) (begun : Bool) (m' : Memory) → FieldDone f s n begun m' → m'.tally.banks ≡ s.graph.banks
+done_banks : (f : Result Entry Fault) (s : State) (n : ℕ) (begun : Bool) (m' : Memory) → FieldDone f s n begun m' → m'.tally.banks ≡ s.graph.banks
 done_banks f s n begun m' d = ready_banks _ m' d.stands.ready ∙ tried_banks (field_number f s) (field_step f s) s (step_banks f s)
 
 -- where a replay stands after a field
@@ -199,7 +199,7 @@ module _ (journal : List ℕ) (w : Bool) (first : ℕ) (G : Graph) (m : Memory) 
         let i : ℕ = r.field in
         let s : State = at r.begun x.state.graph m' in
         let b : List ℕ = drop r.next journal in
-        let f : Field = field_of w i b in
+        let f : Result Entry Fault = field_of w i b in
         let t : State = tried (field_number f s) (field_step f s) s in
         let same : i + 1 - 1 ≡ i = omega arith in
         let done : FieldDone f s r'.number r'.begun m'' = rw same at (d.of x.state.graph x.stands.ready fresh_now) in
@@ -229,31 +229,6 @@ module _ (journal : List ℕ) (w : Bool) (first : ℕ) (G : Graph) (m : Memory) 
       ∙ ap (replay_result (ending w r.number r.field (drop r.next journal))) x.stands.memory
       ∙ sym (x.ahead ∙ going_end w r.number r.field (drop r.next journal) x.state
       (λ z. let h : length journal - r.next < entry_size w = e z in omega (arith, h, length-drop r.next journal)))
-
--- the answer, by the number of the last whole field
-pub ending_some : (w : Bool) (n i : ℕ) (bytes : List ℕ) → (n ≡ 0 → ⊥) → replay_answer n i 0 ≡ ending w n i bytes
-unfolding ending
-ending_some w zero i bytes z = absurd (z refl)
-ending_some w (suc c) i bytes z = refl
-
-module _ (w : Bool) (n i : ℕ) (bytes : List ℕ) (f : Field) (z : n ≡ 0) (q : f ≡ field_of w i bytes) where
-  ending_by : last_by f (length bytes) i ≡ ending w n i bytes
-  unfolding ending
-  ending_by = rw (z, ← q)
-
-  pub ending_wrong : f ≡ Wrong → replay_answer 14 (i + 1) 0 ≡ ending w n i bytes
-  unfolding last_by
-  ending_wrong e = ap (λ (g : Field). last_by g (length bytes) i) (sym e) ∙ ending_by
-
-  last_other : (g : Field) → (g ≡ Wrong → ⊥) → replay_answer 0 0 (length bytes) ≡ last_by g (length bytes) i
-  unfolding last_by
-  last_other (Whole e) k = refl
-  last_other Wrong k = absurd (k refl)
-  last_other Misnumbered k = refl
-  last_other Short k = refl
-
-  pub ending_other : (f ≡ Wrong → ⊥) → replay_answer 0 0 (length bytes) ≡ ending w n i bytes
-  ending_other k = last_other f k ∙ ending_by
 
 -- the bytes from `at` on
 pub rest_few : (journal : List ℕ) (at : ℕ) → length journal ≤ 60000 → at ≤ length journal → length (take (length journal - at) (drop at journal)) < 65536

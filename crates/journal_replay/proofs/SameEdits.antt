@@ -22,8 +22,7 @@ use Rattle.planner.specs.inner.Held.{rank_number}
 use Rattle.planner.proofs.Numbers.{far_a, far_b}
 use Rattle.planner.proofs.Outcomes.{edited_banks}
 use Rattle.planner.proofs.Made.{begin_passed}
-use Rattle.text.specs.declared.number.Number.{Number}
-use Rattle.text.specs.declared.number.Number.TheVariants.{Value, Nothing}
+use Rattle.std.proofs.Common.{Option, Some, None}
 use Rattle.text.specs.Text.{onto, rows, parts}
 use Rattle.text.specs.Numbers.{number, decimal}
 use Rattle.text.proofs.Decimal.{reads_back, reads_not}
@@ -99,10 +98,10 @@ first_fails : (n : ℕ) → 10000 ≤ n → row_of (78 ∷ 32 ∷ decimal n) ≡
 unfolding two_parts
 first_fails n h = first_parts n ∙ rw (reads_not n h)
 
-three_none : (head : List ℕ) (x : Number) → three_parts head x Nothing ≡ Unreadable
+three_none : (head : List ℕ) (x : Option ℕ) → three_parts head x None ≡ Unreadable
 unfolding three_parts
-three_none head Nothing = refl
-three_none head (Value a) = refl
+three_none head None = refl
+three_none head (Some a) = refl
 
 -- both numbers of a row read, or one is 10,000 or more
 few? : (a b : ℕ) → ((a < 10000) × (b < 10000)) ⊎ ((10000 ≤ a) ⊎ (10000 ≤ b))
@@ -131,7 +130,7 @@ module _ (tag a b : ℕ) (other : tag ≡ 32 → ⊥) where
   unfolding row_of parts onto from_parts
   row_parts = rw (ne_eqb tag 32 other, pair_parts a b)
 
-  row_reads : (a < 10000) × (b < 10000) → row_of (tag ∷ 32 ∷ pair_text a b) ≡ three_parts (tag ∷ []) (Value a) (Value b)
+  row_reads : (a < 10000) × (b < 10000) → row_of (tag ∷ 32 ∷ pair_text a b) ≡ three_parts (tag ∷ []) (Some a) (Some b)
   row_reads h = row_parts ∙ rw (reads_back a h.0, reads_back b h.1)
 
   row_fails : (10000 ≤ a) ⊎ (10000 ≤ b) → row_of (tag ∷ 32 ∷ pair_text a b) ≡ Unreadable
@@ -147,7 +146,7 @@ one_far a b (inl h) k = omega (arith, k.0)
 one_far a b (inr h) k = omega (arith, k.1)
 
 -- a tag and two numbers that read are the entry
-tag_reads : (e : Entry) → three_parts (tag_of e ∷ []) (Value (first_in e)) (Value (second_in e)) ≡ entry_row e
+tag_reads : (e : Entry) → three_parts (tag_of e ∷ []) (Some (first_in e)) (Some (second_in e)) ≡ entry_row e
 unfolding three_parts is_byte tag_of kind_tag first_in second_in
 tag_reads (Clash Adding a b) = refl
 tag_reads (Clash Striking a b) = refl

@@ -1,18 +1,19 @@
 // The call that replays a journal.
 ghost use Rattle.std.specs.Prelude.{false, ◌≡◌, ◌<◌, length};
 ghost use Rattle.memory.specs.Lent.{given};
+ghost use Rattle.rule.specs.Refusals.{number_of};
 ghost use Rattle.queue.specs.Queue.{Idle, Unranked};
 ghost use Rattle.journal_replay.specs.Replay.{replay_result, replayed};
 ghost use Rattle.journal_replay.specs.inner.Steps.{AsksField, EntersField, AsksFields, EntersFields, ending, refused_first};
 
 use entries::{begun_by, enter_held};
-use journal_fields::{FIRST_BYTES, Field, entry_bytes, head_number, is_numbered, number_at};
+use journal_fields::{FIRST_BYTES, Fault, entry_bytes, head_number, is_numbered, number_at};
 use journal_reader::{read_field, refusal};
 use memory::Tally;
 use opening::open_all;
 use queue::WORDS;
 use queue_places::reset;
-use rule::wide;
+use rule::Refusal;
 
 // The place of the banks' number in the first field.
 const BANKS_PLACE: usize = 3;
@@ -66,49 +67,50 @@ fn enter_field(
     ensures enters_field { EntersField journal.now numbered start field begun
         (given neighbours.old degrees.old waves.old counts.old ranks.old trail.old moved.old tally) result
         (given neighbours.new degrees.new waves.new counts.new ranks.new trail.new moved.new result.tally) }
-    ensures idle_2 { Idle tally.banks ranks.new queue.new }
-    ensures unranked_2 { result.begun ≡ false → Unranked queue.new }
+    ensures idle_after { Idle tally.banks ranks.new queue.new }
+    ensures unranked_after { result.begun ≡ false → Unranked queue.new }
 {
     let next = start + entry_bytes(numbered);
-    let number = wide(field) - 1;
-    let read = read_field(&journal[start..], numbered, number);
-    let Field::Whole(entry) = read else {
-        return Entered {
-            number: refusal(read),
-            field: field,
-            begun: begun,
-            next: next,
-            tally: tally,
-        };
+    let number = usize::from(field) - 1;
+    let entry = match read_field(&journal[start..], numbered, number) {
+        Ok(entry) => entry,
+        Err(fault) => {
+            return Entered {
+                number: u16::from(refusal(fault)),
+                field,
+                begun,
+                next,
+                tally,
+            };
+        }
     };
     let done = enter_held(
         neighbours, degrees, waves, counts, ranks, trail, moved, queue, tally, begun, entry,
     );
-    let answer = done.answer;
-    let after = done.tally;
     Entered {
-        number: answer.number,
-        field: field,
+        number: done.answer.number,
+        field,
         begun: begun_by(entry, begun),
-        next: next,
-        tally: after,
+        next,
+        tally: done.tally,
     }
 }
 
 // The answer after the last field that was whole, which has this number, by the bytes that follow it.
+#[tactic(auto, unfolding(crate::specs::inner::Steps::ending, crate::specs::inner::Steps::last_by))]
 fn ended(rest: &[u8], numbered: bool, number: u16, field: u16) -> Replayed
     requires { (length rest.now < 65536) × (field < 65535) }
     ensures { result ≡ ending numbered number field rest.now }
 {
     if number != 0 {
         return Replayed {
-            number: number,
-            field: field,
+            number,
+            field,
             left_over: 0,
         };
     }
     let bytes = rest.len() as u16;
-    let Field::Wrong = read_field(rest, numbered, wide(field)) else {
+    let Err(Fault::Wrong) = read_field(rest, numbered, usize::from(field)) else {
         return Replayed {
             number: 0,
             field: 0,
@@ -149,8 +151,9 @@ fn enter_fields(
         field: 1,
         begun: false,
         next: first,
-        tally: tally,
+        tally,
     };
+    // By hand: `last` says where the next field starts, and the loop ends with the first field that is refused.
     while last.number == 0 && size <= journal.len() - last.next {
         last = enter_field(
             journal,
@@ -169,41 +172,32 @@ fn enter_fields(
             last.begun,
         );
     }
-    let next = last.next;
-    let after = last.tally;
-    let answer = ended(&journal[next..], numbered, last.number, last.field);
+    let answer = ended(&journal[last.next..], numbered, last.number, last.field);
     ReplayedPlan {
-        answer: answer,
-        tally: after,
+        answer,
+        tally: last.tally,
     }
 }
 
 // A journal refused before its entries.
-fn refuse(number: u16, tally: Tally) -> ReplayedPlan
-    ensures { (result.answer ≡ refused_first number) × (result.tally ≡ tally) }
+#[tactic(auto, unfolding(crate::specs::inner::Steps::refused_first))]
+fn refuse(refusal: Refusal, tally: Tally) -> ReplayedPlan
+    ensures { (result.answer ≡ refused_first (number_of refusal)) × (result.tally ≡ tally) }
 {
-    if number == 9 {
-        return ReplayedPlan {
-            answer: Replayed {
-                number: number,
-                field: 0,
-                left_over: 0,
-            },
-            tally: tally,
-        };
-    }
+    let number = u16::from(refusal);
+    let field = if number == 9 { 0 } else { 1 };
     ReplayedPlan {
         answer: Replayed {
-            number: number,
-            field: 1,
+            number,
+            field,
             left_over: 0,
         },
-        tally: tally,
+        tally,
     }
 }
 
-// Replays a journal: opens the plan of its first field, then enters the entries of the others. This is the core, which takes and returns the
-// tally by value: programs and other crates call it. The function that borrows the tally is a thin one over it.
+// Replays a journal: opens the plan of its first field, then enters the entries of the others. It takes and returns the tally by value:
+// `lent_calls` has the call that borrows it.
 pub fn replay_core(
     journal: &[u8],
     neighbours: &mut [u16],
@@ -218,18 +212,16 @@ pub fn replay_core(
     ensures { replay_result result.answer (given neighbours.new degrees.new waves.new counts.new ranks.new trail.new moved.new result.tally)
         ≡ replayed journal.now (given neighbours.old degrees.old waves.old counts.old ranks.old trail.old moved.old tally) }
 {
-    let number = head_number(journal, journal.len());
-    if number != 0 {
-        return refuse(number, tally);
+    if let Err(refusal) = head_number(journal, journal.len()) {
+        return refuse(refusal, tally);
     }
     let banks = number_at(journal, BANKS_PLACE);
-    let opened = open_all(
+    let opened = match open_all(
         neighbours, degrees, waves, counts, ranks, trail, moved, banks, tally,
-    );
-    let after = opened.tally;
-    if opened.number != 0 {
-        return refuse(opened.number, after);
-    }
+    ) {
+        Ok(opened) => opened,
+        Err(refusal) => return refuse(refusal, tally),
+    };
     enter_fields(
         journal,
         FIRST_BYTES,
@@ -240,6 +232,6 @@ pub fn replay_core(
         ranks,
         trail,
         moved,
-        after,
+        opened,
     )
 }

@@ -1,5 +1,4 @@
-// The calls that change a tally, as a caller makes them: the tally is a `&mut Tally`, and left as the call leaves it. Each is thin, over a core in the crate
-// of its call that takes and returns the tally by value; programs and other crates call the cores.
+// The calls that change a tally, as a caller makes them: the tally is a `&mut Tally`, and left as the call leaves it.
 #![tactic(auto)]
 
 mod editing;

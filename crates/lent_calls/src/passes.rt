@@ -24,9 +24,8 @@ pub fn read_list(
     ensures { list_result result (given neighbours.new degrees.new waves.new counts.new ranks.new trail.new moved.new tally.new)
         ≡ read_list list.now (given neighbours.old degrees.old waves.old counts.old ranks.old trail.old moved.old tally.old) }
 {
-    let t = *tally;
     let r = read_list_core(
-        list, neighbours, degrees, waves, counts, ranks, trail, moved, t,
+        list, neighbours, degrees, waves, counts, ranks, trail, moved, *tally,
     );
     *tally = r.tally;
     r.answer
@@ -48,9 +47,8 @@ pub fn replay(
     ensures { replay_result result (given neighbours.new degrees.new waves.new counts.new ranks.new trail.new moved.new tally.new)
         ≡ replayed journal.now (given neighbours.old degrees.old waves.old counts.old ranks.old trail.old moved.old tally.old) }
 {
-    let t = *tally;
     let replayed = replay_core(
-        journal, neighbours, degrees, waves, counts, ranks, trail, moved, t,
+        journal, neighbours, degrees, waves, counts, ranks, trail, moved, *tally,
     );
     *tally = replayed.tally;
     replayed.answer

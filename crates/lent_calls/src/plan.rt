@@ -2,11 +2,13 @@
 ghost use Rattle.memory.specs.Plan.{slices_of};
 ghost use Rattle.std.specs.Prelude.{◌≡◌};
 ghost use Rattle.planner.specs.Calls.{open_result, opened};
+ghost use Rattle.rule.specs.Refusals.{number_in};
 
 use memory::Tally;
 use opening::open_core;
+use rule::Refusal;
 
-// Opens a plan of `banks` banks with no clash. Answers 0, or changes nothing and answers the number of the first no.
+// Opens a plan of `banks` banks with no clash, or changes nothing and gives the refusal of the first no.
 pub fn open(
     neighbours: &mut [u16],
     degrees: &mut [u16],
@@ -15,12 +17,10 @@ pub fn open(
     ranks: &mut [u16],
     banks: u16,
     tally: &mut Tally,
-) -> u16
-    ensures { open_result result (slices_of neighbours.new degrees.new waves.new counts.new ranks.new) tally.new
+) -> Result<(), Refusal>
+    ensures { open_result (number_in result) (slices_of neighbours.new degrees.new waves.new counts.new ranks.new) tally.new
         ≡ opened banks (slices_of neighbours.old degrees.old waves.old counts.old ranks.old) tally.old }
 {
-    let t = *tally;
-    let opened = open_core(neighbours, degrees, waves, counts, ranks, banks, t);
-    *tally = opened.tally;
-    opened.number
+    *tally = open_core(neighbours, degrees, waves, counts, ranks, banks, *tally)?;
+    Ok(())
 }

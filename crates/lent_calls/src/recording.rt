@@ -6,8 +6,8 @@ ghost use Rattle.journal.specs.Calls.{record_result, recorded};
 
 use journal::Recorded;
 use memory::Tally;
-use recorded_edits::{add_recorded_core, strike_recorded_core};
-use rule::Bank;
+use recorded_edits::record_core;
+use rule::{Bank, Kind};
 
 // Adds the clash of a and b to the plan in memory and records it in the journal, whose first `size` bytes are written; or changes nothing and
 // answers the number of the first no with counts and length 0.
@@ -28,9 +28,20 @@ pub fn add_recorded(
     ensures { record_result result (given neighbours.new degrees.new waves.new counts.new ranks.now trail.new moved.new tally.new) journal.new
         ≡ recorded Adding a.0 b.0 (given neighbours.old degrees.old waves.old counts.old ranks.now trail.old moved.old tally.old) size journal.old }
 {
-    let t = *tally;
-    let added = add_recorded_core(
-        neighbours, degrees, waves, counts, ranks, trail, moved, t, a, b, journal, size,
+    let added = record_core(
+        Kind::Adding,
+        neighbours,
+        degrees,
+        waves,
+        counts,
+        ranks,
+        trail,
+        moved,
+        *tally,
+        a,
+        b,
+        journal,
+        size,
     );
     *tally = added.tally;
     added.answer
@@ -54,9 +65,20 @@ pub fn strike_recorded(
     ensures { record_result result (given neighbours.new degrees.new waves.new counts.new ranks.now trail.new moved.new tally.new) journal.new
         ≡ recorded Striking a.0 b.0 (given neighbours.old degrees.old waves.old counts.old ranks.now trail.old moved.old tally.old) size journal.old }
 {
-    let t = *tally;
-    let struck = strike_recorded_core(
-        neighbours, degrees, waves, counts, ranks, trail, moved, t, a, b, journal, size,
+    let struck = record_core(
+        Kind::Striking,
+        neighbours,
+        degrees,
+        waves,
+        counts,
+        ranks,
+        trail,
+        moved,
+        *tally,
+        a,
+        b,
+        journal,
+        size,
     );
     *tally = struck.tally;
     struck.answer

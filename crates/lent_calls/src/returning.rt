@@ -2,13 +2,14 @@
 ghost use Rattle.memory.specs.Plan.{slices_of};
 ghost use Rattle.std.specs.Prelude.{◌≡◌};
 ghost use Rattle.checkpoints.specs.Calls.{back_result, come_back};
+ghost use Rattle.rule.specs.Refusals.{number_in, value_or};
 
-use checkpoints::Returned;
 use coming_back::come_back_core;
 use memory::Tally;
+use rule::Refusal;
 
-// Makes plan memory what is kept under the name, and lists the banks whose wave differs. Answers 0 and their number, or changes nothing and
-// answers the number of the first no.
+// Makes plan memory what is kept under the name, and lists the banks whose wave differs. Answers how many they are, or changes nothing
+// and gives the refusal of the first no.
 pub fn come_back(
     neighbours: &mut [u16],
     degrees: &mut [u16],
@@ -19,14 +20,13 @@ pub fn come_back(
     tally: &mut Tally,
     shelf: &[u16],
     name: &[u8],
-) -> Returned
-    ensures { back_result result.number result.moved (slices_of neighbours.new degrees.new waves.new counts.new ranks.new) tally.new moved.new
+) -> Result<u16, Refusal>
+    ensures { back_result (number_in result) (value_or result 0) (slices_of neighbours.new degrees.new waves.new counts.new ranks.new) tally.new moved.new
         ≡ come_back name.now (slices_of neighbours.old degrees.old waves.old counts.old ranks.old) tally.old moved.old shelf.now }
 {
-    let t = *tally;
     let back = come_back_core(
-        neighbours, degrees, waves, counts, ranks, moved, t, shelf, name,
-    );
+        neighbours, degrees, waves, counts, ranks, moved, *tally, shelf, name,
+    )?;
     *tally = back.tally;
-    back.answer
+    Ok(back.moved)
 }

@@ -8,7 +8,7 @@ ghost use Rattle.list_pass.specs.inner.Steps.{change_begun, Asks, Applies, Strik
 use entries::enter_held;
 use held_edits::{edit_held, refuse};
 use list_rows::Change;
-use memory::Tally;
+use memory::{PlanMemory, Tally};
 use planner::{Answer, Edited, clashes_held};
 use queue::WORDS;
 use rule::{Bank, Kind};
@@ -33,8 +33,8 @@ pub fn apply(
     ensures applies { Applies change begun
         (given neighbours.old degrees.old waves.old counts.old ranks.old trail.old moved.old tally) result
         (given neighbours.new degrees.new waves.new counts.new ranks.new trail.new moved.new result.tally) }
-    ensures idle_2 { Idle tally.banks ranks.new queue.new }
-    ensures unranked_2 { change_begun change begun ≡ false → Unranked queue.new }
+    ensures idle_after { Idle tally.banks ranks.new queue.new }
+    ensures unranked_after { change_begun change begun ≡ false → Unranked queue.new }
 {
     match change {
         Change::One(entry) => enter_held(
@@ -64,24 +64,41 @@ fn strike_all(
     ensures strikes_all { StrikesAll b
         (given neighbours.old degrees.old waves.old counts.old ranks.now trail.old moved.old tally) result
         (given neighbours.new degrees.new waves.new counts.new ranks.now trail.new moved.new result.tally) }
-    ensures idle_2 { Idle tally.banks ranks.now queue.new }
+    ensures idle_after { Idle tally.banks ranks.now queue.new }
 {
     if tally.banks <= b.0 {
         return refuse(4, tally);
     }
-    let row = clashes_held(neighbours, degrees, waves, counts, ranks, tally, b);
-    let mut left = row.len();
+    let plan = PlanMemory {
+        neighbours,
+        degrees,
+        waves,
+        counts,
+        ranks,
+        tally,
+    };
+    let row = clashes_held(plan, b);
+    let left = row.len();
     let mut last = Edited {
         answer: Answer {
             number: 0,
             moved: 0,
             trail: 0,
         },
-        tally: tally,
+        tally,
     };
-    while 0 < left {
+    // Over a count: each strike changes the row, so that the next one is read anew.
+    for _struck in 0..left {
         let held = last.tally;
-        let row = clashes_held(neighbours, degrees, waves, counts, ranks, held, b);
+        let plan = PlanMemory {
+            neighbours,
+            degrees,
+            waves,
+            counts,
+            ranks,
+            tally: held,
+        };
+        let row = clashes_held(plan, b);
         let lowest = Bank(row[0]);
         last = edit_held(
             Kind::Striking,
@@ -97,7 +114,6 @@ fn strike_all(
             b,
             lowest,
         );
-        left -= 1;
     }
     last
 }

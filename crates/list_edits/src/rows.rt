@@ -36,11 +36,12 @@ pub fn read_edits(
     reset(&mut queue);
     let mut last = Step {
         number: 0,
-        row: row,
+        row,
         next: first,
         begun: false,
-        tally: tally,
+        tally,
     };
+    // By hand: the pass goes on while rows are left and none was refused.
     while last.number == 0 && last.next < list.len() {
         last = edit_row(
             list,
@@ -59,11 +60,9 @@ pub fn read_edits(
             last.begun,
         );
     }
-    let after = last.tally;
-    let answer = ended(last.number, last.row);
     Listed {
-        answer: answer,
-        tally: after,
+        answer: ended(last.number, last.row),
+        tally: last.tally,
     }
 }
 
@@ -90,33 +89,29 @@ fn edit_row(
     ensures edits_row { EditsRow list.now v2 start row begun
         (given neighbours.old degrees.old waves.old counts.old ranks.old trail.old moved.old tally) result
         (given neighbours.new degrees.new waves.new counts.new ranks.new trail.new moved.new result.tally) }
-    ensures idle_2 { Idle tally.banks ranks.new queue.new }
-    ensures unranked_2 { result.begun ≡ false → Unranked queue.new }
+    ensures idle_after { Idle tally.banks ranks.new queue.new }
+    ensures unranked_after { result.begun ≡ false → Unranked queue.new }
 {
     let end = find(list, start, b'\n');
     let next = end + 1;
     let read = read_row_in(v2, &list[start..end]);
     let Row::Edit(change) = read else {
-        let number = not_taken(read);
         return Step {
-            number: number,
-            row: row,
-            next: next,
-            begun: begun,
-            tally: tally,
+            number: u16::from(not_taken(read)),
+            row,
+            next,
+            begun,
+            tally,
         };
     };
     let done = apply(
         neighbours, degrees, waves, counts, ranks, trail, moved, queue, tally, begun, change,
     );
-    let answer = done.answer;
-    let after = done.tally;
-    let come = begun_after(change, begun);
     Step {
-        number: answer.number,
-        row: row,
-        next: next,
-        begun: come,
-        tally: after,
+        number: done.answer.number,
+        row,
+        next,
+        begun: begun_after(change, begun),
+        tally: done.tally,
     }
 }

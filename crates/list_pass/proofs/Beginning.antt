@@ -3,14 +3,17 @@ use mathlib.Core.Bool.{Bool, true, false}
 use mathlib.Core.List.{List, [], ◌∷◌, map}
 use mathlib.Core.Logic.{inl, inr}
 use mathlib.Core.Path.{◌≡◌, refl, sym, ap, ap₂, ◌∙◌}
-use Prim.Native.Nat.{ℕ, zero, suc, ◌+◌, ◌-◌, ◌≤◌, ◌<◌}
+use Prim.Native.Nat.{ℕ, zero, suc, ◌+◌, ◌-◌, ◌≤◌, ◌<◌, min}
 use native.Mathlib.Omega.{arith}
 use lib.ListN.{length, take, drop, drop_of_length-le}
 use lib.Seq.{take-nil}
 use borrow.Author.Tests.{le-leb, lt-leb}
+use Rattle.std.specs.Prelude.{Result}
+use Rattle.rule.specs.declared.refusal.Refusal.{Refusal}
 use Rattle.rule.specs.Graph.{Graph}
+use Rattle.rule.specs.Refusals.{number_in}
 use Rattle.rule.proofs.Booleans.{lt_or_ge}
-use Rattle.planner.specs.declared.Opened.{Opened}
+use Rattle.memory.specs.declared.Tally.{Tally}
 use Rattle.memory.specs.Memory.{Memory}
 use Rattle.memory.specs.Memory.{Ready}
 use Rattle.text.specs.Text.{parts, rows}
@@ -106,7 +109,7 @@ module _ (e : ℕ) where
     some (x ∷ xs) q = omega arith
 
     module _ (q : true ≡ is_v2 (take (e - 0) list)) where
-      pub starts_v2 : (start : ℕ) → 1 ≤ start → start ≤ length list → drop start list ≡ drop (e + 1) list
+      starts_v2 : (start : ℕ) → 1 ≤ start → start ≤ length list → drop start list ≡ drop (e + 1) list
           → StartsAt list (record { v2 = true; row = 2; start = start })
       unfolding n_row from_n
       starts_v2 start l h d =
@@ -119,13 +122,19 @@ module _ (e : ℕ) where
             later = omega arith;
           }
 
-      pub starts_alone : length list ≤ e → StartsAt list (record { v2 = true; row = 2; start = e })
-      starts_alone h =
-          starts_v2 e (omega (arith, some list q)) p.high
-          (drop_of_length-le list h ∙ sym (drop_of_length-le list (let k : length list ≤ e + 1 = omega arith in k)))
+      pub starts_after : (start : ℕ) → start ≡ min (length list) (e + 1) → StartsAt list (record { v2 = true; row = 2; start = start })
+      starts_after start m =
+          starts_v2 start (omega (arith, some list q)) (omega arith)
+          (elim (lt_or_ge e (length list)) [
+            | inl l ↦ let k : start ≡ e + 1 = omega arith in ap (λ (n : ℕ). drop n list) k
+            | inr h ↦
+                let k : length list ≤ start = omega arith in
+                let j : length list ≤ e + 1 = omega arith in
+                drop_of_length-le list k ∙ sym (drop_of_length-le list j)
+          ])
 
 -- the N row, row i, by what opening did
-module _ (i n : ℕ) (rs : List Row) (m : Memory) (r : Opened) (m' : Memory) (o : OpensAll n m r m') where
+module _ (i n : ℕ) (rs : List Row) (m : Memory) (r : Result Tally Refusal) (m' : Memory) (o : OpensAll n m r m') where
   refused_by : (k : ℕ) → (k ≡ 0 → ⊥) → list_result (reading k i) m ≡ begin_by i k n rs m
   unfolding begin_by
   refused_by zero z = absurd (z refl)
@@ -136,17 +145,17 @@ module _ (i n : ℕ) (rs : List Row) (m : Memory) (r : Opened) (m' : Memory) (o 
   opened_by-law zero z = refl
   opened_by-law (suc c) z = absurd (omega arith)
 
-  pub begin_refused : (r.number ≡ 0 → ⊥) → list_result (reading r.number i) m' ≡ begin_by i (begin_number n m) n rs m
-  begin_refused z = ap (list_result (reading r.number i)) (o.refused z) ∙ refused_by r.number z ∙ ap (λ (k : ℕ). begin_by i k n rs m) o.number
+  pub begin_refused : (number_in r ≡ 0 → ⊥) → list_result (reading (number_in r) i) m' ≡ begin_by i (begin_number n m) n rs m
+  begin_refused z = ap (list_result (reading (number_in r) i)) (o.refused z) ∙ refused_by (number_in r) z ∙ ap (λ (k : ℕ). begin_by i k n rs m) o.number
 
-  pub opened_state : r.number ≡ 0 → HoldsState false m'
+  pub opened_state : number_in r ≡ 0 → HoldsState false m'
   opened_state z = let s = o.opened z in ((begin n m).graph, s.ready, unfold begin in s.fresh)
 
   begun_not : pass (suc i) rs (at false (begin n m).graph (begin n m).memory) ≡ pass (suc i) rs (begin n m)
   unfolding begin
   begun_not = refl
 
-  pub begin_passed : r.number ≡ 0 → (e : ListResult) → ((G : Graph) → Ready G m' → Fresh false G → e ≡ pass (suc i) rs (at false G m')) → e ≡ begin_by i (begin_number n m) n rs m
+  pub begin_passed : number_in r ≡ 0 → (e : ListResult) → ((G : Graph) → Ready G m' → Fresh false G → e ≡ pass (suc i) rs (at false G m')) → e ≡ begin_by i (begin_number n m) n rs m
   begin_passed z e f =
       let s = o.opened z in
       f (begin n m).graph s.ready (unfold begin in s.fresh)

@@ -4,8 +4,7 @@ use mathlib.Core.List.{List, [], ◌∷◌, map}
 use mathlib.Core.Path.{◌≡◌, refl}
 use Prim.Native.Nat.{ℕ, zero, suc, ◌≤◌}
 use lib.ListN.{take}
-use Rattle.text.specs.declared.number.Number.{Number}
-use Rattle.text.specs.declared.number.Number.TheVariants.{Value, Nothing}
+use Rattle.std.proofs.Common.{Option, Some, None}
 use Rattle.text.specs.Text.{rows, parts}
 use Rattle.text.specs.Numbers.{number}
 use Rattle.text.proofs.Theorems.{number_small}
@@ -33,18 +32,18 @@ either : (t : Bool) (x y : Row) → RowFits x → RowFits y → RowFits (cond t 
 either true x y p q = p
 either false x y p q = q
 
-two_fit : (head : List ℕ) (x : Number) → RowFits (two_parts head x)
+two_fit : (head : List ℕ) (x : Option ℕ) → RowFits (two_parts head x)
 unfolding two_parts
-two_fit head Nothing = tt
-two_fit head (Value x) =
+two_fit head None = tt
+two_fit head (Some x) =
     let strike = Edit (StrikeAll (bank x)) in
     either (is_byte 78 head) (Banks x) (cond (is_byte 68 head) strike Unreadable) tt (either (is_byte 68 head) strike Unreadable tt tt)
 
-three_fit : (head : List ℕ) (x y : Number) → ((v : ℕ) → y ≡ Value v → v ≤ 9999) → RowFits (three_parts head x y)
+three_fit : (head : List ℕ) (x y : Option ℕ) → ((v : ℕ) → y ≡ Some v → v ≤ 9999) → RowFits (three_parts head x y)
 unfolding three_parts
-three_fit head Nothing y small = tt
-three_fit head (Value a) Nothing small = tt
-three_fit head (Value a) (Value b) small =
+three_fit head None y small = tt
+three_fit head (Some a) None small = tt
+three_fit head (Some a) (Some b) small =
     let add = Edit (One (Clash Adding (bank a) (bank b))) in
     let strike = Edit (One (Clash Striking (bank a) (bank b))) in
     let rank = Edit (One (Rank (bank a) b)) in

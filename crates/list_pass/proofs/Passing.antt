@@ -91,24 +91,6 @@ no_edit_some (Edit c) z = omega arith
 no_edit_some Unreadable z = omega arith
 no_edit_some Retired z = omega arith
 
--- 11, or 23 for a D row of a V 2 list
-pub no_form : (r : Row) → (r ≡ Retired → ⊥) → 11 ≡ no_edit r
-unfolding no_edit
-no_form (Banks n) k = refl
-no_form (Edit c) k = refl
-no_form Unreadable k = refl
-no_form Retired k = absurd (k refl)
-
--- the answer, by the number of the last row
-pub ending_zero : (n i : ℕ) → n ≡ 0 → reading 0 0 ≡ ending n i
-unfolding ending
-ending_zero n i z = rw z
-
-pub ending_some : (n i : ℕ) → (n ≡ 0 → ⊥) → reading n i ≡ ending n i
-unfolding ending
-ending_some zero i z = absurd (z refl)
-ending_some (suc c) i z = refl
-
 -- the row from `start` to `end`
 module _ (list : List ℕ) (v : Bool) (start end : ℕ) (f : Finds list start 10 end) where
   row_next : end + 1 ≡ row_end list start + 1

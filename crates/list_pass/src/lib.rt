@@ -1,4 +1,4 @@
-// What the pass over a list finds and answers, row by row: where it starts, the number of a row that makes no edit, and the answer of the whole.
+// What the pass over a list finds and answers, row by row: where it starts, why a row makes no edit, and the answer of the whole.
 #![tactic(auto)]
 
 mod numbers;

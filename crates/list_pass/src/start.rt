@@ -22,17 +22,9 @@ pub fn first_row(list: &[u8]) -> First
             start: 0,
         };
     }
-    if list.len() <= end {
-        return First {
-            v2: true,
-            row: ROW_AFTER_V2,
-            start: end,
-        };
-    }
-    let start = end + 1;
     First {
         v2: true,
         row: ROW_AFTER_V2,
-        start: start,
+        start: list.len().min(end + 1),
     }
 }

@@ -10,9 +10,7 @@ use Rattle.list_pass.specs.Ends.{end_of}
 use Rattle.list_pass.proofs.Theorems.{accepted_holds, accepted_fits}
 use Rattle.sheet_writer.proofs.Theorems as Sheets
 use Rattle.poster_writer.proofs.Theorems as Posters
-use Rattle.list_program.specs.declared.texts.Text.{Text}
-use Rattle.list_program.specs.declared.texts.Text.TheVariants.{Sheet, Poster}
-use Rattle.list_program.specs.Answers.{blank, text_of, answer_result, answer_of}
+use Rattle.list_program.specs.Answers.{Text, Sheet, Poster, blank, text_of, answer_result, answer_of}
 use Rattle.list_program.proofs.Answering.{answer_text-law}
 
 -- an accepted list is answered by the text of the clashes in which it ends, in any output of 8,200 bytes

@@ -9,8 +9,6 @@ use Rattle.list_pass.specs.Pass.{ListResult, read_list}
 use Rattle.wave_lines.specs.Calls.{TextResult, write_text}
 use Rattle.sheet_writer.specs.Sheet.{sheet}
 use Rattle.poster_lines.specs.Poster.{poster}
-use Rattle.list_program.specs.declared.texts.Text.{Text}
-use Rattle.list_program.specs.declared.texts.Text.TheVariants.{Sheet, Poster}
 
 -- the memory that a program lends: cells for 1,024 banks, all 0; and a cap of 24
 abbrev pub blank : Memory
@@ -21,7 +19,12 @@ blank =
     (replicate 1024 0)
     (record { banks = 0; clashes = 0; waves = 0; cap = 24 })
 
--- the text that a program prints of a plan
+-- the texts of a plan that a program prints
+pub data Text : Type 0 where
+  Sheet : Text
+  Poster : Text
+
+-- the text of a plan, of each kind
 unfoldable pub text_of : Text → Graph → List ℕ
 text_of Sheet = sheet
 text_of Poster = poster

@@ -1,61 +1,31 @@
 // Reading standard input, or another open file.
-ghost use Rattle.std.specs.Prelude.{◌+◌, ◌≤◌, length};
+ghost use Rattle.std.specs.Prelude.{◌≤◌, length, IfSome};
 
-use std::io;
 use std::io::Read;
 use text::MOST_BYTES;
 
 // One byte more than a list may have, so that question 1 sees a longer one.
 pub const LIST_BYTES: usize = MOST_BYTES + 1;
 
-// What was read: how many bytes, or that the system refused a read.
-#[derive(Clone, Copy)]
-pub struct Input {
-    pub failed: bool,
-    pub length: usize,
-}
-
-// Reads on from place `at`: one call of the system. No bytes are the end of the input.
-fn read_on<R: Read>(from: &mut R, list: &mut [u8], at: usize) -> Input
-    requires { at ≤ length list.old }
-    ensures { at + result.length ≤ length list.new }
-{
-    match from.read(&mut list[at..]) {
-        Ok(length) => Input {
-            failed: false,
-            length,
-        },
-        Err(_) => Input {
-            failed: true,
-            length: 0,
-        },
-    }
-}
-
-// Reads an open file to its end, or as far as there is room.
-pub fn read_from<R: Read>(from: &mut R, list: &mut [u8]) -> Input
-    ensures { result.length ≤ length list.new }
+// Reads an open file to its end, or as far as there is room. Answers how many bytes it read, or nothing if the system refused a read.
+pub fn read_from<R: Read>(from: &mut R, list: &mut [u8]) -> Option<usize>
+    ensures { IfSome result (λ n. n ≤ length list.new) }
 {
     let mut at = 0;
+    // By hand: a read may fill any part of the room that is left, and no bytes are the end.
     while at < list.len() {
-        let part = read_on(from, list, at);
-        if part.length == 0 {
-            return Input {
-                failed: part.failed,
-                length: at,
-            };
+        let count = from.read(&mut list[at..]).ok()?;
+        if count == 0 {
+            return Some(at);
         }
-        at += part.length;
+        at += count;
     }
-    Input {
-        failed: false,
-        length: at,
-    }
+    Some(at)
 }
 
 // Reads standard input, likewise.
-pub fn read_input(rt: &impl io::Input, list: &mut [u8]) -> Input
-    ensures { result.length ≤ length list.new }
+pub fn read_input(rt: &impl Input, list: &mut [u8]) -> Option<usize>
+    ensures { IfSome result (λ n. n ≤ length list.new) }
 {
     read_from(&mut rt.reader(), list)
 }

@@ -30,7 +30,7 @@ pub fn read_list_core(
     if MOST_BYTES < list.len() {
         return Listed {
             answer: Reading { number: 9, row: 0 },
-            tally: tally,
+            tally,
         };
     }
     let first = first_row(list);
@@ -42,7 +42,7 @@ pub fn read_list_core(
                 number: 10,
                 row: first.row,
             },
-            tally: tally,
+            tally,
         };
     };
     let next = end + 1;
@@ -73,20 +73,18 @@ fn begin(
         (given neighbours.old degrees.old waves.old counts.old ranks.old trail.old moved.old tally) result
         (given neighbours.new degrees.new waves.new counts.new ranks.new trail.new moved.new result.tally) }
 {
-    let opened = open_all(
+    match open_all(
         neighbours, degrees, waves, counts, ranks, trail, moved, banks, tally,
-    );
-    let after = opened.tally;
-    if opened.number != 0 {
-        return Listed {
+    ) {
+        Ok(after) => read_edits(
+            list, v2, row, next, neighbours, degrees, waves, counts, ranks, trail, moved, after,
+        ),
+        Err(refusal) => Listed {
             answer: Reading {
-                number: opened.number,
-                row: row,
+                number: u16::from(refusal),
+                row,
             },
-            tally: after,
-        };
+            tally,
+        },
     }
-    read_edits(
-        list, v2, row, next, neighbours, degrees, waves, counts, ranks, trail, moved, after,
-    )
 }

@@ -5,8 +5,7 @@ use mathlib.Core.Path.{◌≡◌, refl, ap, ap₂}
 use Prim.Native.Nat.{ℕ}
 use lib.Dec.{T}
 use Rattle.rule.proofs.Booleans.{and_l, and_r}
-use Rattle.text.specs.declared.number.Number.{Number}
-use Rattle.text.specs.declared.number.Number.TheVariants.{Value, Nothing}
+use Rattle.std.proofs.Common.{Option, Some, None}
 use Rattle.text.specs.Text.{parts}
 use Rattle.text.specs.Numbers.{number}
 use Rattle.text.specs.Unpadded.{unpadded_number, is_plain}
@@ -34,17 +33,17 @@ unfolding plain_row row_of unpadded_row
 plain_kept r t = parts_same (parts r) t
 
 -- a number that read before, in a row that read before
-two_kept : (h x : List ℕ) (n : Number) → unpadded_number x ≡ n → (two_parts h n ≡ Unreadable → ⊥) → two_parts h (number x) ≡ two_parts h n
+two_kept : (h x : List ℕ) (n : Option ℕ) → unpadded_number x ≡ n → (two_parts h n ≡ Unreadable → ⊥) → two_parts h (number x) ≡ two_parts h n
 unfolding two_parts
-two_kept h x Nothing e n = absurd (n refl)
-two_kept h x (Value v) e n = ap (two_parts h) (number_kept x v e)
+two_kept h x None e n = absurd (n refl)
+two_kept h x (Some v) e n = ap (two_parts h) (number_kept x v e)
 
-three_kept : (h x y : List ℕ) (n m : Number) → unpadded_number x ≡ n → unpadded_number y ≡ m → (three_parts h n m ≡ Unreadable → ⊥)
+three_kept : (h x y : List ℕ) (n m : Option ℕ) → unpadded_number x ≡ n → unpadded_number y ≡ m → (three_parts h n m ≡ Unreadable → ⊥)
     → three_parts h (number x) (number y) ≡ three_parts h n m
 unfolding three_parts
-three_kept h x y Nothing m e f n = absurd (n refl)
-three_kept h x y (Value v) Nothing e f n = absurd (n refl)
-three_kept h x y (Value v) (Value w) e f n = ap₂ (three_parts h) (number_kept x v e) (number_kept y w f)
+three_kept h x y None m e f n = absurd (n refl)
+three_kept h x y (Some v) None e f n = absurd (n refl)
+three_kept h x y (Some v) (Some w) e f n = ap₂ (three_parts h) (number_kept x v e) (number_kept y w f)
 
 parts_kept : (ps : List (List ℕ)) → (from_parts unpadded_number ps ≡ Unreadable → ⊥) → from_parts number ps ≡ from_parts unpadded_number ps
 unfolding from_parts

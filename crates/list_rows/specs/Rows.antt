@@ -1,11 +1,9 @@
 -- What a row says (01, "The list"): `N n`, `+ a b`, `- a b`, `D b`, `K b r` (02, N6), or nothing that reads; and what the rows of a list say, which may
 -- start with `V 2` (02, N12).
-use Rattle.std.specs.Prelude.{Bool, true, false, cond, ◌&&◌, List, [], ◌∷◌, map, ℕ, eqb, length, get_or, drop}
+use Rattle.std.specs.Prelude.{Option, Some, None, Bool, true, false, cond, ◌&&◌, List, [], ◌∷◌, map, ℕ, eqb, length, get_or, drop}
 use Rattle.rule.specs.Numbers.{bank}
 use Rattle.rule.specs.declared.Kind.TheVariants.{Adding, Striking}
 use Rattle.rule.specs.declared.Entry.TheVariants.{Clash, Rank}
-use Rattle.text.specs.declared.number.Number.{Number}
-use Rattle.text.specs.declared.number.Number.TheVariants.{Value, Nothing}
 use Rattle.text.specs.Text.{rows, parts}
 use Rattle.text.specs.Numbers.{number}
 use Rattle.list_rows.specs.declared.row.Change.{Change}
@@ -18,20 +16,20 @@ unfoldable pub is_byte : ℕ → List ℕ → Bool
 is_byte c p = eqb (length p) 1 && eqb (get_or p 0 0) c
 
 -- two parts: `N n` (N is byte 78) and `D b` (D is byte 68)
-unfoldable pub two_parts : List ℕ → Number → Row
-two_parts head Nothing = Unreadable
-two_parts head (Value x) = cond (is_byte 78 head) (Banks x) (cond (is_byte 68 head) (Edit (StrikeAll (bank x))) Unreadable)
+unfoldable pub two_parts : List ℕ → Option ℕ → Row
+two_parts head None = Unreadable
+two_parts head (Some x) = cond (is_byte 78 head) (Banks x) (cond (is_byte 68 head) (Edit (StrikeAll (bank x))) Unreadable)
 
 -- three parts: `+ a b` (+ is byte 43), `- a b` (- is byte 45) and `K b r` (K is byte 75)
-unfoldable pub three_parts : List ℕ → Number → Number → Row
-three_parts head Nothing y = Unreadable
-three_parts head (Value a) Nothing = Unreadable
-three_parts head (Value a) (Value b) =
+unfoldable pub three_parts : List ℕ → Option ℕ → Option ℕ → Row
+three_parts head None y = Unreadable
+three_parts head (Some a) None = Unreadable
+three_parts head (Some a) (Some b) =
     cond (is_byte 43 head) (Edit (One (Clash Adding (bank a) (bank b))))
     (cond (is_byte 45 head) (Edit (One (Clash Striking (bank a) (bank b)))) (cond (is_byte 75 head) (Edit (One (Rank (bank a) b))) Unreadable))
 
 -- by the number of parts, where `read` says what a part is as a number
-unfoldable pub from_parts : (List ℕ → Number) → List (List ℕ) → Row
+unfoldable pub from_parts : (List ℕ → Option ℕ) → List (List ℕ) → Row
 from_parts read [] = Unreadable
 from_parts read (h ∷ []) = Unreadable
 from_parts read (h ∷ x ∷ []) = two_parts h (read x)

@@ -3,11 +3,13 @@ use mathlib.Core.Bool.{Bool, true, false, not}
 use mathlib.Core.List.{List, [], ◌∷◌, ◌++◌}
 use mathlib.Core.Logic.{◌≢◌}
 use mathlib.Core.Path.{◌≡◌, sym, ap, ◌∙◌}
-use Prim.Native.Nat.{ℕ, ◌+◌, ◌*◌, ◌≤◌, ◌<◌}
+use Prim.Native.Nat.{ℕ, ◌+◌, ◌-◌, ◌*◌, ◌≤◌, ◌<◌}
 use native.Mathlib.Decide.{ℕ_discrete}
 use native.Mathlib.Omega.{arith}
 use lib.ListN.{length, get_or, set, take, drop, length-set, length-take, length-drop, replicate, length-replicate, get_or-replicate}
-use lib.Seq.{get_or-take, get_or-drop, get_or-set_same, get_or-set_other, length-take-le, ext_get_or}
+use mir.Val.{bool_byte}
+use Rattle.std.proofs.Common.{add-zero}
+use lib.Seq.{set-get_or, get_or-take, get_or-drop, get_or-set_same, get_or-set_other, length-take-le, ext_get_or}
 use Rattle.rule.specs.Lists.{filter}
 use Rattle.rule.specs.Graph.{Graph, neighbours, degree, earlier, earlier_neighbours}
 use Rattle.rule.proofs.Booleans.{t_along}
@@ -21,13 +23,9 @@ use Rattle.memory.proofs.Fronts.{take_next, get_d_any, in_cell}
 use Rattle.memory.proofs.Rows.{group_at, length_group}
 use Rattle.memory.proofs.Standing.{bit_yes, bit_no, standing_snoc, standing_le}
 
--- cells set to 0 one after the other
-pub cleared : (row : List ℕ) (i : ℕ) → i < length row → ((k : ℕ) → k < i → get_or row k 0 ≡ 0) → (k : ℕ) → k < i + 1 → get_or (set row i 0) k 0 ≡ 0
-cleared row i l h k s = go (ℕ_discrete k i)
-  where
-    go : Dec (k ≡ i) → get_or (set row i 0) k 0 ≡ 0
-    go (yes e) = rw e (get_or-set_same row i 0 0 l)
-    go (no d) = get_or-set_other row i k 0 0 d ∙ h k (omega arith)
+pub bit_small : (e : Bool) → bool_byte e ≤ 1
+bit_small true = omega arith
+bit_small false = omega arith
 
 pub count_none : {row : List ℕ} (ds rs ws : List ℕ) (b : ℕ) → Tallied row (λ c. 0) → Tallied row (count_in ds rs ws b [])
 unfolding standing filter
@@ -70,6 +68,10 @@ module _ {ns ds rs ws : List ℕ} {n b i : ℕ} (ct : Countable ns ds rs ws n b)
   pub v_small : get_or ws v 0 < 24
   v_small = ct.small v v_bank
 
+  -- it is the i-th of the row's filled part
+  pub in_part : get_or (take (b * 23 + get_or ds b 0 - b * 23) xs) i 0 ≡ v
+  in_part = get_or-take (b * 23 + get_or ds b 0 - b * 23) xs i 0 (omega arith) ∙ get_or-drop (b * 23) ns i 0
+
   next : take (i + 1) xs ≡ take i xs ++ (v ∷ [])
   next = take_next i xs (omega (arith, length-drop (b * 23) ns, in_row)) ∙ ap (λ (k : ℕ). take i xs ++ (k ∷ [])) (get_or-drop (b * 23) ns i 0)
 
@@ -97,6 +99,11 @@ module _ {ns ds rs ws : List ℕ} {n b i : ℕ} (ct : Countable ns ds rs ws n b)
           long = one.long;
           counts = λ c h. one.counts c h ∙ ap (standing wave_of-law c) (sym (ap (filter sooner) next ∙ filter_kept sooner (take i xs) v (t_along (sym e) tt)));
         }
+
+    pub counted_if : (e : Bool) → by_cells ds rs v b ≡ e → {w : ℕ} → w ≡ get_or ws v 0
+        → Tallied (set row w (get_or row w 0 + bool_byte e)) (count_in ds rs ws b (take (i + 1) xs))
+    counted_if true q is = counted q is
+    counted_if false q {w} is = rw (add-zero, set-get_or row w 0) (skipped q)
 
 -- of two banks, one is earlier
 pub cells_flip : (ds rs : List ℕ) (p q : ℕ) → p ≢ q → by_cells ds rs p q ≡ not (by_cells ds rs q p)

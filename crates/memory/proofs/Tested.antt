@@ -1,17 +1,14 @@
 -- What the code tests is true exactly if memory holds the plan of the clashes that its rows name.
-use mathlib.Core.Bool.{Bool, true, false}
 use mathlib.Core.List.{List, map}
-use mathlib.Core.Logic.{inl, inr}
 use mathlib.Core.Path.{◌≡◌, refl, sym, ap, ◌∙◌, subst}
-use Prim.Native.Nat.{ℕ, zero, suc, ◌+◌, ◌-◌, ◌≤◌, ◌<◌}
+use Prim.Native.Nat.{ℕ, zero, suc, ◌≤◌, ◌<◌}
 use native.Mathlib.Omega.{arith}
-use borrow.Author.Count.{below_more}
 use lib.Dec.{T}
 use lib.ListN.{get_or}
 use Rattle.rule.specs.Lists.{memb}
 use Rattle.rule.specs.Graph.{Graph, earlier_neighbours}
 use Rattle.rule.specs.Wave.{lowest_free, wave}
-use Rattle.rule.proofs.Booleans.{test_ext, t_along, lt_or_ge}
+use Rattle.rule.proofs.Booleans.{test_ext, t_along}
 use Rattle.rule.proofs.Lists.{map_cong}
 use Rattle.rule.proofs.Theorems.{wave_equation, wave_unique, lowest_free_free, lowest_free_smaller, lowest_free_only}
 use Rattle.rule.proofs.Waves.{earlier_neighbours_in}
@@ -19,7 +16,7 @@ use Rattle.memory.specs.declared.Tally.{Tally}
 use Rattle.memory.specs.inner.Counts.{standing}
 use Rattle.memory.specs.Plan.{Slices, tally_of, PlanOf}
 use Rattle.memory.specs.inner.View.{Long, Ranked, Rowed, Held}
-use Rattle.memory.specs.inner.Test.{Says, row, part, RowsRight, Rows, PartRight, counts_of, Tested}
+use Rattle.memory.specs.inner.Test.{row, part, RowsRight, Rows, PartRight, counts_of, Tested}
 use Rattle.memory.proofs.Fronts.{pos}
 use Rattle.memory.proofs.Standing.{standing_cong, standing_pos, pos_standing}
 use Rattle.memory.proofs.Agree.{tally_eq}
@@ -27,49 +24,6 @@ use Rattle.memory.proofs.Views.{held_of, plan_of, held_small}
 use Rattle.memory.proofs.Rows.{group_at, in_rows, rowed, row_right-law}
 use Rattle.memory.proofs.Tallies.{shown, counts_are}
 use Rattle.memory.proofs.Sums.{clash_count_is, wave_count_is}
-
--- a test's answer
-pub granted : (P : Type 0) (r : Bool) → Says P r → r ≡ true → P
-granted P r s e = subst (λ (b : Bool). Says P b) e s
-
-pub denied : (P : Type 0) (r : Bool) → Says P r → r ≡ false → P → ⊥
-denied P r s e = subst (λ (b : Bool). Says P b) e s
-
--- u of m cells passed, and all did exactly if u is m; the next cell passes, or not, or is not counted
-abbrev pub Passed : Type 0 → ℕ → ℕ → Type 0
-Passed all u m = (u ≤ m) × (u ≡ m → all) × (all → u ≡ m)
-
-module _ (P : ℕ → Type 0) (c u m : ℕ) (s : Passed ((k : ℕ) → k < c → P k) u m) where
-  pub one_passed : P c → Passed ((k : ℕ) → k < c + 1 → P k) (u + 1) (m + 1)
-  one_passed p = (
-    omega (arith, s.0),
-    λ e. below_more P c (s.1 (omega arith)) p,
-    λ f. ap (λ (k : ℕ). k + 1) (s.2 (λ k l. f k (omega arith))),
-  )
-
-  pub one_not : (P c → ⊥) → Passed ((k : ℕ) → k < c + 1 → P k) u (m + 1)
-  one_not n = (omega (arith, s.0), λ e. absurd (omega (arith, s.0)), λ f. absurd (n (f c (omega arith))))
-
-  pub one_free : P c → Passed ((k : ℕ) → k < c + 1 → P k) u m
-  one_free p = (s.0, λ e. below_more P c (s.1 e) p, λ f. s.2 (λ k l. f k (omega arith)))
-
--- the cells before i that are left over are unused; those that name a bank are not
-abbrev pub Unused : List ℕ → ℕ → ℕ → Type 0
-Unused row named i = (k : ℕ) → k < i → named ≤ k → get_or row k 0 ≡ 65535
-
-module _ (row : List ℕ) (named i u : ℕ) (free : (k : ℕ) → k < named → get_or row k 0 ≡ 65535 → ⊥) (s : Passed (Unused row named i) u (i - named)) where
-  next : named ≤ i → i + 1 - named ≡ i - named + 1
-  next g = omega arith
-
-  pub unused_next : get_or row i 0 ≡ 65535 → Passed (Unused row named (i + 1)) (u + 1) (i + 1 - named)
-  unused_next e = elim (lt_or_ge i named) [ inl l ↦ absurd (free i l e) | inr g ↦ rw (next g) (one_passed _ i u (i - named) s (λ q. e)) ]
-
-  pub used_next : (get_or row i 0 ≡ 65535 → ⊥) → Passed (Unused row named (i + 1)) u (i + 1 - named)
-  used_next n =
-      elim (lt_or_ge i named) [
-        | inl l ↦ let none : i + 1 - named ≡ i - named = omega arith in rw none (one_free _ i u (i - named) s (λ g. absurd (omega arith)))
-        | inr g ↦ rw (next g) (one_not _ i u (i - named) s (λ q. n (q g)))
-      ]
 
 -- rows that are right, in slices that are long enough
 pub rows_of : {s : Slices} {n : ℕ} → n ≤ 1024 → Long n s → RowsRight s.neighbours s.degrees n → Rows s.neighbours s.degrees n

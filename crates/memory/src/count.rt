@@ -1,51 +1,12 @@
 // What is counted from the cells: Counts of one bank, and the waves.
-ghost use Rattle.std.specs.Prelude.{◌≡◌, ℕ, ◌+◌, ◌≤◌, ◌<◌, length, get_or};
-ghost use Rattle.memory.specs.inner.Counts.{CountedTo, Countable, Tallied, most_of};
+ghost use Rattle.std.specs.Prelude.{◌≡◌, ℕ, ◌≤◌, ◌<◌, length, get_or};
+ghost use Rattle.memory.specs.inner.Counts.{CountedTo, Countable, most_of};
 
 use crate::order::is_earlier;
-use rule::{Bank, COUNT_CELLS, ROW_CELLS, wide};
+use rule::{Bank, ROW_CELLS};
 
-// Sets the 24 cells to 0.
-fn clear(row: &mut [u16])
-    requires { length row.old ≡ 24 }
-    ensures { Tallied row.new (λ c. 0) }
-{
-    let mut c = 0;
-    while c < COUNT_CELLS {
-        row[c] = 0;
-        c += 1;
-    }
-}
-
-// Counts the bank in cell i of b's row by its wave, if it is earlier than b: 1 or 0 is added, so that the test is no
-// branch.
-fn count_one(
-    neighbours: &[u16],
-    degrees: &[u16],
-    ranks: &[u16],
-    waves: &[u16],
-    row: &mut [u16],
-    banks: u16,
-    b: Bank,
-    i: usize,
-)
-    requires countable { Countable neighbours.now degrees.now ranks.now waves.now banks b.0 }
-    requires i_bound { i < get_or degrees.now b.0 0 }
-    requires counted_to { CountedTo neighbours.now degrees.now ranks.now waves.now row.old b.0 i }
-    ensures { CountedTo neighbours.now degrees.now ranks.now waves.now
-        row.new b.0 (i + 1) }
-{
-    let at = b.0 as usize;
-    let v = neighbours[at * ROW_CELLS + i];
-    let w = wide(waves[wide(v)]);
-    let mut more: u16 = 0;
-    if is_earlier(degrees, ranks, Bank(v), b) {
-        more = 1;
-    }
-    row[w] = row[w] + more;
-}
-
-// Counts the earlier neighbours of b by their waves into the 24 cells of a row of Counts.
+// Counts the earlier neighbours of b by their waves into the 24 cells of a row of Counts: 1 or 0 is added, so that the
+// test is no branch.
 pub fn count_earlier(
     neighbours: &[u16],
     degrees: &[u16],
@@ -60,13 +21,13 @@ pub fn count_earlier(
     ensures { CountedTo neighbours.now degrees.now ranks.now waves.now
         row.new b.0 (get_or degrees.now b.0 0) }
 {
-    clear(row);
+    row.fill(0);
     let at = b.0 as usize;
-    let degree = wide(degrees[at]);
-    let mut i = 0;
-    while i < degree {
-        count_one(neighbours, degrees, ranks, waves, row, banks, b, i);
-        i += 1;
+    let start = at * ROW_CELLS;
+    let degree = degrees[at] as usize;
+    for v in &neighbours[start..start + degree] {
+        let wave = waves[*v as usize] as usize;
+        row[wave] += u16::from(is_earlier(degrees, ranks, Bank(*v), b));
     }
 }
 
@@ -76,15 +37,9 @@ pub fn wave_count(waves: &[u16], banks: u16) -> u16
     requires by_index { (x : ℕ) → x < banks → get_or waves.now x 0 < 24 }
     ensures { result ≡ most_of waves.now banks }
 {
-    let n = wide(banks);
     let mut most: u16 = 0;
-    let mut i = 0;
-    while i < n {
-        let w = waves[i];
-        if most <= w {
-            most = w + 1;
-        }
-        i += 1;
+    for wave in &waves[..banks as usize] {
+        most = most.max(*wave + 1);
     }
     most
 }

@@ -12,10 +12,21 @@ pub use put::put_front;
 pub use room::long_enough;
 
 // The record that the caller owns and each edit brings up to date. The cap is the most waves that edits may lead to.
-#[derive(Clone, Copy)]
+#[derive(Clone, Copy, PartialEq, Eq)]
 pub struct Tally {
     pub banks: u16,
     pub clashes: u16,
     pub waves: u16,
     pub cap: u16,
+}
+
+// Plan memory that is lent for reading: the five slices and the tally.
+#[derive(Clone, Copy)]
+pub struct PlanMemory<'a> {
+    pub neighbours: &'a [u16],
+    pub degrees: &'a [u16],
+    pub waves: &'a [u16],
+    pub counts: &'a [u16],
+    pub ranks: &'a [u16],
+    pub tally: Tally,
 }

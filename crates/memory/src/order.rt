@@ -6,8 +6,8 @@ use rule::{Bank, earlier};
 
 // Whether bank p is earlier than bank q.
 pub fn is_earlier(degrees: &[u16], ranks: &[u16], p: Bank, q: Bank) -> bool
-    requires p_in_bounds { (p.0 < length degrees.now) × (q.0 < length degrees.now) }
-    requires p_in_bounds_2 { (p.0 < length ranks.now) × (q.0 < length ranks.now) }
+    requires have_degrees { (p.0 < length degrees.now) × (q.0 < length degrees.now) }
+    requires have_ranks { (p.0 < length ranks.now) × (q.0 < length ranks.now) }
     ensures { result ≡ by_cells degrees.now ranks.now p.0 q.0 }
 {
     let at_p = p.0 as usize;

@@ -7,9 +7,5 @@ pub fn put_front(slice: &mut [u16], cells: &[u16])
     requires { length cells.now ≤ length slice.old }
     ensures { slice.new ≡ over cells.now slice.old }
 {
-    let mut i = 0;
-    while i < cells.len() {
-        slice[i] = cells[i];
-        i += 1;
-    }
+    slice[..cells.len()].copy_from_slice(cells);
 }

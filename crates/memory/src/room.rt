@@ -1,35 +1,20 @@
 // Question 4 of the five slices of plan memory.
 ghost use Rattle.std.specs.Prelude.{◌≡◌};
-ghost use Rattle.memory.specs.Plan.{long_enough, slices_of};
+ghost use Rattle.memory.specs.Plan.{long_enough};
+ghost use Rattle.memory.specs.Lent.{slices_in};
 
-use rule::{COUNT_CELLS, ROW_CELLS, wide};
+use crate::PlanMemory;
+use rule::{COUNT_CELLS, ROW_CELLS};
 
 // Whether the slices have room for so many banks.
-pub fn long_enough(
-    neighbours: &[u16],
-    degrees: &[u16],
-    waves: &[u16],
-    counts: &[u16],
-    ranks: &[u16],
-    banks: u16,
-) -> bool
-    ensures { result ≡ long_enough banks (slices_of neighbours.now degrees.now waves.now counts.now ranks.now) }
+#[tactic(auto, unfolding(crate::specs::Plan::long_enough))]
+pub fn long_enough(plan: PlanMemory, banks: u16) -> bool
+    ensures { result ≡ long_enough banks (slices_in plan.entry) }
 {
-    let n = wide(banks);
-    if neighbours.len() < n * ROW_CELLS {
-        return false;
-    }
-    if degrees.len() < n {
-        return false;
-    }
-    if waves.len() < n {
-        return false;
-    }
-    if counts.len() < n * COUNT_CELLS {
-        return false;
-    }
-    if ranks.len() < n {
-        return false;
-    }
-    true
+    let n = usize::from(banks);
+    n * ROW_CELLS <= plan.neighbours.len()
+        && n <= plan.degrees.len()
+        && n <= plan.waves.len()
+        && n * COUNT_CELLS <= plan.counts.len()
+        && n <= plan.ranks.len()
 }

@@ -23,12 +23,11 @@ fn change_neighbour(
     requires { NeighbourReady kind neighbours.old degrees.old b.0 v.0 }
     ensures { NeighbourChanged kind neighbours.old degrees.old neighbours.new degrees.new b.0 v.0 result }
 {
-    let at = b.0 as usize;
+    let at = usize::from(b.0);
     let start = at * ROW_CELLS;
     let end = start + ROW_CELLS;
     let degree = degrees[at];
-    let next = change_row(kind, &mut neighbours[start..end], degree, v);
-    degrees[at] = next;
+    degrees[at] = change_row(kind, &mut neighbours[start..end], degree, v);
     degree
 }
 

@@ -1,38 +1,24 @@
 // The call open, and opening for a pass over edits.
 ghost use Rattle.memory.specs.Plan.{slices_of};
-ghost use Rattle.std.specs.Prelude.{◌≡◌, ◌++◌, ◌≤◌, min, length, drop, replicate};
+ghost use Rattle.std.specs.Prelude.{◌≡◌, ◌++◌, ◌≤◌, length, drop, replicate};
 ghost use Rattle.memory.specs.Lent.{given};
+ghost use Rattle.rule.specs.Refusals.{number_in, value_or};
 ghost use Rattle.planner.specs.Calls.{open_result, opened};
 ghost use Rattle.planner.specs.inner.Held.{OpensAll, room_number};
 
-use memory::{Tally, long_enough};
-use planner::Opened;
-use rule::{COUNT_CELLS, MOST_BANKS, MOST_WAVES, ROW_CELLS, UNUSED, wide};
+use memory::{PlanMemory, Tally, long_enough};
+use rule::{COUNT_CELLS, MOST_BANKS, MOST_WAVES, ROW_CELLS, Refusal, UNUSED};
 
 // Sets the first n cells.
 fn fill(cells: &mut [u16], n: usize, x: u16)
     requires { n ≤ length cells.old }
     ensures { cells.new ≡ replicate n x ++ drop n cells.old }
 {
-    let mut i = 0;
-    while i < n {
-        cells[i] = x;
-        i += 1;
-    }
-}
-
-// The number of waves where no bank clashes.
-fn first_waves(banks: u16) -> u16
-    ensures { result ≡ min 1 banks }
-{
-    if banks == 0 {
-        return 0;
-    }
-    1
+    cells[..n].fill(x);
 }
 
 // The call open with the tally by value: the core of `open`, for programs and for the layers above. Opens a plan of `banks` banks with no
-// clash, or changes nothing and gives the number of the first no.
+// clash, or changes nothing and gives the refusal of the first no.
 pub fn open_core(
     neighbours: &mut [u16],
     degrees: &mut [u16],
@@ -41,54 +27,50 @@ pub fn open_core(
     ranks: &mut [u16],
     banks: u16,
     tally: Tally,
-) -> Opened
-    ensures { open_result result.number (slices_of neighbours.new degrees.new waves.new counts.new ranks.new) result.tally
+) -> Result<Tally, Refusal>
+    ensures { open_result (number_in result) (slices_of neighbours.new degrees.new waves.new counts.new ranks.new) (value_or result tally)
         ≡ opened banks (slices_of neighbours.old degrees.old waves.old counts.old ranks.old) tally }
 {
-    let n = wide(banks);
+    let n = usize::from(banks);
     if MOST_BANKS < n {
-        return Opened {
-            number: 1,
-            tally: tally,
-        };
+        return Err(Refusal::ManyBanks);
     }
-    if !long_enough(neighbours, degrees, waves, counts, ranks, banks) {
-        return Opened {
-            number: 2,
-            tally: tally,
-        };
+    let plan = PlanMemory {
+        neighbours,
+        degrees,
+        waves,
+        counts,
+        ranks,
+        tally,
+    };
+    if !long_enough(plan, banks) {
+        return Err(Refusal::ShortMemory);
     }
     fill(neighbours, n * ROW_CELLS, UNUSED);
     fill(degrees, n, 0);
     fill(waves, n, 0);
     fill(counts, n * COUNT_CELLS, 0);
     fill(ranks, n, 0);
-    Opened {
-        number: 0,
-        tally: Tally {
-            banks: banks,
-            clashes: 0,
-            waves: first_waves(banks),
-            cap: MOST_WAVES,
-        },
-    }
+    Ok(Tally {
+        banks,
+        clashes: 0,
+        waves: banks.min(1),
+        cap: MOST_WAVES,
+    })
 }
 
-// Questions 3 and 4, the latter for the trail and moved slices only: their number, or 0.
-fn room_number(banks: u16, trail: usize, moved: usize) -> u16
-    ensures { result ≡ room_number banks trail moved }
+// Questions 3 and 4, the latter for the trail and moved slices only.
+fn check_room(banks: u16, trail: usize, moved: usize) -> Result<(), Refusal>
+    ensures { number_in result ≡ room_number banks trail moved }
 {
-    let n = wide(banks);
+    let n = usize::from(banks);
     if MOST_BANKS < n {
-        return 1;
+        return Err(Refusal::ManyBanks);
     }
-    if trail < n {
-        return 2;
+    if trail < n || moved < n {
+        return Err(Refusal::ShortMemory);
     }
-    if moved < n {
-        return 2;
-    }
-    0
+    Ok(())
 }
 
 // Opens a plan of `banks` banks for a list or a journal: question 4 is asked for the trail and moved slices too.
@@ -102,17 +84,11 @@ pub fn open_all(
     moved: &[u16],
     banks: u16,
     tally: Tally,
-) -> Opened
+) -> Result<Tally, Refusal>
     ensures { OpensAll banks
         (given neighbours.old degrees.old waves.old counts.old ranks.old trail.now moved.now tally) result
-        (given neighbours.new degrees.new waves.new counts.new ranks.new trail.now moved.now result.tally) }
+        (given neighbours.new degrees.new waves.new counts.new ranks.new trail.now moved.now (value_or result tally)) }
 {
-    let number = room_number(banks, trail.len(), moved.len());
-    if number != 0 {
-        return Opened {
-            number: number,
-            tally: tally,
-        };
-    }
+    check_room(banks, trail.len(), moved.len())?;
     open_core(neighbours, degrees, waves, counts, ranks, banks, tally)
 }

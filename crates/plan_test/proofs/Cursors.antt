@@ -12,14 +12,15 @@ use native.Mathlib.Omega.{arith}
 use lib.Dec.{T, eqb, eqb→eq}
 use lib.ListN.{length, get_or, take, set, length-append, length-set, length-take, replicate, length-replicate, get_or-replicate, get_or-append}
 use lib.Seq.{get_or-take, get_or-set_same, get_or-set_other, get_or_at, length-take-le}
+use Rattle.std.specs.Prelude.{IsTrue, ◌↔◌}
 use Rattle.rule.specs.Lists.{upto, filter, memb}
 use Rattle.rule.specs.Graph.{neighbours}
 use Rattle.rule.proofs.Booleans.{or_l, or_r, or_cases, passes?, test_ext, t_along, eq→eqb, is_true, is_false, lt_or_ge}
 use Rattle.rule.proofs.Lists.{in_upto, upto_below, in_filter, filter_in, filter_cong, filter_kept, filter_left}
 use Rattle.rule.proofs.Neighbours.{degree_length}
 use Rattle.memory.specs.inner.Counts.{by_cells, Countable, grown}
-use Rattle.memory.specs.inner.Test.{Says, row, part, Rows, WavesSmall, Symmetric, PartRight, CellsRight, counts_of, CountsRight}
-use Rattle.plan_test.specs.inner.Walk.{pair_cell, Pairable, naming, PartTo, Seen, Walk, OrNot}
+use Rattle.memory.specs.inner.Test.{row, part, Rows, WavesSmall, Symmetric, PartRight, CellsRight, counts_of, CountsRight}
+use Rattle.plan_test.specs.inner.Walk.{pair_cell, Pairable, naming, PartTo, Seen, Walk}
 use Rattle.memory.proofs.Fronts.{take_next, get_d_any, in_cell, cell_of, memb_snoc}
 use Rattle.memory.proofs.Rows.{group_at, in_rows, long_row, larger, filled_members, degree_is, cells_are, rows_countable}
 use Rattle.memory.proofs.Tallies.{count_none, count_few, skipped, counted, cells_flip, part_of_zeros, part_grown, part_same}
@@ -406,14 +407,8 @@ module _ {ns ds rs ws cs cl : List ℕ} {n b : ℕ} (l : n ≤ b) (s : Seen ns d
   cell_is : (x c : ℕ) → x < n → c < 24 → get_or (part cl x) c 0 ≡ counts_of ns ds rs ws x c
   cell_is x c h k = (s.done x (omega arith)).counts c k
 
-  pub seen_end : (counts : List ℕ) (r : Bool) → Says (CellsRight ws cl counts n) r → Says (Symmetric ns n × CountsRight ns ds rs ws counts n) r
-  seen_end counts true t = (λ x y hx hy m. s.met x y (omega arith) hy m, λ x h. part_along (λ c k. cell_is x c h k) (s.ground.waves.small x h) (t x h))
-  seen_end counts false t = λ p. t (λ x h. part_along (λ c k. sym (cell_is x c h k)) (s.ground.waves.small x h) (p.1 x h))
-
--- the answer, as the code tests it
-module _ (state : Type 0) (ns : List ℕ) (n : ℕ) (q : Bool) (h : OrNot state ns n q) where
-  pub goes_on : q ≡ true → state
-  goes_on e = subst (λ (z : Bool). OrNot state ns n z) e h
-
-  pub is_not : q ≡ false → Symmetric ns n → ⊥
-  is_not e = subst (λ (z : Bool). OrNot state ns n z) e h
+  pub seen_end : (counts : List ℕ) (r : Bool) → (IsTrue r ↔ CellsRight ws cl counts n) → IsTrue r ↔ (Symmetric ns n × CountsRight ns ds rs ws counts n)
+  seen_end counts r t = (
+    λ e. (λ x y hx hy m. s.met x y (omega arith) hy m, λ x h. part_along (λ c k. cell_is x c h k) (s.ground.waves.small x h) (t.0 e x h)),
+    λ p. t.1 (λ x h. part_along (λ c k. sym (cell_is x c h k)) (s.ground.waves.small x h) (p.1 x h)),
+  )

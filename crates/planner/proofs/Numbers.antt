@@ -185,10 +185,14 @@ module _ (da db : ℕ) where
 pub number_plan : (s : Slices) (t : Tally) → plan_number s t ≡ 0 → PlanOf (graph_in t.banks s) s t
 number_plan s t e = let p = plan_passed s t e in holds_plan-law s t p.most (t_along (sym p.plan) tt)
 
-pub number_ready : (m : Memory) → m.tally.banks ≤ length m.trail → m.tally.banks ≤ length m.moved → plan_number m.slices m.tally ≡ 0
+pub plan_ready : (m : Memory) → m.tally.banks ≤ length m.trail → m.tally.banks ≤ length m.moved → PlanOf (graph_in m.tally.banks m.slices) m.slices m.tally
     → Ready (graph_in m.tally.banks m.slices) m
 unfolding graph_in
-number_ready m t v e = record { plan = number_plan m.slices m.tally e; trail_room = t; moved_room = v }
+plan_ready m t v p = record { plan = p; trail_room = t; moved_room = v }
+
+pub number_ready : (m : Memory) → m.tally.banks ≤ length m.trail → m.tally.banks ≤ length m.moved → plan_number m.slices m.tally ≡ 0
+    → Ready (graph_in m.tally.banks m.slices) m
+number_ready m t v e = plan_ready m t v (number_plan m.slices m.tally e)
 
 -- and memory that holds a plan passes them
 pub held_number : (G : Graph) (s : Slices) (t : Tally) → PlanOf G s t → T (cap_fits t) → plan_number s t ≡ 0

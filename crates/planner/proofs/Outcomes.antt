@@ -9,7 +9,7 @@ use Rattle.rule.specs.Graph.{Graph, degree}
 use Rattle.rule.specs.WorkList.{Allowed}
 use borrow.Author.Tests.{ltb-true, eqb-false, not-true}
 use Rattle.planner.specs.Questions.{first_no}
-use Rattle.rule.specs.Reach.{edited, trail, moved}
+use Rattle.rule.specs.Reach.{edited}
 use Rattle.rule.specs.declared.Kind.{Kind}
 use Rattle.rule.specs.declared.Kind.TheVariants.{Adding, Striking}
 use Rattle.memory.specs.declared.Tally.{Tally}

@@ -10,7 +10,6 @@ use lib.ListN.{length, get_or, set, length-set}
 use lib.Seq.{get_or-set_same, get_or-set_other}
 use borrow.Author.Tests.{eq-eqb, ne_eqb, lt-ltb, le-ltb, not-true, ltb-true}
 use Rattle.rule.specs.Graph.{Graph, neighbours, degree, ranked}
-use Rattle.rule.specs.Wave.{waves}
 use Rattle.rule.specs.declared.Bank.{Bank}
 use Rattle.rule.specs.declared.Kind.{Kind}
 use Rattle.rule.specs.declared.Entry.{Entry}

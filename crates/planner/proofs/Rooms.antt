@@ -6,10 +6,13 @@ use native.Mathlib.Omega.{arith}
 use lib.Dec.{leb}
 use lib.ListN.{length}
 use borrow.Author.Tests.{le-leb, lt-leb, leb-true}
+use Rattle.std.specs.Prelude.{Result, Err}
+use Rattle.rule.specs.declared.refusal.Refusal.{Refusal}
+use Rattle.rule.specs.Refusals.{number_of, number_in, value_or}
+use Rattle.rule.proofs.Refusals.{refused_some}
 use Rattle.memory.specs.declared.Tally.{Tally}
 use Rattle.memory.specs.Plan.{Slices, long_enough}
 use Rattle.memory.specs.Memory.{Memory}
-use Rattle.planner.specs.declared.Opened.{Opened}
 use Rattle.planner.specs.Questions.{first_no}
 use Rattle.planner.specs.Calls.{OpenResult, open_result, all_long, open_number, opened_by, opened}
 use Rattle.planner.specs.States.{begin, begin_number}
@@ -84,12 +87,11 @@ after m p = record { slices = p.slices; tally = p.tally; trail = m.trail; moved 
 
 module _ (n : ℕ) (m : Memory) where
   -- trail or moved is too short, or there are too many banks
-  pub room_refused : (r : Opened) → r.number ≡ room_number n (length m.trail) (length m.moved) → (r.number ≡ 0 → ⊥) → r.tally ≡ m.tally
-      → OpensAll n m r (after m (open_result r.number m.slices r.tally))
-  room_refused r e z t = record {
-    number = e ∙ sym (number_no n m (λ q. z (e ∙ q)));
-    refused = λ f. ap (λ (x : Tally). after m (open_result r.number m.slices x)) t;
-    opened = λ q. absurd (z q);
+  pub room_refused : (r : Refusal) → number_of r ≡ room_number n (length m.trail) (length m.moved) → OpensAll n m (Err r) m
+  room_refused r e = record {
+    number = e ∙ sym (number_no n m (λ q. refused_some r (e ∙ q)));
+    refused = λ f. refl;
+    opened = λ q. absurd (refused_some r q);
   }
 
   by_opening : (k : ℕ) (p : OpenResult) → p ≡ opened_by k n m.slices m.tally
@@ -99,14 +101,15 @@ module _ (n : ℕ) (m : Memory) where
   by_opening (suc c) p q = (ap (λ (x : OpenResult). x.number) q, λ f. ap (after m) q, λ z. absurd (omega arith))
 
   -- they are long enough: what opening the five plan slices does
-  pub room_opened : (k : ℕ) → k ≡ room_number n (length m.trail) (length m.moved) → k ≡ 0 → (r : Opened) (s' : Slices)
-      → open_result r.number s' r.tally ≡ opened n m.slices m.tally → OpensAll n m r (after m (open_result r.number s' r.tally))
+  pub room_opened : 0 ≡ room_number n (length m.trail) (length m.moved) → (r : Result Tally Refusal) (s' : Slices)
+      → open_result (number_in r) s' (value_or r m.tally) ≡ opened n m.slices m.tally
+      → OpensAll n m r (after m (open_result (number_in r) s' (value_or r m.tally)))
   unfolding opened begin
-  room_opened k room none r s' o =
-      let b = by_opening (open_number n m.slices) (open_result r.number s' r.tally) o in
-      let p = room_yes n (length m.trail) (length m.moved) (sym room ∙ none) in
+  room_opened room r s' o =
+      let b = by_opening (open_number n m.slices) (open_result (number_in r) s' (value_or r m.tally)) o in
+      let p = room_yes n (length m.trail) (length m.moved) (sym room) in
       record {
-        number = b.0 ∙ sym (number_rest n m (sym room ∙ none));
+        number = b.0 ∙ sym (number_rest n m (sym room));
         refused = λ f. b.1 (λ q. f (b.0 ∙ q));
         opened = λ q. record {
           memory = b.2 (sym b.0 ∙ q);

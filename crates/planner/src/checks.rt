@@ -1,85 +1,59 @@
-// The questions about lent memory: 3, 4, 5 and 7. Each function answers 0, or the number of the first no.
-ghost use Rattle.memory.specs.Plan.{slices_of};
-ghost use Rattle.std.specs.Prelude.{◌≡◌, ◌<◌};
-ghost use Rattle.memory.specs.Lent.{given};
+// The questions about lent memory: 3, 4, 5 and 7. Each function gives the refusal of the first no.
+ghost use Rattle.memory.specs.Lent.{slices_in};
+ghost use Rattle.memory.specs.Memory.{memory_of};
+ghost use Rattle.rule.specs.Refusals.{number_in};
+ghost use Rattle.std.specs.Prelude.{◌≡◌, ◌<◌, IfOk};
 ghost use Rattle.planner.specs.Calls.{plan_number, bank_number, memory_number};
 ghost use Rattle.planner.specs.inner.Held.{PlanIn, ReadyIn};
 
-use memory::{Tally, long_enough};
+use memory::{PlanMemory, long_enough};
 use plan_test::holds_plan;
-use rule::{Bank, MOST_BANKS, wide};
+use rule::{Bank, MOST_BANKS, Refusal};
 
 // Questions 3 to 5 of a call that only reads.
-pub fn check_plan(
-    neighbours: &[u16],
-    degrees: &[u16],
-    waves: &[u16],
-    counts: &[u16],
-    ranks: &[u16],
-    tally: Tally,
-) -> u16
-    ensures number { result ≡ plan_number (slices_of neighbours.now degrees.now waves.now counts.now ranks.now) tally }
-    ensures plan { result ≡ 0 → PlanIn (slices_of neighbours.now degrees.now waves.now counts.now ranks.now) tally }
+pub fn check_plan(plan: PlanMemory) -> Result<(), Refusal>
+    ensures number { number_in result ≡ plan_number (slices_in plan.entry) plan.entry.tally }
+    ensures plan { IfOk result (λ _. PlanIn (slices_in plan.entry) plan.entry.tally) }
 {
-    let banks = tally.banks;
-    if MOST_BANKS < wide(banks) {
-        return 1;
+    let banks = plan.tally.banks;
+    if MOST_BANKS < banks as usize {
+        return Err(Refusal::ManyBanks);
     }
-    if !long_enough(neighbours, degrees, waves, counts, ranks, banks) {
-        return 2;
+    if !long_enough(plan, banks) {
+        return Err(Refusal::ShortMemory);
     }
-    if !holds_plan(neighbours, degrees, waves, counts, ranks, tally) {
-        return 3;
+    if !holds_plan(plan) {
+        return Err(Refusal::NoPlan);
     }
-    0
+    Ok(())
 }
 
 // Questions 3 to 5 and 7 of a call that reads one bank.
-pub fn check_bank(
-    neighbours: &[u16],
-    degrees: &[u16],
-    waves: &[u16],
-    counts: &[u16],
-    ranks: &[u16],
-    tally: Tally,
-    b: Bank,
-) -> u16
-    ensures number { result ≡ bank_number b.0 (slices_of neighbours.now degrees.now waves.now counts.now ranks.now) tally }
-    ensures plan { result ≡ 0 → PlanIn (slices_of neighbours.now degrees.now waves.now counts.now ranks.now) tally × (b.0 < tally.banks) }
+pub fn check_bank(plan: PlanMemory, b: Bank) -> Result<(), Refusal>
+    ensures number { number_in result ≡ bank_number b.0 (slices_in plan.entry) plan.entry.tally }
+    ensures plan { IfOk result (λ _. PlanIn (slices_in plan.entry) plan.entry.tally × (b.0 < plan.entry.tally.banks)) }
 {
-    let number = check_plan(neighbours, degrees, waves, counts, ranks, tally);
-    if number != 0 {
-        return number;
+    check_plan(plan)?;
+    if plan.tally.banks <= b.0 {
+        return Err(Refusal::FarBank);
     }
-    if tally.banks <= b.0 {
-        return 4;
-    }
-    0
+    Ok(())
 }
 
 // Questions 3 to 5 of an edit, which uses the trail and moved slices too.
-pub fn check_memory(
-    neighbours: &[u16],
-    degrees: &[u16],
-    waves: &[u16],
-    counts: &[u16],
-    ranks: &[u16],
-    trail: &[u16],
-    moved: &[u16],
-    tally: Tally,
-) -> u16
-    ensures number { result ≡ memory_number (given neighbours.now degrees.now waves.now counts.now ranks.now trail.now moved.now tally) }
-    ensures ready { result ≡ 0 → ReadyIn (given neighbours.now degrees.now waves.now counts.now ranks.now trail.now moved.now tally) }
+pub fn check_memory(plan: PlanMemory, trail: &[u16], moved: &[u16]) -> Result<(), Refusal>
+    ensures number { number_in result ≡ memory_number (memory_of (slices_in plan.entry) trail.now moved.now plan.entry.tally) }
+    ensures ready { IfOk result (λ _. ReadyIn (memory_of (slices_in plan.entry) trail.now moved.now plan.entry.tally)) }
 {
-    let n = wide(tally.banks);
+    let n = plan.tally.banks as usize;
     if MOST_BANKS < n {
-        return 1;
+        return Err(Refusal::ManyBanks);
     }
     if trail.len() < n {
-        return 2;
+        return Err(Refusal::ShortMemory);
     }
     if moved.len() < n {
-        return 2;
+        return Err(Refusal::ShortMemory);
     }
-    check_plan(neighbours, degrees, waves, counts, ranks, tally)
+    check_plan(plan)
 }

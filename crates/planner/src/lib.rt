@@ -22,17 +22,3 @@ pub struct Edited {
     pub answer: Answer,
     pub tally: memory::Tally,
 }
-
-// What opening leaves beside its slices.
-#[derive(Clone, Copy)]
-pub struct Opened {
-    pub number: u16,
-    pub tally: memory::Tally,
-}
-
-// The answer of wave_of.
-#[derive(Clone, Copy)]
-pub struct Found {
-    pub number: u16,
-    pub wave: rule::Wave,
-}

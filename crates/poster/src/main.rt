@@ -1,8 +1,9 @@
 // Reads a list from standard input, and writes its poster or its refusal to standard output.
 #![tactic(auto)]
 
-use list_program::{Text, run};
+use list_program::run;
+use poster_writer::write_poster;
 
 fn main(rt: HostRuntime) {
-    run(&rt, Text::Poster);
+    run(&rt, |plan, out| write_poster(plan, out));
 }

@@ -6,39 +6,22 @@ ghost use Rattle.poster_lines.specs.Poster.{right_aligned};
 
 use rule::Bank;
 use text::{put_byte, put_number};
+use wave_lines::digits;
 
 // The characters of a line, before its line feed.
 const LINE_CHARACTERS: usize = 40;
+
+// The columns of a bank.
+const COLUMNS: usize = 5;
 
 // Spaces.
 fn put_spaces(out: &mut [u8], at: usize, count: usize) -> usize
     requires { at + count ≤ length out.old }
     ensures { Puts (replicate count 32) at out.old result out.new }
 {
-    let mut next = at;
-    let mut i = 0;
-    while i < count {
-        next = put_byte(out, next, b' ');
-        i += 1;
-    }
+    let next = at + count;
+    out[at..next].fill(b' ');
     next
-}
-
-// The columns before the digits of a bank.
-fn columns_before(b: Bank) -> usize
-    requires { b.0 < 1024 }
-    ensures { result ≡ 5 - length (decimal b.0) }
-{
-    if b.0 < 10 {
-        return 4;
-    }
-    if b.0 < 100 {
-        return 3;
-    }
-    if b.0 < 1000 {
-        return 2;
-    }
-    1
 }
 
 // A bank, right-aligned in five columns.
@@ -46,8 +29,8 @@ pub fn put_aligned(out: &mut [u8], at: usize, b: Bank) -> usize
     requires { (b.0 < 1024) × (at + 5 ≤ length out.old) }
     ensures { Puts (right_aligned b.0) at out.old result out.new }
 {
-    let digits = put_spaces(out, at, columns_before(b));
-    put_number(out, digits, b.0)
+    let number = put_spaces(out, at, COLUMNS - digits(b.0));
+    put_number(out, number, b.0)
 }
 
 // The end of a line that has `used` characters: spaces to 40, and a line feed.

@@ -22,10 +22,8 @@ fn put_banks(out: &mut [u8], at: usize, banks: &[u16]) -> usize
     ensures { Puts (joined (map right_aligned banks.now)) at out.old result out.new }
 {
     let mut next = at;
-    let mut i = 0;
-    while i < banks.len() {
-        next = put_aligned(out, next, Bank(banks[i]));
-        i += 1;
+    for b in banks {
+        next = put_aligned(out, next, Bank(*b));
     }
     next
 }
@@ -46,22 +44,7 @@ fn mark_of(c: Wave, i: usize) -> u8
     requires { c.0 < 24 }
     ensures { result ≡ mark_at (get_or letters c.0 0) i }
 {
-    if i == 0 {
-        return letter(c);
-    }
-    b' '
-}
-
-// Where the banks of a line end that start at `from`.
-fn line_end(from: usize, banks: usize) -> usize
-    requires { (from < banks) × (banks ≤ 1024) }
-    ensures { result ≡ min (from + 7) banks }
-{
-    let to = from + LINE_BANKS;
-    if to < banks {
-        return to;
-    }
-    banks
+    if i == 0 { letter(c) } else { b' ' }
 }
 
 // Line i of wave c with these banks.
@@ -74,7 +57,7 @@ fn put_line_at(out: &mut [u8], at: usize, c: Wave, banks: &[u16], i: usize) -> u
     ensures { Puts (get_or (lines_with c.0 banks.now) i []) at out.old result out.new }
 {
     let from = LINE_BANKS * i;
-    let to = line_end(from, banks.len());
+    let to = (from + LINE_BANKS).min(banks.len());
     put_line(out, at, mark_of(c, i), &banks[from..to])
 }
 
@@ -94,12 +77,9 @@ pub fn put_wave(out: &mut [u8], at: usize, c: Wave, banks: &[u16]) -> usize
         × Room (joined (lines_with c.0 banks.now)) at out.old }
     ensures { Puts (joined (lines_with c.0 banks.now)) at out.old result out.new }
 {
-    let lines = lines_for(banks.len());
     let mut next = at;
-    let mut i = 0;
-    while i < lines {
+    for i in 0..lines_for(banks.len()) {
         next = put_line_at(out, next, c, banks, i);
-        i += 1;
     }
     next
 }
@@ -119,10 +99,8 @@ pub fn put_blank_lines(out: &mut [u8], at: usize, count: usize) -> usize
     ensures { Puts (joined (replicate count (padded []))) at out.old result out.new }
 {
     let mut next = at;
-    let mut i = 0;
-    while i < count {
+    for _line in 0..count {
         next = put_end(out, next, 0);
-        i += 1;
     }
     next
 }

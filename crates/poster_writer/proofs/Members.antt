@@ -2,7 +2,7 @@
 use mathlib.Core.Bool.{Bool, true, false, cond}
 use mathlib.Core.List.{List, [], ◌∷◌}
 use mathlib.Core.Path.{◌≡◌, ap, ◌∙◌}
-use Prim.Native.Nat.{ℕ, ◌+◌, ◌-◌, ◌≤◌, ◌<◌}
+use Prim.Native.Nat.{ℕ, ◌+◌, ◌≤◌, ◌<◌}
 use native.Mathlib.Omega.{arith}
 use lib.Dec.{eqb}
 use lib.ListN.{length, take, drop}
@@ -33,8 +33,8 @@ members_small ws c n h b m =
     omega arith
 
 -- what was put at the front of a longer slice
-pub gathered : (members banks : List ℕ) (r : ℕ) (banks' : List ℕ) → Puts members 0 banks r banks' → take (r - 0) (drop 0 banks') ≡ members
+pub gathered : (members banks : List ℕ) (r : ℕ) (banks' : List ℕ) → Puts members 0 banks r banks' → take r banks' ≡ members
 unfolding put
 gathered members banks r banks' p =
-    let e : r - 0 ≡ length members = omega (arith, p.next) in
+    let e : r ≡ length members = omega (arith, p.next) in
     ap (λ (n : ℕ). take n banks') e ∙ ap (take (length members)) p.left ∙ take-append_seam members (drop (0 + length members) banks)

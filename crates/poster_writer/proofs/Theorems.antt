@@ -5,6 +5,7 @@ use mathlib.Core.Path.{◌≡◌, sym, ap, ap₂, ◌∙◌}
 use Prim.Native.Nat.{ℕ, ◌+◌, ◌*◌, ◌/◌, ◌≤◌, ◌<◌}
 use lib.Dec.{T, ltb}
 use lib.ListN.{length, get_or, replicate}
+use Rattle.std.specs.Prelude.{Ok}
 use Rattle.rule.specs.Graph.{Graph}
 use Rattle.memory.specs.declared.Tally.{Tally}
 use Rattle.memory.specs.Cells.{over}
@@ -70,7 +71,7 @@ one_poster G H s t p q = ap (λ (ls : List (List ℕ)). joined (filled ls)) (sym
 
 -- 8. an output of 8,200 bytes is never too short: memory that holds the plan of G, under a cap that fits, gives its poster
 pub never_short : (G : Graph) (s : Slices) (t : Tally) (out : List ℕ) → PlanOf G s t → T (cap_fits t) → 8200 ≤ length out
-    → text_result (record { number = 0; length = length (poster G) }) (over (poster G) out) ≡ write_poster s t out
+    → text_result (Ok (length (poster G))) (over (poster G) out) ≡ write_poster s t out
 never_short = Writing.never_short poster 8200 poster_fits one_poster
 
 -- 9. the numbers read off the foot that the call wrote are the tally's

@@ -13,24 +13,21 @@ fn put_member(banks: &mut [u16], at: usize, w: Wave, c: Wave, b: Bank) -> usize
     requires { at < length banks.old }
     ensures { Puts (cond (eqb w.0 c.0) (b.0 ∷ []) []) at banks.old result banks.new }
 {
-    if w.0 != c.0 {
+    if w != c {
         return at;
     }
     banks[at] = b.0;
     at + 1
 }
 
-// The banks of wave c, ascending, of n banks in all, at the front of `banks`.
+// The banks of wave c, ascending, of n banks in all, at the front of `banks`. Over the bank numbers, which are what is put.
 fn gather(banks: &mut [u16], waves: &[u16], n: u16, c: Wave) -> usize
     requires { (n ≤ length waves.now) × (n ≤ length banks.old) }
     ensures { Puts (members_of waves.now c.0 n) 0 banks.old result banks.new }
 {
     let mut next = 0;
-    let mut b: u16 = 0;
-    while b < n {
-        let i = b as usize;
-        next = put_member(banks, next, Wave(waves[i]), c, Bank(b));
-        b += 1;
+    for b in 0..n {
+        next = put_member(banks, next, Wave(waves[usize::from(b)]), c, Bank(b));
     }
     next
 }
@@ -49,11 +46,10 @@ pub fn count_lines(waves: &[u16], n: u16, k: u16) -> usize
     requires { (n ≤ 1024) × (k ≤ 24) × (n ≤ length waves.now) }
     ensures { (result ≡ length (cell_lines waves.now n k)) × (result ≤ 147 * k) }
 {
+    // No `sum`: the bound of 147 lines a wave is kept by the loop.
     let mut lines = 0;
-    let mut c: u16 = 0;
-    while c < k {
+    for c in 0..k {
         lines += count_wave(waves, n, Wave(c));
-        c += 1;
     }
     lines
 }
@@ -65,7 +61,7 @@ fn put_wave_of(out: &mut [u8], at: usize, waves: &[u16], n: u16, c: Wave) -> usi
 {
     let mut banks = [0u16; MOST_BANKS];
     let count = gather(&mut banks, waves, n, c);
-    put_wave(out, at, c, &banks[0..count])
+    put_wave(out, at, c, &banks[..count])
 }
 
 // The lines of the first k waves, at the front.
@@ -74,10 +70,8 @@ pub fn put_waves(out: &mut [u8], waves: &[u16], n: u16, k: u16) -> usize
     ensures { Puts (poster_waves waves.now n k) 0 out.old result out.new }
 {
     let mut next = 0;
-    let mut c: u16 = 0;
-    while c < k {
+    for c in 0..k {
         next = put_wave_of(out, next, waves, n, Wave(c));
-        c += 1;
     }
     next
 }

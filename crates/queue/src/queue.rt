@@ -18,8 +18,8 @@ pub fn enqueue(queue: &mut [u64; WORDS], v: Bank, degree: u16, put: bool)
     ensures { (G : Graph) → Enqueuable G queue.old v.0 degree
         → Enqueued G queue.old queue.new v.0 put }
 {
-    let place = queue[PLACES + v.0 as usize] as usize;
-    let word = (MOST_CLASHES - degree) as usize * DEGREE_WORDS + place / WORD_BITS;
+    let place = queue[PLACES + usize::from(v.0)] as usize;
+    let word = usize::from(MOST_CLASHES - degree) * DEGREE_WORDS + place / WORD_BITS;
     set_bit(queue, word, place % WORD_BITS, put);
     set_bit(queue, BANK_WORDS + word / WORD_BITS, word % WORD_BITS, put);
 }
@@ -38,7 +38,7 @@ fn first_word(queue: &[u64; WORDS]) -> usize
 {
     let at = first_summary(queue);
     let marks = queue[at];
-    (at - BANK_WORDS) * WORD_BITS + u64::trailing_zeros(marks) as usize
+    (at - BANK_WORDS) * WORD_BITS + marks.trailing_zeros() as usize
 }
 
 // The place of the earliest bank, from the first word in which a bank waits. Where the places go by rank it is the lowest.
@@ -50,7 +50,7 @@ fn first_place(ranks: &[u16], queue: &[u64; WORDS], word: usize) -> usize
     if queue[BY_RANK] == 0 {
         return first_of_degree(ranks, queue, word);
     }
-    word % DEGREE_WORDS * WORD_BITS + u64::trailing_zeros(queue[word]) as usize
+    word % DEGREE_WORDS * WORD_BITS + queue[word].trailing_zeros() as usize
 }
 
 // Takes the earliest bank out of the queue, where some bank waits.

@@ -1,29 +1,19 @@
 // The first of the banks that wait in one degree, by rank and then by number, where the places are the banks' numbers.
-ghost use Rattle.std.specs.Prelude.{◌≡◌, ◌<◌, min, length};
+ghost use Rattle.std.specs.Prelude.{◌≡◌, ◌<◌, length};
 ghost use Rattle.rule.specs.Graph.{Graph};
 ghost use Rattle.queue.specs.Queue.{Unranked, Waiting};
 ghost use Rattle.queue.specs.inner.Words.{Head};
 ghost use Rattle.queue.specs.inner.Ties.{key_of, Candidates, Least, FirstOfDegree};
 
 use crate::words::{BANK_WORDS, DEGREE_MARKS, DEGREE_WORDS, WORD_BITS, WORDS};
-use rule::{MOST_BANKS, wide};
+use rule::MOST_BANKS;
 
 // The key of bank x: of two banks of one degree, the one with the smaller key comes first.
 fn key(ranks: &[u16], x: usize) -> usize
     requires { (x < 1024) × (x < length ranks.now) }
     ensures { result ≡ key_of ranks.now x }
 {
-    wide(ranks[x]) * MOST_BANKS + x
-}
-
-// The smaller of two keys.
-fn smaller(a: usize, b: usize) -> usize
-    ensures { result ≡ min a b }
-{
-    if b < a {
-        return b;
-    }
-    a
+    usize::from(ranks[x]) * MOST_BANKS + x
 }
 
 // The least of a key and those of the banks of a word.
@@ -33,10 +23,11 @@ fn least_in_word(ranks: &[u16], bits: u64, base: usize, so_far: usize) -> usize
 {
     let mut rest = bits;
     let mut least = so_far;
+    // A while: the bits are taken off, the lowest first.
     while rest != 0 {
-        let low = u64::trailing_zeros(rest) as usize;
-        least = smaller(least, key(ranks, base + low));
-        rest = rest & (rest - 1);
+        let low = rest.trailing_zeros() as usize;
+        least = least.min(key(ranks, base + low));
+        rest &= rest - 1;
     }
     least
 }
@@ -54,17 +45,18 @@ pub fn first_of_degree(ranks: &[u16], queue: &[u64; WORDS], word: usize) -> usiz
     let start = word / DEGREE_WORDS * DEGREE_WORDS;
     let mut least = key(
         ranks,
-        word % DEGREE_WORDS * WORD_BITS + u64::trailing_zeros(head) as usize,
+        word % DEGREE_WORDS * WORD_BITS + head.trailing_zeros() as usize,
     );
     let mut marks = (summary >> (start % WORD_BITS)) % DEGREE_MARKS;
+    // A while: the marks are taken off, the lowest first.
     while marks != 0 {
         if least < MOST_BANKS {
             return least;
         }
-        let i = u64::trailing_zeros(marks) as usize;
+        let i = marks.trailing_zeros() as usize;
         let bits = queue[start + i];
         least = least_in_word(ranks, bits, i * WORD_BITS, least);
-        marks = marks & (marks - 1);
+        marks &= marks - 1;
     }
     least % MOST_BANKS
 }

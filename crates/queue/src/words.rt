@@ -30,34 +30,34 @@ pub const DEGREE_WORDS: usize = 16;
 // One more than what the summary can say of the words of a degree.
 pub const DEGREE_MARKS: u64 = 65536;
 
-// If `put`, sets bit `place` of a word. No branch: of a bank's neighbours about half are put.
+// If `put`, sets bit `place` of a word. No branch: of a bank's neighbours about half are put. Apart from `clear_bit`, since one function of both
+// would need to be told which is meant.
 pub fn set_bit(queue: &mut [u64; WORDS], word: usize, place: usize, put: bool)
     requires { HasBit queue.old word place }
     ensures { Written queue.old queue.new word place
         (test_bit (get_or queue.old word 0) place || put) }
 {
-    queue[word] = queue[word] | ((put as u64) << place);
+    queue[word] |= u64::from(put) << place;
 }
 
 // If `out`, clears bit `place` of a word, which is set.
 pub fn clear_bit(queue: &mut [u64; WORDS], word: usize, place: usize, out: bool)
     requires has_bit { HasBit queue.old word place }
-    requires t { T (test_bit (get_or queue.old word 0) place) }
+    requires is_set { T (test_bit (get_or queue.old word 0) place) }
     ensures { Written queue.old queue.new word place (not out) }
 {
-    queue[word] = queue[word] ^ ((out as u64) << place);
+    queue[word] ^= u64::from(out) << place;
 }
 
-// The first word of the summary that is not 0, or the number of words of bits.
+// The first word of the summary that is not 0, or the number of words of bits. No Option: a caller that knows that some bank waits would have to
+// take it apart.
 pub fn first_summary(queue: &[u64; WORDS]) -> usize
     ensures { First queue.now result }
 {
-    let mut i = BANK_WORDS;
-    while i < BIT_WORDS {
+    for i in BANK_WORDS..BIT_WORDS {
         if queue[i] != 0 {
             return i;
         }
-        i += 1;
     }
-    i
+    BIT_WORDS
 }

@@ -1,17 +1,17 @@
 -- The waves of a set, those that Counts tell, and the lowest that is in neither.
-use mathlib.Core.Bool.{Bool, true, false, not}
+use mathlib.Core.Bool.{not}
 use mathlib.Core.List.{List, [], ◌∷◌, map}
 use mathlib.Core.Logic.{inl, inr}
-use mathlib.Core.Path.{◌≡◌, refl, sym, ap, ◌∙◌}
+use mathlib.Core.Path.{◌≡◌, refl, ap, ◌∙◌}
 use Prim.Native.Nat.{ℕ, ◌+◌, ◌*◌, ◌-◌, ◌≤◌, ◌<◌}
 use native.Mathlib.Omega.{arith}
-use lib.Dec.{T, eqb, ltb, lt→ltb, ltb→lt, eqb→eq}
+use lib.Dec.{T, eqb, ltb, lt→ltb, ltb→lt}
 use lib.ListN.{length, get_or, set, take, drop, length-take, length-drop}
-use lib.Seq.{get_or-take, get_or-drop, set-get_or}
+use lib.Seq.{get_or-take, get_or-drop}
 use Rattle.rule.specs.Lists.{memb, upto}
 use Rattle.rule.specs.Graph.{Graph, earlier_neighbours}
 use Rattle.rule.specs.Wave.{lowest_free}
-use Rattle.rule.proofs.Booleans.{test_ext, is_true, is_false, eq→eqb}
+use Rattle.rule.proofs.Booleans.{test_ext}
 use Rattle.rule.proofs.Lists.{in_head, in_tail, in_cons, in_none, in_upto, upto_below, in_filter, filter_in}
 use Rattle.rule.proofs.Waves.{earlier_neighbours_in}
 use Rattle.memory.proofs.Standing.{standing_pos, pos_standing}
@@ -71,18 +71,5 @@ module _ (G : Graph) (ws cs : List ℕ) (b : ℕ) (within : b * 24 + 24 ≤ leng
   }
 
 -- b has the lowest already, or gets it
-module _ (cells ws : List ℕ) (b : ℕ) {w : ℕ} (lowest : w ≡ lowest_free (waves_in cells)) where
-  abbrev same? : Bool
-  same? = eqb (get_or ws b 0) (lowest_free (waves_in cells))
-
-  pub keeps : get_or ws b 0 ≡ w → Assigns cells ws ws b false
-  keeps same = record {
-    stored = sym (ap (set ws b) (sym (same ∙ lowest)) ∙ set-get_or ws b 0);
-    says = sym (ap not (is_true same? (eq→eqb (get_or ws b 0) (lowest_free (waves_in cells)) (same ∙ lowest))));
-  }
-
-  pub gets : (get_or ws b 0 ≡ w → ⊥) → Assigns cells ws (set ws b w) b true
-  gets other = record {
-    stored = ap (set ws b) lowest;
-    says = sym (ap not (is_false same? (λ t. other (eqb→eq (get_or ws b 0) (lowest_free (waves_in cells)) t ∙ sym lowest))));
-  }
+pub assigns : (cells ws : List ℕ) (b : ℕ) {w : ℕ} → w ≡ lowest_free (waves_in cells) → Assigns cells ws (set ws b w) b (not (eqb (get_or ws b 0) w))
+assigns _ ws b lowest = record { stored = ap (set ws b) lowest; says = ap (λ (z : ℕ). not (eqb (get_or ws b 0) z)) lowest }

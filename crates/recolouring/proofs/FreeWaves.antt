@@ -62,8 +62,8 @@ module _ {cells : List ℕ} {free c : ℕ} (so_far : FreeBits cells free c) (nar
       record { fits = more_fits put; bits = below_more _ _ (λ i l. more_below put i l ∙ so_far.bits i l) (more_own put) }
 
 -- a walk that has ended has passed all
-pub all_cells : {cells : List ℕ} {free c : ℕ} → (c ≤ 24) × FreeBits cells free c → 24 ≤ c → FreeBits cells free 24
-all_cells {cells} {free} {c} so_far end = let e : c ≡ 24 = omega (arith, so_far.0) in subst (FreeBits cells free) e so_far.1
+pub all_cells : {cells : List ℕ} {free c : ℕ} → FreeBits cells free c → c ≡ 24 → FreeBits cells free 24
+all_cells {cells} {free} {c} so_far e = subst (FreeBits cells free) e so_far
 
 -- the lowest of the 24 bits is the lowest free wave
 module _ {cells : List ℕ} {free : ℕ} (all : FreeBits cells free 24) (small : lowest_free (waves_in cells) < 24) where

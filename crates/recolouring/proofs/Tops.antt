@@ -1,5 +1,5 @@
 -- The highest wave in use: at the start of an edit, after a step, and at its end.
-use mathlib.Core.Bool.{true, false}
+use mathlib.Core.Bool.{false}
 use mathlib.Core.List.{List}
 use mathlib.Core.Logic.{inl, inr, ◌≢◌}
 use mathlib.Core.Path.{◌≡◌, sym, ap, ◌∙◌}
@@ -9,7 +9,7 @@ use native.Mathlib.Numerals.{add-one}
 use native.Mathlib.Omega.{arith}
 use lib.ListN.{length, get_or, set}
 use lib.Seq.{get_or-set_same, get_or-set_other}
-use Rattle.rule.proofs.Booleans.{t_along, lt_or_ge}
+use Rattle.rule.proofs.Booleans.{lt_or_ge}
 use Rattle.memory.specs.inner.Counts.{most_of}
 use Rattle.memory.proofs.Sums.{most_none, most_next}
 use Rattle.recolouring.specs.declared.highest.Highest.{Highest}
@@ -71,16 +71,3 @@ module _ {n b : ℕ} {ws : List ℕ} {top : Highest} (bank : b < n) (wide : n �
   -- to the highest, or above it
   pub top_came : top.most ≤ w + 1 → Top n (set ws b w) (record { most = w + 1; left = false })
   top_came l = record { below = below_after (w + 1) (omega arith) l; there = λ _. (b, (bank, ap (λ (k : ℕ). k + 1) at_b)) }
-
-  -- from the highest to a lower one
-  pub top_left : w + 1 < top.most → Top n (set ws b w) (record { most = top.most; left = true })
-  top_left l = record { below = below_after top.most (omega arith) (omega arith); there = λ e. absurd (t_along e tt) }
-
-  -- from a lower one to a lower one
-  pub top_kept : w + 1 < top.most → get_or ws b 0 + 1 ≢ top.most → Top n (set ws b w) top
-  top_kept l d = record {
-    below = below_after top.most (omega arith) (omega arith);
-    there = λ e.
-        let one = tp.there e in
-        (one.0, (one.1.0, omega (arith, one.1.1, at_other one.0 (λ f. d (ap (λ (k : ℕ). get_or ws k 0 + 1) (sym f) ∙ one.1.1)))));
-  }

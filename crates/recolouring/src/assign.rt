@@ -3,7 +3,7 @@ ghost use Rattle.std.specs.Prelude.{◌≡◌, ◌<◌, length};
 ghost use Rattle.rule.specs.Wave.{lowest_free};
 ghost use Rattle.recolouring.specs.Recolouring.{waves_in, Assigns};
 
-use rule::{Bank, COUNT_CELLS, Wave};
+use rule::{Bank, Wave};
 
 // The lowest wave that was not collected. One of the 24 was not. Each of the 24 is a bit, so that no branch depends on which it is.
 fn lowest_free(colours: &[u16]) -> Wave
@@ -12,12 +12,10 @@ fn lowest_free(colours: &[u16]) -> Wave
     ensures { result.0 ≡ lowest_free (waves_in colours.now) }
 {
     let mut free: u32 = 0;
-    let mut c = 0;
-    while c < COUNT_CELLS {
-        free = free | (((colours[c] == 0) as u32) << c);
-        c += 1;
+    for (c, count) in colours.iter().enumerate() {
+        free |= u32::from(*count == 0) << c;
     }
-    Wave(u32::trailing_zeros(free) as u16)
+    Wave(free.trailing_zeros() as u16)
 }
 
 // Gives b the lowest wave that was not collected. Answers whether b had another one.
@@ -28,10 +26,8 @@ pub fn assign_colour(waves: &mut [u16], b: Bank, colours: &[u16]) -> bool
     ensures { Assigns colours.now waves.old waves.new b.0 result }
 {
     let new = lowest_free(colours);
-    let at = b.0 as usize;
-    if waves[at] == new.0 {
-        return false;
-    }
+    let at = usize::from(b.0);
+    let changed = waves[at] != new.0;
     waves[at] = new.0;
-    true
+    changed
 }

@@ -13,7 +13,6 @@ pub fn collect_colours(counts: &[u16], b: Bank) -> &[u16]
     ensures { (G : Graph) → (ws : List ℕ) → Indexed G ws counts.now → b.0 < G.banks
         → Collects result.now G ws b.0 }
 {
-    let start = b.0 as usize * COUNT_CELLS;
-    let end = start + COUNT_CELLS;
-    &counts[start..end]
+    let start = usize::from(b.0) * COUNT_CELLS;
+    &counts[start..start + COUNT_CELLS]
 }

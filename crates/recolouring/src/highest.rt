@@ -4,7 +4,8 @@ ghost use Rattle.recolouring.specs.inner.Tops.{KeepsTop};
 
 use rule::Wave;
 
-// Every wave is below `most`. A bank stands in the highest one below it, unless `left`: then perhaps none does.
+// Every wave is below `most`. A bank stands in the highest one below it, unless `left`: then perhaps none does. No Option: `most` bounds the waves
+// either way.
 #[derive(Clone, Copy)]
 pub struct Highest {
     pub most: u16,
@@ -17,20 +18,15 @@ pub fn highest_after(top: Highest, old: Wave, new: Wave) -> Highest
     requires bound_2 { new.0 < 24 }
     ensures { KeepsTop top old.0 new.0 result }
 {
-    let most = top.most;
     let above = new.0 + 1;
-    if most <= above {
-        return Highest {
+    if top.most <= above {
+        Highest {
             most: above,
             left: false,
-        };
+        }
+    } else if old.0 + 1 == top.most {
+        Highest { left: true, ..top }
+    } else {
+        top
     }
-    let from = old.0 + 1;
-    if from == most {
-        return Highest {
-            most: most,
-            left: true,
-        };
-    }
-    top
 }

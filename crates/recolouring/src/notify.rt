@@ -12,10 +12,11 @@ fn move_count(counts: &mut [u16], v: Bank, old: Wave, new: Wave, notified: bool)
     requires { Movable counts.old v.0 old.0 new.0 notified }
     ensures { MovesCount counts.old counts.new v.0 old.0 new.0 notified }
 {
-    let one = notified as u16;
-    let base = v.0 as usize * COUNT_CELLS;
-    let from = base + old.0 as usize;
-    let to = base + new.0 as usize;
+    let one = u16::from(notified);
+    let base = usize::from(v.0) * COUNT_CELLS;
+    let from = base + usize::from(old.0);
+    let to = base + usize::from(new.0);
+    // Both are read before one is written, so that it is one law also where the two waves are the same.
     let fewer = counts[from] - one;
     let more = counts[to] + one;
     counts[from] = fewer;
@@ -39,12 +40,12 @@ fn notify_one(
     requires notifying { (s : Notice)
         × Notifying s neighbours.now degrees.now ranks.now counts.old queue.old b.0 old.0 new.0 i }
     requires i_bound { i < get_or degrees.now b.0 0 }
-    requires degree_value { (degree ≡ get_or degrees.now b.0 0) × (rank ≡ get_or ranks.now b.0 0) }
+    requires of_b { (degree ≡ get_or degrees.now b.0 0) × (rank ≡ get_or ranks.now b.0 0) }
     ensures { NotifiesNext neighbours.now degrees.now ranks.now counts.old queue.old counts.new queue.new b.0 old.0 new.0 i }
 {
-    let at = b.0 as usize;
+    let at = usize::from(b.0);
     let v = Bank(neighbours[at * ROW_CELLS + i]);
-    let at_v = v.0 as usize;
+    let at_v = usize::from(v.0);
     let degree_v = degrees[at_v];
     let later = earlier(degree, rank, b, degree_v, ranks[at_v], v);
     move_count(counts, v, old, new, later);
@@ -70,15 +71,12 @@ pub fn notify_colours(
     if !changed {
         return;
     }
-    let at = b.0 as usize;
+    let at = usize::from(b.0);
     let degree = degrees[at];
     let rank = ranks[at];
-    let end = degree as usize;
-    let mut i = 0;
-    while i < end {
+    for i in 0..usize::from(degree) {
         notify_one(
             neighbours, degrees, counts, ranks, queue, b, degree, rank, old, new, i,
         );
-        i += 1;
     }
 }

@@ -3,4 +3,4 @@
 
 mod record;
 
-pub use record::{add_recorded_core, record_core, strike_recorded_core};
+pub use record::record_core;

@@ -1,7 +1,8 @@
 // The calls that make an edit and record it.
 ghost use Rattle.std.specs.Prelude.{◌≡◌};
-ghost use Rattle.rule.specs.declared.Kind.TheVariants.{Adding, Striking};
-ghost use Rattle.memory.specs.Lent.{given};
+ghost use Rattle.rule.specs.Refusals.{number_in};
+ghost use Rattle.memory.specs.Lent.{given, slices_in};
+ghost use Rattle.memory.specs.Memory.{memory_of};
 ghost use Rattle.journal_fields.specs.Fields.{numbered as isNumbered};
 ghost use Rattle.journal_fields.specs.Numbers.{head_number};
 ghost use Rattle.journal.specs.Calls.{no_record, later_in, next_space, record_result, recorded};
@@ -11,35 +12,22 @@ use capped_edits::edit_within;
 use journal::{Recorded, RecordedEdit};
 use journal_fields::{FIRST_BYTES, entry_bytes, head_number, is_numbered, put_entry, space_number};
 use journal_reader::fields_number;
-use memory::Tally;
+use memory::{PlanMemory, Tally};
 use planner::{Answer, check_memory};
-use rule::{Bank, Entry, Kind};
+use rule::{Bank, Entry, Kind, Refusal};
 
-// The questions about the journal and the memory: 0, or the number of the first no.
+// The questions about the journal and the memory: the refusal of the first no.
 fn check_record(
-    neighbours: &[u16],
-    degrees: &[u16],
-    waves: &[u16],
-    counts: &[u16],
-    ranks: &[u16],
+    plan: PlanMemory,
     trail: &[u16],
     moved: &[u16],
-    tally: Tally,
     journal: &[u8],
     size: usize,
-) -> u16
-    ensures { Checked (given neighbours.now degrees.now waves.now counts.now ranks.now trail.now moved.now tally) size journal.now result }
+) -> Result<(), Refusal>
+    ensures { Checked (memory_of (slices_in plan.entry) trail.now moved.now plan.entry.tally) size journal.now (number_in result) }
 {
-    let head = head_number(journal, size);
-    if head != 0 {
-        return head;
-    }
-    let memory = check_memory(
-        neighbours, degrees, waves, counts, ranks, trail, moved, tally,
-    );
-    if memory != 0 {
-        return memory;
-    }
+    head_number(journal, size)?;
+    check_memory(plan, trail, moved)?;
     fields_number(&journal[FIRST_BYTES..size])
 }
 
@@ -52,9 +40,9 @@ fn is_numbered_journal(journal: &[u8], size: usize) -> bool
 }
 
 // Whether there is space for an entry more.
-fn next_space(journal: &[u8], size: usize) -> u16
+fn next_space(journal: &[u8], size: usize) -> Result<(), Refusal>
     requires { head_number size journal.now ≡ 0 }
-    ensures { result ≡ next_space size journal.now }
+    ensures { number_in result ≡ next_space size journal.now }
 {
     let numbered = is_numbered_journal(journal, size);
     space_number(journal, size + entry_bytes(numbered))
@@ -66,12 +54,12 @@ fn refuse(number: u16, tally: Tally) -> RecordedEdit
 {
     RecordedEdit {
         answer: Recorded {
-            number: number,
+            number,
             moved: 0,
             trail: 0,
             length: 0,
         },
-        tally: tally,
+        tally,
     }
 }
 
@@ -92,7 +80,7 @@ fn record_entry(journal: &mut [u8], size: usize, entry: Entry, answer: Answer) -
     }
 }
 
-// An edit that is recorded, with the tally by value: the core of `add_recorded` and `strike_recorded`, for programs and other crates.
+// An edit that is recorded, with the tally by value: the core of the calls `add_recorded` and `strike_recorded` of `lent_calls`.
 pub fn record_core(
     kind: Kind,
     neighbours: &mut [u16],
@@ -111,11 +99,16 @@ pub fn record_core(
     ensures { record_result result.answer (given neighbours.new degrees.new waves.new counts.new ranks.now trail.new moved.new result.tally) journal.new
         ≡ recorded kind a.0 b.0 (given neighbours.old degrees.old waves.old counts.old ranks.now trail.old moved.old tally) size journal.old }
 {
-    let checked = check_record(
-        neighbours, degrees, waves, counts, ranks, trail, moved, tally, journal, size,
-    );
-    if checked != 0 {
-        return refuse(checked, tally);
+    let plan = PlanMemory {
+        neighbours,
+        degrees,
+        waves,
+        counts,
+        ranks,
+        tally,
+    };
+    if let Err(refusal) = check_record(plan, trail, moved, journal, size) {
+        return refuse(u16::from(refusal), tally);
     }
     let space = next_space(journal, size);
     let done = edit_within(
@@ -124,80 +117,9 @@ pub fn record_core(
     if done.answer.number != 0 {
         return refuse(done.answer.number, tally);
     }
-    let after = done.tally;
     let answer = record_entry(journal, size, Entry::Clash(kind, a, b), done.answer);
     RecordedEdit {
-        answer: answer,
-        tally: after,
+        answer,
+        tally: done.tally,
     }
-}
-
-// The core of `add_recorded`.
-pub fn add_recorded_core(
-    neighbours: &mut [u16],
-    degrees: &mut [u16],
-    waves: &mut [u16],
-    counts: &mut [u16],
-    ranks: &[u16],
-    trail: &mut [u16],
-    moved: &mut [u16],
-    tally: Tally,
-    a: Bank,
-    b: Bank,
-    journal: &mut [u8],
-    size: usize,
-) -> RecordedEdit
-    ensures { record_result result.answer (given neighbours.new degrees.new waves.new counts.new ranks.now trail.new moved.new result.tally) journal.new
-        ≡ recorded Adding a.0 b.0 (given neighbours.old degrees.old waves.old counts.old ranks.now trail.old moved.old tally) size journal.old }
-{
-    record_core(
-        Kind::Adding,
-        neighbours,
-        degrees,
-        waves,
-        counts,
-        ranks,
-        trail,
-        moved,
-        tally,
-        a,
-        b,
-        journal,
-        size,
-    )
-}
-
-// The core of `strike_recorded`.
-pub fn strike_recorded_core(
-    neighbours: &mut [u16],
-    degrees: &mut [u16],
-    waves: &mut [u16],
-    counts: &mut [u16],
-    ranks: &[u16],
-    trail: &mut [u16],
-    moved: &mut [u16],
-    tally: Tally,
-    a: Bank,
-    b: Bank,
-    journal: &mut [u8],
-    size: usize,
-) -> RecordedEdit
-    ensures { record_result result.answer (given neighbours.new degrees.new waves.new counts.new ranks.now trail.new moved.new result.tally) journal.new
-        ≡ recorded Striking a.0 b.0 (given neighbours.old degrees.old waves.old counts.old ranks.now trail.old moved.old tally) size journal.old }
-{
-    record_core(
-        Kind::Striking,
-        neighbours,
-        degrees,
-        waves,
-        counts,
-        ranks,
-        trail,
-        moved,
-        tally,
-        a,
-        b,
-        journal,
-        size,
-    )
 }

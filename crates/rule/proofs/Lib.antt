@@ -18,4 +18,5 @@ pub mod Strike
 pub mod Fixed
 pub mod Renumbering
 pub mod Bounds
+pub mod Refusals
 pub mod Theorems

@@ -1,4 +1,4 @@
--- What a reader must believe of the rule: Lists, Order, Graph, Wave, Reach, Renumbering, Bounds, Numbers. WorkList serves the proofs.
+-- What a reader must believe of the rule: Lists, Order, Graph, Wave, Reach, Renumbering, Bounds, Numbers, Refusals. WorkList serves the proofs.
 pub mod Lists
 pub mod Order
 pub mod Graph
@@ -7,4 +7,5 @@ pub mod Reach
 pub mod Renumbering
 pub mod Bounds
 pub mod Numbers
+pub mod Refusals
 pub mod WorkList

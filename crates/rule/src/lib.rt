@@ -1,26 +1,30 @@
 // The numbers of a plan, and the rule order of its banks.
 #![tactic(auto)]
 
+mod refusal;
+
 ghost use Rattle.std.specs.Prelude.{◌≡◌, ◌+◌, ◌*◌};
 ghost use Rattle.rule.specs.Order.{earlier_by};
 
+pub use refusal::Refusal;
+
 // A bank's number: the vertex id of a graph.
-#[derive(Clone, Copy)]
+#[derive(Clone, Copy, PartialEq, Eq, PartialOrd, Ord)]
 pub struct Bank(pub u16);
 
 // A wave's number: the colour of a vertex.
-#[derive(Clone, Copy)]
+#[derive(Clone, Copy, PartialEq, Eq, PartialOrd, Ord)]
 pub struct Wave(pub u16);
 
 // The two kinds of edit of one clash.
-#[derive(Clone, Copy)]
+#[derive(Clone, Copy, PartialEq, Eq)]
 pub enum Kind {
     Adding,
     Striking,
 }
 
 // What an entry of a list or of a journal asks for: the edit of one clash, or a bank's rank.
-#[derive(Clone, Copy)]
+#[derive(Clone, Copy, PartialEq, Eq)]
 pub enum Entry {
     Clash(Kind, Bank, Bank),
     Rank(Bank, u16),
@@ -47,18 +51,11 @@ pub const MOST_RANK: u16 = 9999;
 // What stands in the cells of a row that are left over.
 pub const UNUSED: u16 = 65535;
 
-// A cell as an index.
-pub fn wide(x: u16) -> usize
-    ensures { result ≡ x }
-{
-    x as usize
-}
-
 // Three digits to the base 65,536, as one number.
 fn digits(high: u16, middle: u16, low: u16) -> u64
     ensures { result ≡ high * 4294967296 + (middle * 65536 + low) }
 {
-    high as u64 * 4294967296 + (middle as u64 * 65536 + low as u64)
+    u64::from(high) * 4294967296 + (u64::from(middle) * 65536 + u64::from(low))
 }
 
 // Whether p is earlier than q: a larger degree; or the same degree and a smaller rank; or the same of both and a smaller number. One comparison

@@ -1,8 +1,9 @@
 // Reads a list from standard input, and writes its sheet or its refusal to standard output.
 #![tactic(auto)]
 
-use list_program::{Text, run};
+use list_program::run;
+use sheet_writer::write_sheet;
 
 fn main(rt: HostRuntime) {
-    run(&rt, Text::Sheet);
+    run(&rt, |plan, out| write_sheet(plan, out));
 }

@@ -1,5 +1,5 @@
 -- A line of a sheet as it is read: bank by bank, and that the banks so far are the first of any line that stands there.
-use mathlib.Core.Bool.{Bool, true, false}
+use mathlib.Core.Bool.{Bool}
 use mathlib.Core.List.{List, [], ◌∷◌, ◌++◌, map, append_assoc, append-nil}
 use mathlib.Core.Logic.{◌⊎◌, inl, inr}
 use mathlib.Core.Path.{◌≡◌, refl, sym, ap, ap₂, subst, ◌∙◌}
@@ -20,9 +20,8 @@ use Rattle.text.proofs.Joined.{texts_append}
 use Rattle.wave_lines.specs.Lines.{letters}
 use Rattle.sheet_writer.specs.Sheet.{bank_text, line_text}
 use Rattle.sheet_parser.specs.inner.Numbers.{ByteAt, NoDigit, NumberAt, NoNumber}
-use Rattle.sheet_parser.specs.inner.Lines.{wave_in, line_with_banks, Enough, Fits, Banks, Takes, NoBank, BankTaken, Grown, OnLine, NoLine, Reading}
-use Rattle.sheet_parser.specs.inner.Lines.{GoesOn, Ended, Banked, LineAt, LineRead}
-use Rattle.sheet_parser.proofs.Tests.{never_false, never_true}
+use Rattle.sheet_parser.specs.inner.Lines.{wave_in, line_with_banks, Enough, Fits, Banks, Takes, NoBank, Grown, OnLine, NoLine}
+use Rattle.sheet_parser.specs.inner.Lines.{Banked, LineAt}
 use Rattle.sheet_parser.proofs.Numbers.{cons_head, cons_tail, decimal_same, byte_then, then_byte}
 
 -- a space, a line feed
@@ -129,58 +128,42 @@ across (z ∷ xs) y ys x s m =
     ]
 
 -- a number is a bank that fits, or none does
-module _ {s cells : List ℕ} {n c low at : ℕ} (h : at ≤ length s) where
-  refused : {low' : ℕ} → NoBank s cells n low at cells → BankTaken false s cells n c low at at low' cells
-  refused none = record { some = never_true; none = λ e. none; after = omega arith; inside = h }
+pub no_bank : (s cells : List ℕ) (n low at : ℕ) → NoNumber s at → Enough cells n → NoBank s cells n low at
+no_bank s cells n low at none en b rest f ends e = none b rest (omega (arith, f.bank, en.most)) ends e
 
-  pub no_bank : {low' : ℕ} → NoNumber s at → Enough cells n → BankTaken false s cells n c low at at low' cells
-  no_bank none en =
-      refused (record { none = λ b rest f ends e. none b rest (omega (arith, f.bank, en.most)) ends e; same = refl })
+module _ {s cells : List ℕ} {n low at v next : ℕ} (number : NumberAt s at v next) where
+  pub other_bank : (Fits cells n low v → ⊥) → NoBank s cells n low at
+  other_bank no-fit b rest f ends e =
+      let same = decimal_same b v rest (drop next s) ends number.ends (sym e ∙ number.text) in
+      no-fit (subst (λ (x : ℕ). Fits cells n low x) same.0 f)
 
-  module _ {v next : ℕ} (number : NumberAt s at v next) where
-    pub other_bank : {low' : ℕ} → (Fits cells n low v → ⊥) → BankTaken false s cells n c low at at low' cells
-    other_bank no-fit = refused (record {
-      none = λ b rest f ends e.
-          let same = decimal_same b v rest (drop next s) ends number.ends (sym e ∙ number.text) in
-          no-fit (subst (λ (x : ℕ). Fits cells n low x) same.0 f);
-      same = refl;
-    })
-
-    pub takes : {i : ℕ} → i ≡ v → Fits cells n low v → BankTaken true s cells n c low at next (v + 1) (set cells i c)
-    takes i-is f = record {
-      some = λ e. record {
-        bank = v;
-        above = refl;
-        fits = f;
-        text = number.text;
-        ends = number.ends;
-        set = ap (λ (k : ℕ). set cells k c) i-is;
-      };
-      none = never_false;
-      after = omega (arith, number.after);
-      inside = number.inside;
-    }
+  pub takes : {c : ℕ} → Fits cells n low v → Takes s cells n c low at next (v + 1) (set cells v c)
+  takes f = record {
+    bank = v;
+    above = refl;
+    fits = f;
+    text = number.text;
+    ends = number.ends;
+    set = refl;
+    after = omega (arith, number.after);
+    inside = number.inside;
+  }
 
 -- the letter
 module _ {s cells : List ℕ} {n from : ℕ} (c : ℕ) where
-  on_line : ByteAt s from (get_or letters c 0) → ((b : ℕ) → b < n → get_or cells b 0 ≡ c → ⊥) → OnLine s cells cells n c from 0 (from + 1)
-  on_line b none = record {
+  pub line_start : ByteAt s from (get_or letters c 0) → ((b : ℕ) → b < n → get_or cells b 0 ≡ c → ⊥) → OnLine s cells cells n c from 0 (from + 1)
+  line_start b none = record {
     text = byte_then b ∙ unfold joined in ap (λ (bs : List ℕ). (get_or letters c 0 ∷ texts bs) ++ drop (from + 1) s) (sym (banks_none (wave_in cells) c));
     ends = λ l. absurd (omega arith);
     banks = omega arith;
     last = λ b e. absurd (omega arith);
     above = λ b l h. none b h;
     grown = λ b h. inl refl;
+    inside = omega (arith, b.inside);
   }
 
-  pub line_start : ByteAt s from (get_or letters c 0) → ((b : ℕ) → b < n → get_or cells b 0 ≡ c → ⊥) → Reading true s cells cells n c from 0 (from + 1)
-  line_start b none = record { some = λ e. on_line b none; none = never_false; inside = omega (arith, b.inside) }
-
-  no_line : (ByteAt s from (get_or letters c 0) → ⊥) → NoLine s cells n c from
-  no_line no_byte bs rest good e = unfold line_text in no_byte (then_byte e)
-
-  pub no_letter : {k : ℕ} → (ByteAt s from (get_or letters c 0) → ⊥) → LineRead false s cells cells n c from k
-  no_letter no_byte = record { some = never_true; none = λ e. no_line no_byte }
+  pub no_letter : (ByteAt s from (get_or letters c 0) → ⊥) → NoLine s cells n c from
+  no_letter no_byte bs rest good e = unfold line_text in no_byte (then_byte e)
 
 -- a line in the midst
 module _ {s cells₀ cells : List ℕ} {n c from low next : ℕ} (line : OnLine s cells₀ cells n c from low next) where
@@ -228,11 +211,11 @@ module _ {s cells₀ cells : List ℕ} {n c from low next : ℕ} (line : OnLine 
   next_by space bs rest [] e x = absurd (unfold joined in omega (arith, cons_head (sym (byte_then space) ∙ x)))
   next_by space bs rest (b ∷ more) e x = (b, more, e, cons_tail (sym (byte_then space) ∙ x ∙ banks_then b more (10 ∷ rest)))
 
-  pub no_next : {cells' : List ℕ} → ByteAt s next 32 → NoBank s cells n low (next + 1) cells' → NoLine s cells₀ n c from
+  pub no_next : ByteAt s next 32 → NoBank s cells n low (next + 1) → NoLine s cells₀ n c from
   no_next space none bs rest good e =
       let f = goes bs rest e in
       let q = next_by space bs rest f.more f.banks f.rest in
-      none.none q.0 (texts q.1 ++ (10 ∷ rest)) (fits_next bs q.1 q.0 good q.2) (texts_ends q.1 (10 ∷ rest) (feed_ends rest)) q.3
+      none q.0 (texts q.1 ++ (10 ∷ rest)) (fits_next bs q.1 q.0 good q.2) (texts_ends q.1 (10 ∷ rest) (feed_ends rest)) q.3
 
   -- neither a space, nor a line feed after some bank
   module _ (no_space : ByteAt s next 32 → ⊥) (no_feed : 1 ≤ low → ByteAt s next 10 → ⊥) where
@@ -310,32 +293,16 @@ module _ {s cells₀ cells : List ℕ} {n c from low next : ℕ} (line : OnLine 
       last = λ x e. let same : x ≡ b = omega arith in rw same own_cell;
       above = λ x l h e. line.above x (omega (arith, t.fits.high)) h (sym (set_cell x (λ q. omega arith)) ∙ e);
       grown = next_grown;
+      inside = t.inside;
     }
 
     pub line_next : OnLine s cells₀ cells' n c from low' next'
     line_next = rw (t.above, t.set) taken
 
--- by what taking a bank answered
-module _ {s cells₀ cells cells' : List ℕ} {n c from low next low' next' : ℕ} where
-  pub line_again : {was ok : Bool} → Enough cells n → Reading was s cells₀ cells n c from low next → GoesOn s was next
-      → BankTaken ok s cells n c low (next + 1) next' low' cells' → Reading ok s cells₀ cells' n c from low' next'
-  line_again en r go t =
-      let line = r.some go.going in
-      record {
-        some = λ e. line_next line en go.space (t.some e);
-        none = λ e. no_next line go.space (t.none e);
-        inside = t.inside;
-      }
-
 -- by where the banks of a line end
-module _ {s cells₀ cells : List ℕ} {n c from low next : ℕ} {ok : Bool} (b : Banked ok s cells₀ cells n c from low next) where
-  pub line_none : {k : ℕ} → (Ended s ok low next → ⊥) → LineRead false s cells₀ cells n c from k
-  line_none no_feed = record { some = never_true; none = λ e. by ok refl }
-    where
-      by : (r : Bool) → ok ≡ r → NoLine s cells₀ n c from
-      by true e =
-          no_end (b.reading.some e) (λ x. b.over (record { going = e; space = x })) (λ l x. no_feed (record { going = e; some = l; feed = x }))
-      by false e = b.reading.none e
+module _ {s cells₀ cells : List ℕ} {n c from low next : ℕ} (b : Banked s cells₀ cells n c from low next) where
+  pub line_none : (1 ≤ low → ByteAt s next 10 → ⊥) → NoLine s cells₀ n c from
+  line_none = no_end b.line b.over
 
-  pub line_whole : Ended s ok low next → LineRead true s cells₀ cells n c from (next + 1)
-  line_whole e = record { some = λ q. line_done (b.reading.some e.going) e.some e.feed; none = never_false }
+  pub line_whole : 1 ≤ low → ByteAt s next 10 → LineAt s cells₀ cells n c from (next + 1)
+  line_whole = line_done b.line

@@ -1,5 +1,5 @@
 -- Numbers in decimal as they are read: digit by digit, and that where no digit follows a text is that of one number alone.
-use mathlib.Core.Bool.{true, false, ◌&&◌}
+use mathlib.Core.Bool.{true, ◌&&◌}
 use mathlib.Core.List.{List, [], ◌∷◌, ◌++◌, append_assoc}
 use mathlib.Core.Logic.{inl, inr}
 use mathlib.Core.Path.{◌≡◌, refl, sym, ap, ap₂, subst, ◌∙◌}
@@ -7,14 +7,13 @@ use Prim.Native.Nat.{ℕ, suc, ◌+◌, ◌*◌, ◌-◌, ◌/◌, ◌%◌, ◌�
 use native.Mathlib.Numerals.{add-one}
 use native.Mathlib.Omega.{arith}
 use lib.Dec.{leb}
-use lib.ListN.{length, get_or, take, drop, length-append, length-drop, drop_of_length-le, get_or-append}
-use lib.Seq.{drop-cons, get_or-drop, take-suc, take_all}
+use lib.ListN.{length, get_or, drop, length-drop, drop_of_length-le, get_or-append}
+use lib.Seq.{drop-cons, get_or-drop}
 use borrow.Author.Tests.{leb-true}
 use Rattle.rule.proofs.Booleans.{both_true, lt_or_ge}
 use Rattle.text.specs.Numbers.{digits, value_from, decimal}
 use Rattle.text.proofs.Decimal.{decimal_low, decimal_high, length_low, some_digit, few_digits, length_decimal, decimal_digits, decimal_value, first_digit}
-use Rattle.sheet_parser.specs.inner.Numbers.{ByteAt, DigitAt, NoDigit, Stands, Begun, Stopped, NumberAt, NoNumber, NumberRead}
-use Rattle.sheet_parser.proofs.Tests.{never_false, never_true}
+use Rattle.sheet_parser.specs.inner.Numbers.{ByteAt, DigitAt, NoDigit, Begun, Stopped, NumberAt, NoNumber}
 
 -- the first of a list, and the rest
 pub cons_head : {x y : ℕ} {xs ys : List ℕ} → x ∷ xs ≡ y ∷ ys → x ≡ y
@@ -162,34 +161,3 @@ zero_alone {s} {at} d z =
 -- no digit follows
 pub number_at : {s : List ℕ} {at v next : ℕ} → Stopped s at v next → (DigitAt s next → ⊥) → NumberAt s at v next
 number_at p n = record { text = p.text; ends = no_digit n; small = p.small; after = p.after; inside = p.inside }
-
--- a text byte by byte
-module _ (s : List ℕ) (at : ℕ) (text : List ℕ) where
-  pub stands_none : Stands s at []
-  stands_none = let e : at ≡ at + 0 = omega arith in ap (λ (k : ℕ). drop k s) e
-
-  pub too_short : length s - at < length text → Stands s at text → ⊥
-  too_short h e = omega (arith, ap length e, length-append text (drop (at + length text) s), length-drop at s)
-
-  pub differs : (i : ℕ) → i < length text → (get_or s (at + i) 0 ≡ get_or text i 0 → ⊥) → Stands s at text → ⊥
-  differs i h n e = n (sym (get_or-drop at s i 0) ∙ ap (λ (l : List ℕ). get_or l i 0) e ∙ get_or-append text (drop (at + length text) s) 0 i h)
-
-  pub stands_next : (i : ℕ) → i < length text → at + i < length s → drop at s ≡ take i text ++ drop (at + i) s → get_or s (at + i) 0 ≡ get_or text i 0
-      → drop at s ≡ take (i + 1) text ++ drop (at + (i + 1)) s
-  stands_next i h l e same =
-      let place : (at + i) + 1 ≡ at + (i + 1) = omega arith in
-      let more : drop (at + i) s ≡ get_or text i 0 ∷ drop (at + (i + 1)) s =
-      byte_then (record { inside = l; is = same }) ∙ ap (λ (k : ℕ). get_or text i 0 ∷ drop k s) place in
-      e ∙ ap (λ (x : List ℕ). take i text ++ x) more ∙ sym (append_assoc (take i text) (get_or text i 0 ∷ []) (drop (at + (i + 1)) s))
-      ∙ ap (λ (x : List ℕ). x ++ drop (at + (i + 1)) s) (sym (take-suc text i 0 h) ∙ ap (λ (k : ℕ). take k text) (sym (add-one i)))
-
-  pub stands_all : (i : ℕ) → i ≡ length text → drop at s ≡ take i text ++ drop (at + i) s → Stands s at text
-  stands_all i h e = e ∙ ap₂ (λ (t r : List ℕ). t ++ r) (take_all i text (omega arith)) (ap (λ (k : ℕ). drop (at + k) s) h)
-
--- what is answered
-module _ {s : List ℕ} {at v next : ℕ} where
-  pub number_read : NumberAt s at v next → NumberRead true s at v next
-  number_read n = record { some = λ e. n; none = never_false }
-
-  pub none_read : NoNumber s at → NumberRead false s at v next
-  none_read n = record { some = never_true; none = λ e. n }

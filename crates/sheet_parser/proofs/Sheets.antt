@@ -1,5 +1,4 @@
 -- A sheet as it is read: line by line, and that the lines so far are the first of any sheet that the bytes are.
-use mathlib.Core.Bool.{true, false}
 use mathlib.Core.List.{List, [], ◌∷◌, ◌++◌, map, map-map, append_assoc, append-nil}
 use mathlib.Core.Logic.{◌⊎◌, inl, inr}
 use mathlib.Core.Path.{◌≡◌, refl, sym, ap, ap₂, subst, ◌∙◌}
@@ -8,7 +7,7 @@ use native.Mathlib.Nat.{add-zero, add-suc}
 use native.Mathlib.Numerals.{add-one}
 use native.Mathlib.Omega.{arith}
 use lib.Dec.{T, eqb, ltb, eqb→eq}
-use lib.ListN.{length, get_or, take, drop, length-append, length-map, length-drop, drop_of_length-le}
+use lib.ListN.{length, get_or, take, drop, length-append, length-map}
 use lib.Seq.{take_at}
 use borrow.Author.Tests.{ne_eqb}
 use Rattle.rule.specs.Lists.{upto, memb, Sorted}
@@ -26,9 +25,8 @@ use Rattle.wave_lines.specs.Foot.{foot_text}
 use Rattle.sheet_writer.specs.Sheet.{line_text, head_text, last_text, sheet_of, sheet_by}
 use Rattle.sheet_parser.specs.Sheets.{SheetOf, Begins, Fault}
 use Rattle.sheet_parser.specs.inner.Numbers.{ByteAt, Stands, NumberAt, NoNumber}
-use Rattle.sheet_parser.specs.inner.Lines.{wave_in, line_with_banks, Banks, NoLine, LineAt, HeadAt, NoHead, HeadRead, lines_text, Lines}
+use Rattle.sheet_parser.specs.inner.Lines.{wave_in, line_with_banks, Banks, NoLine, LineAt, HeadAt, NoHead, lines_text, Lines}
 use Rattle.sheet_parser.specs.inner.Lines.{NoLines, NoSheet, NoneNamed, AllNamed}
-use Rattle.sheet_parser.proofs.Tests.{never_false, never_true}
 use Rattle.sheet_parser.proofs.Numbers.{cons_head, cons_tail, decimal_same, byte_then, then_byte}
 use Rattle.sheet_parser.proofs.Lines.{texts, feed_ends, so_far, in_banks, banks_then}
 
@@ -44,11 +42,8 @@ head_one k j X Y e =
 
 -- as it is read
 module _ {s : List ℕ} where
-  refused : {j next : ℕ} → NoHead s → HeadRead false s j next
-  refused none = record { some = never_true; none = λ e. none }
-
-  pub no_word : {j next : ℕ} → (Stands s 0 (87 ∷ 65 ∷ 86 ∷ 69 ∷ 83 ∷ 32 ∷ []) → ⊥) → HeadRead false s j next
-  no_word none = refused (λ k rest few e. none (by (decimal k ++ (10 ∷ rest)) (e ∙ head_then k rest)))
+  pub no_word : (Stands s 0 (87 ∷ 65 ∷ 86 ∷ 69 ∷ 83 ∷ 32 ∷ []) → ⊥) → NoHead s
+  no_word none k rest few e = none (by (decimal k ++ (10 ∷ rest)) (e ∙ head_then k rest))
     where
       by : (X : List ℕ) → s ≡ (87 ∷ 65 ∷ 86 ∷ 69 ∷ 83 ∷ 32 ∷ []) ++ X → Stands s 0 (87 ∷ 65 ∷ 86 ∷ 69 ∷ 83 ∷ 32 ∷ [])
       by X e = e ∙ ap (λ (l : List ℕ). (87 ∷ 65 ∷ 86 ∷ 69 ∷ 83 ∷ 32 ∷ []) ++ l) (sym (ap (λ (l : List ℕ). drop 6 l) e))
@@ -56,31 +51,28 @@ module _ {s : List ℕ} where
   after_word : (k : ℕ) (rest : List ℕ) → s ≡ head_text k ++ rest → drop 6 s ≡ decimal k ++ (10 ∷ rest)
   after_word k rest e = ap (λ (l : List ℕ). drop 6 l) (e ∙ head_then k rest)
 
-  pub no_count : {j next : ℕ} → NoNumber s 6 → HeadRead false s j next
-  no_count none = refused (λ k rest few e. none k (10 ∷ rest) (omega arith) (feed_ends rest) (after_word k rest e))
+  pub no_count : NoNumber s 6 → NoHead s
+  no_count none k rest few e = none k (10 ∷ rest) (omega arith) (feed_ends rest) (after_word k rest e)
 
   module _ {v at : ℕ} (number : NumberAt s 6 v at) where
     same_count : (k : ℕ) (rest : List ℕ) → s ≡ head_text k ++ rest → (k ≡ v) × (10 ∷ rest ≡ drop at s)
     same_count k rest e =
         decimal_same k v (10 ∷ rest) (drop at s) (feed_ends rest) number.ends (sym (after_word k rest e) ∙ number.text)
 
-    pub many_waves : {j next : ℕ} → 24 < v → HeadRead false s j next
-    many_waves h = refused (λ k rest few e. omega (arith, (same_count k rest e).0))
+    pub many_waves : 24 < v → NoHead s
+    many_waves h k rest few e = omega (arith, (same_count k rest e).0)
 
-    pub no_feed : {j next : ℕ} → (ByteAt s at 10 → ⊥) → HeadRead false s j next
-    no_feed none = refused (λ k rest few e. none (then_byte (sym (same_count k rest e).1)))
+    pub no_feed : (ByteAt s at 10 → ⊥) → NoHead s
+    no_feed none k rest few e = none (then_byte (sym (same_count k rest e).1))
 
-    pub head_read : Stands s 0 (87 ∷ 65 ∷ 86 ∷ 69 ∷ 83 ∷ 32 ∷ []) → v ≤ 24 → ByteAt s at 10 → HeadRead true s v (at + 1)
+    pub head_read : Stands s 0 (87 ∷ 65 ∷ 86 ∷ 69 ∷ 83 ∷ 32 ∷ []) → v ≤ 24 → ByteAt s at 10 → HeadAt s v (at + 1)
     head_read word few feed = record {
-      some = λ q. record {
-        text =
-            word
-            ∙ ap (λ (l : List ℕ). (87 ∷ 65 ∷ 86 ∷ 69 ∷ 83 ∷ 32 ∷ []) ++ l) (number.text ∙ ap (λ (l : List ℕ). decimal v ++ l) (byte_then feed))
-            ∙ sym (head_then v (drop (at + 1) s));
-        few = few;
-        inside = omega (arith, feed.inside);
-      };
-      none = never_false;
+      text =
+          word
+          ∙ ap (λ (l : List ℕ). (87 ∷ 65 ∷ 86 ∷ 69 ∷ 83 ∷ 32 ∷ []) ++ l) (number.text ∙ ap (λ (l : List ℕ). decimal v ++ l) (byte_then feed))
+          ∙ sym (head_then v (drop (at + 1) s));
+      few = few;
+      inside = omega (arith, feed.inside);
     }
 
 -- the lines of waves
@@ -382,9 +374,6 @@ module _ (n m : ℕ) {feed : ℕ} (size : feed ≡ length (foot_text n m)) where
   unfolding last_text
   last_size = omega (arith, length-append (foot_text n m) (10 ∷ []))
 
-  pub foot_short : (s : List ℕ) (at : ℕ) → (length s - at ≡ feed + 1 → ⊥) → drop at s ≡ last_text n m → ⊥
-  foot_short s at other e = other (sym (length-drop at s) ∙ ap length e ∙ last_size)
-
   module _ {out out₁ out₂ : List ℕ} {r₁ r₂ : ℕ} (room : feed + 1 ≤ length out) (a : Puts (foot_text n m) 0 out r₁ out₁) (b : Puts (10 ∷ []) feed out₁ r₂ out₂) where
     place : feed ≡ r₁
     place = omega (arith, a.next)
@@ -393,20 +382,8 @@ module _ (n m : ℕ) {feed : ℕ} (size : feed ≡ length (foot_text n m)) where
     unfolding last_text
     both_put = puts_then (foot_text n m) (10 ∷ []) 0 out (omega arith) r₁ r₂ out₁ out₂ a (subst (λ (k : ℕ). Puts (10 ∷ []) k out₁ r₂ out₂) place b)
 
-    part_is : take (feed + 1 - 0) out₂ ≡ last_text n m
+    pub foot_is : take (feed + 1) out₂ ≡ last_text n m
     unfolding put
-    part_is =
-        ap (λ (l : List ℕ). take (feed + 1 - 0) l) both_put.left
-        ∙ take_at (last_text n m) (drop (0 + length (last_text n m)) out) (feed + 1 - 0) (omega (arith, last_size))
-
-    module _ (s : List ℕ) (at : ℕ) (whole : length s - at ≡ feed + 1) where
-      nothing_more : drop (at + length (last_text n m)) s ≡ []
-      nothing_more = let short : length s ≤ at + length (last_text n m) = omega (arith, last_size) in drop_of_length-le s short
-
-      pub foot_stands : Stands s at (take (feed + 1 - 0) out₂) → drop at s ≡ last_text n m
-      foot_stands e =
-          subst (Stands s at) part_is e ∙ ap (λ (l : List ℕ). last_text n m ++ l) nothing_more ∙ append-nil (last_text n m)
-
-      pub foot_differs : (Stands s at (take (feed + 1 - 0) out₂) → ⊥) → drop at s ≡ last_text n m → ⊥
-      foot_differs none e =
-          none (subst (Stands s at) (sym part_is) (e ∙ sym (ap (λ (l : List ℕ). last_text n m ++ l) nothing_more ∙ append-nil (last_text n m))))
+    foot_is =
+        ap (λ (l : List ℕ). take (feed + 1) l) both_put.left
+        ∙ take_at (last_text n m) (drop (0 + length (last_text n m)) out) (feed + 1) (omega (arith, last_size))

@@ -7,4 +7,4 @@ mod sheet;
 
 pub use line::UNNAMED;
 pub use number::text_at;
-pub use sheet::{Sheet, read_sheet};
+pub use sheet::read_sheet;

@@ -8,12 +8,13 @@ use native.Mathlib.Omega.{arith}
 use lib.Dec.{T, eqb, leb, eqb→eq}
 use borrow.Author.Tests.{le-leb, leb-true, leb-false, not-true}
 use Rattle.rule.specs.Lists.{upto, filter, memb, some}
-use Rattle.rule.specs.Graph.{Graph, neighbours, Same}
+use Rattle.rule.specs.Graph.{Graph, neighbours, degree, Same}
 use Rattle.rule.specs.Wave.{wave, wave_count}
 use Rattle.rule.proofs.Booleans.{t_along, both_true, eq→eqb, is_false, is_true, or_cases, passes?}
 use Rattle.rule.proofs.Lists.{in_head, in_tail, in_cons, in_none, in_append, in_append_r, in_upto, upto_below, filter_in, in_filter, some_in, in_some}
 use Rattle.memory.specs.declared.Tally.{Tally}
 use Rattle.memory.specs.Plan.{Slices, clash_count, graph_in, cap_fits, Clashes, PlanOf}
+use Rattle.memory.specs.inner.View.{Rowed}
 use Rattle.memory.proofs.Theorems.{cells_give}
 use Rattle.memory.proofs.Apart.{waves_apart}
 use Rattle.planner.specs.Questions.{first_no}
@@ -31,6 +32,7 @@ use Rattle.sheet_parser.proofs.Sheets.{banks_in-law}
 use Rattle.sheet_parser.proofs.Decision.{accepts, accepted, read_wave, read_count, upto_at}
 use Rattle.sheet_reader.specs.Calls.{has_clash, any_clash, sheet_number, first_of, clash_first, clash_second, fault_first, fault_second}
 use Rattle.sheet_reader.specs.Demands.{line_on, KeepsApart, Proper, Acceptable, NamedPair}
+use Rattle.sheet_reader.specs.inner.Rows.{rows_in, PairOf}
 use Rattle.sheet_reader.proofs.Answers.{same_any, last_number, by_clash, none_first, none_second}
 use Rattle.sheet_reader.proofs.Demanded.{line_is, proper, sheet_of-law}
 
@@ -140,6 +142,21 @@ module _ (G : Graph) (clashes : Clashes G) (w : ℕ → ℕ) (any : any_clash G 
         ascend = omega (arith, other);
         lowest = λ x y h l t e. has_low x y h l t e;
       }
+
+-- banks that are found in the rows are two
+pub two_named : (n : ℕ) (w : ℕ → ℕ) {ns ds : List ℕ} → Rowed (rows_in n ns) ns ds → {first second : ℕ} → PairOf (rows_in n ns) w first second → first < second
+unfolding graph_in degree neighbours
+two_named n w {ns} {ds} rows pair =
+    let G = rows_in n ns in
+    let clashes : Clashes G = record {
+      most = rows.few;
+      symmetric = rows.symmetric;
+      apart = rows.apart;
+      few = rows.small;
+      ranks = λ x h. omega arith;
+    } in
+    let named = pair_named G clashes w pair.clash in
+    omega (arith, pair.first_is, pair.second_is, named.ascend)
 
 -- the rule keeps clashing banks apart
 module _ (G : Graph) (clashes : Clashes G) where

@@ -19,12 +19,11 @@ use Rattle.memory.proofs.Theorems.{held_of}
 use Rattle.planner.specs.Questions.{◌else◌, first_no}
 use Rattle.planner.specs.Calls.{plan_number}
 use Rattle.planner.proofs.Numbers.{plan_passed}
-use Rattle.sheet_reader.specs.declared.Verdict.{Verdict}
 use Rattle.sheet_parser.specs.Sheets.{SheetOf, Fault, wave_read, waves_count, is_sheet}
-use Rattle.sheet_reader.specs.Calls.{has_clash, any_clash, sheet_number, first_of, clash_first, clash_second, fault_first, fault_second, Answered}
+use Rattle.sheet_reader.specs.Calls.{has_clash, any_clash, sheet_number, first_of, clash_first, clash_second, fault_first, fault_second, Verdict, Answered}
 use Rattle.sheet_parser.specs.inner.Lines.{Enough, NoneNamed, NoSheet}
 use Rattle.sheet_reader.specs.inner.Rows.{rows_in, clash_number, Judged}
-use Rattle.sheet_reader.proofs.Clashes.{neighbour_below, pair_none}
+use Rattle.sheet_reader.proofs.Clashes.{neighbour_below, first_zero, second_zero}
 use Rattle.sheet_parser.proofs.Tests.{not_both}
 use Rattle.sheet_parser.proofs.Decision.{accepts, refused, read_count, read_wave}
 
@@ -58,10 +57,10 @@ module _ (G : Graph) (w : ℕ → ℕ) (k most : ℕ) where
 
 module _ (G : Graph) (w : ℕ → ℕ) (none : any_clash G w ≡ false) where
   pub none_first : 0 ≡ clash_first G w
-  none_first = (pair_none G w (no_clash G w 0 0 none)).first_is
+  none_first = first_zero G w (no_clash G w 0 0 none)
 
   pub none_second : 0 ≡ clash_second G w
-  none_second = (pair_none G w (no_clash G w 0 0 none)).second_is
+  none_second = second_zero G w (no_clash G w 0 0 none)
 
 clash_cong : (G : Graph) (w v : ℕ → ℕ) (k j most : ℕ) → any_clash G w ≡ any_clash G v → k ≡ j → clash_number G w k most ≡ clash_number G v j most
 unfolding clash_number
@@ -163,6 +162,9 @@ module _ (s : Slices) (t : Tally) (bytes : List ℕ) where
   unfolding plan_number sheet_number first_no rest
   plan_refused c e n = plan_first (leb t.banks 1024) (long_enough t.banks s) (holds s t) c rest e n
 
+  pub plan_low : (c : ℕ) → c ≡ plan_number s t → c ≢ 0 → c ≤ 3
+  plan_low c e n = (plan_refused c e n).1
+
   no_first : (c : ℕ) → c ≡ sheet_number s t bytes → (c ≡ 27 → ⊥) → 0 ≡ fault_first s t bytes
   unfolding fault_first
   no_first c e n = let other : sheet_number s t bytes ≡ 27 → ⊥ = λ q. n (e ∙ q) in rw (ne_eqb (sheet_number s t bytes) 27 other)
@@ -171,7 +173,7 @@ module _ (s : Slices) (t : Tally) (bytes : List ℕ) where
   unfolding fault_second
   no_second c e n = let other : sheet_number s t bytes ≡ 27 → ⊥ = λ q. n (e ∙ q) in rw (ne_eqb (sheet_number s t bytes) 27 other)
 
-  module _ {r : Verdict} {c l : ℕ} (is : r.number ≡ c) (line : r.line ≡ l) (first : r.first.0 ≡ 0) (second : r.second.0 ≡ 0) where
+  module _ {r : Verdict} {c l : ℕ} (is : r.number ≡ c) (line : r.line ≡ l) (first : r.first ≡ 0) (second : r.second ≡ 0) where
     -- questions 3 to 5
     pub answer_plan : c ≡ plan_number s t → c ≢ 0 → l ≡ 0 → Answered s t bytes r
     answer_plan e n z =

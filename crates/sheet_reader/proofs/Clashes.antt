@@ -2,12 +2,12 @@
 use mathlib.Core.Bool.{Bool, true, false}
 use mathlib.Core.List.{List, [], ◌∷◌, ◌++◌}
 use mathlib.Core.Path.{◌≡◌, refl, sym, ap, subst, ◌∙◌}
-use Prim.Native.Nat.{ℕ, zero, suc, ◌+◌, ◌*◌, ◌≤◌, ◌<◌}
+use Prim.Native.Nat.{ℕ, zero, suc, ◌+◌, ◌*◌, ◌-◌, ◌≤◌, ◌<◌}
 use native.Mathlib.Numerals.{add-one}
 use native.Mathlib.Omega.{arith}
 use lib.Dec.{T, eqb}
-use lib.ListN.{length, get_or, drop, drop_of_length-le}
-use lib.Seq.{drop-cons}
+use lib.ListN.{length, get_or, take, drop, length-drop, drop_of_length-le}
+use lib.Seq.{drop-cons, length-take-le, get_or-take, get_or-drop}
 use borrow.Author.Tests.{eq-eqb, ne_eqb}
 use Rattle.rule.specs.Lists.{upto, memb, some}
 use Rattle.rule.specs.Graph.{Graph, neighbours, degree}
@@ -41,9 +41,9 @@ module _ (p : ℕ → Bool) (xs : List ℕ) where
     unfolding some first_of
     scan_hit h e = (sym (so.some_is ∙ rw (drop-cons xs i d h, e)), sym (so.first_is ∙ rw (drop-cons xs i d h, e)))
 
-    pub scan_end : length xs ≤ i → (false ≡ some p xs) × (0 ≡ first_of p xs)
-    unfolding some first_of
-    scan_end h = (sym (so.some_is ∙ rw (drop_of_length-le xs h)), sym (so.first_is ∙ rw (drop_of_length-le xs h)))
+  pub scan_end : (i : ℕ) → Scanned p xs i → length xs ≤ i → false ≡ some p xs
+  unfolding some
+  scan_end i so h = sym (so.some_is ∙ rw (drop_of_length-le xs h))
 
 in_at : (xs : List ℕ) (i d : ℕ) → i < length xs → T (memb (get_or xs i d) xs)
 in_at [] i d h = absurd (omega arith)
@@ -100,23 +100,35 @@ module _ {ns ds : List ℕ} {n : ℕ} (rows : Rowed (rows_in n ns) ns ds) where
           scan_next (test w) xs i 65535 so (omega (arith, row_length))
           (ne_eqb (w (get_or xs i 65535)) (w b) (subst (λ (v : ℕ). w v ≡ w b → ⊥) (cell_is l) other))
 
-      pub partner_hit : i < get_or ds b 0 → w (get_or ns (b * 23 + i) 0) ≡ w b → PartnerOf (rows_in n ns) w b true (get_or ns (b * 23 + i) 0)
+      pub partner_hit : i < get_or ds b 0 → w (get_or ns (b * 23 + i) 0) ≡ w b → PartnerOf (rows_in n ns) w b (get_or ns (b * 23 + i) 0)
       unfolding has_clash
       partner_hit l same =
           let xs : List ℕ = neighbours (rows_in n ns) b in
           let r = scan_hit (test w) xs i 65535 so (omega (arith, row_length))
           (eq-eqb (w (get_or xs i 65535)) (w b) (subst (λ (v : ℕ). w v ≡ w b) (cell_is l) same)) in
-          record { found_is = r.0; bank_is = cell_is l ∙ r.1 }
+          record { clash = sym r.0; bank_is = cell_is l ∙ r.1 }
 
-      pub partner_none : get_or ds b 0 ≤ i → PartnerOf (rows_in n ns) w b false 0
+      pub partner_none : get_or ds b 0 ≤ i → has_clash (rows_in n ns) w b ≡ false
       unfolding has_clash
-      partner_none l =
-          let r = scan_end (test w) (neighbours (rows_in n ns) b) i 0 so (omega (arith, row_length)) in
-          record { found_is = r.0; bank_is = r.1 }
+      partner_none l = sym (scan_end (test w) (neighbours (rows_in n ns) b) i so (omega (arith, row_length)))
 
--- the same bank, named otherwise
-pub partner_of : {G : Graph} {w : ℕ → ℕ} {b x v : ℕ} {found : Bool} → b ≡ x → PartnerOf G w b found v → PartnerOf G w x found v
-partner_of {G} {w} {b} {x} {v} {found} e p = subst (λ (y : ℕ). PartnerOf G w y found v) e p
+-- the same row as a slice that the code takes, from `at` * 23 on
+module _ {ns ds : List ℕ} {n : ℕ} (rows : Rowed (rows_in n ns) ns ds) {b at d : ℕ} (h : b < n) (at-is : at ≡ b) (d-is : d ≡ get_or ds at 0) where
+  degree_is : d ≡ get_or ds b 0
+  degree_is = d-is ∙ ap (λ (k : ℕ). get_or ds k 0) at-is
+
+  pub row_inside : at * 23 + d ≤ length ns
+  row_inside = omega (arith, at-is, degree_is, row_few rows h, row_cells rows h)
+
+  pub part_length : length (take (at * 23 + d - at * 23) (drop (at * 23) ns)) ≡ get_or ds b 0
+  part_length =
+      length-take-le (at * 23 + d - at * 23) (drop (at * 23) ns) (omega (arith, length-drop (at * 23) ns, row_inside)) ∙ omega (arith, degree_is)
+
+  pub part_cell : {i : ℕ} → i < length (take (at * 23 + d - at * 23) (drop (at * 23) ns))
+      → get_or (take (at * 23 + d - at * 23) (drop (at * 23) ns)) i 0 ≡ get_or ns (b * 23 + i) 0
+  part_cell {i} l =
+      get_or-take (at * 23 + d - at * 23) (drop (at * 23) ns) i 0 (omega (arith, part_length, degree_is))
+      ∙ get_or-drop (at * 23) ns i 0 ∙ ap (λ (k : ℕ). get_or ns (k * 23 + i) 0) at-is
 
 -- the first that passes
 first_skip : (p : ℕ → Bool) (xs ys : List ℕ) → ((x : ℕ) → T (memb x xs) → p x ≡ false) → first_of p (xs ++ ys) ≡ first_of p ys
@@ -146,14 +158,12 @@ module _ (G : Graph) (w : ℕ → ℕ) where
       let r = upto_at b G.banks h in
       ap (first_of (has_clash G w)) r.1 ∙ first_skip (has_clash G w) (upto b) (b ∷ r.0) (λ x m. none x (upto_below b x m)) ∙ first_here (has_clash G w) b r.0 e
 
-  pub pair_found : {b v : ℕ} {found : Bool} → b < G.banks → ((x : ℕ) → x < b → has_clash G w x ≡ false) → PartnerOf G w b found v → found ≡ true
-      → PairOf G w true b v
+  pub pair_found : {b v : ℕ} → b < G.banks → ((x : ℕ) → x < b → has_clash G w x ≡ false) → PartnerOf G w b v → PairOf G w b v
   unfolding any_clash clash_second
-  pair_found {b} {v} h none p e =
-      let yes-clash : has_clash G w b ≡ true = sym p.found_is ∙ e in
-      let first = first_found b h none yes-clash in
+  pair_found {b} {v} h none p =
+      let first = first_found b h none p.clash in
       record {
-        found_is = sym (is_true (some (has_clash G w) (upto G.banks)) (some_in (has_clash G w) (upto G.banks) b (in_upto G.banks b h) (t_along (sym yes-clash) tt)));
+        clash = (is_true (some (has_clash G w) (upto G.banks)) (some_in (has_clash G w) (upto G.banks) b (in_upto G.banks b h) (t_along (sym p.clash) tt)));
         first_is = sym first;
         second_is = p.bank_is ∙ ap (λ (x : ℕ). first_of (λ v. eqb (w v) (w x)) (neighbours G x)) (sym first);
       }
@@ -163,15 +173,21 @@ module _ (G : Graph) (w : ℕ → ℕ) where
   no_partner x e v m =
       is_false (eqb (w v) (w x)) (λ t. not_both (is_true (some (λ u. eqb (w u) (w x)) (neighbours G x)) (some_in (λ u. eqb (w u) (w x)) (neighbours G x) v m t)) e)
 
-  pub pair_none : ((x : ℕ) → x < G.banks → has_clash G w x ≡ false) → PairOf G w false 0 0
-  unfolding any_clash clash_first clash_second
-  pair_none none =
-      let all : (x : ℕ) → T (memb x (upto G.banks)) → has_clash G w x ≡ false = λ x m. none x (upto_below G.banks x m) in
-      let first = first_none (has_clash G w) (upto G.banks) all in
-      let second : first_of (λ v. eqb (w v) (w 0)) (neighbours G 0) ≡ 0 =
-      first_none (λ v. eqb (w v) (w 0)) (neighbours G 0) (λ v m. no_partner 0 (none 0 (omega (arith, neighbour_below G 0 v m))) v m) in
-      record {
-        found_is = sym (none_some (has_clash G w) (upto G.banks) all);
-        first_is = sym first;
-        second_is = sym (ap (λ (x : ℕ). first_of (λ v. eqb (w v) (w x)) (neighbours G x)) first ∙ second);
-      }
+  module _ (none : (x : ℕ) → x < G.banks → has_clash G w x ≡ false) where
+    all : (x : ℕ) → T (memb x (upto G.banks)) → has_clash G w x ≡ false
+    all x m = none x (upto_below G.banks x m)
+
+    pub pair_none : any_clash G w ≡ false
+    unfolding any_clash
+    pair_none = none_some (has_clash G w) (upto G.banks) all
+
+    pub first_zero : 0 ≡ clash_first G w
+    unfolding clash_first
+    first_zero = sym (first_none (has_clash G w) (upto G.banks) all)
+
+    pub second_zero : 0 ≡ clash_second G w
+    unfolding clash_second
+    second_zero =
+        let second : first_of (λ v. eqb (w v) (w 0)) (neighbours G 0) ≡ 0 =
+        first_none (λ v. eqb (w v) (w 0)) (neighbours G 0) (λ v m. no_partner 0 (none 0 (omega (arith, neighbour_below G 0 v m))) v m) in
+        sym (ap (λ (x : ℕ). first_of (λ v. eqb (w v) (w x)) (neighbours G x)) (sym first_zero) ∙ second)

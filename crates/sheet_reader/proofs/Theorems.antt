@@ -14,8 +14,7 @@ use Rattle.sheet_writer.specs.Calls.{write_sheet}
 use Rattle.sheet_writer.proofs.Theorems.{written_sheet}
 use Rattle.sheet_parser.specs.Sheets.{wave_read, waves_count}
 use Rattle.sheet_parser.proofs.Theorems as Parser
-use Rattle.sheet_reader.specs.declared.Verdict.{Verdict}
-use Rattle.sheet_reader.specs.Calls.{sheet_number, fault_first, fault_second, Answered}
+use Rattle.sheet_reader.specs.Calls.{sheet_number, fault_first, fault_second, Verdict, Answered}
 use Rattle.sheet_reader.specs.Demands.{Proper, Acceptable, NamedPair}
 use Rattle.sheet_reader.proofs.Accepted
 

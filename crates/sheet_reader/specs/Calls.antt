@@ -1,12 +1,14 @@
 -- What the call check_sheet answers of what it is lent (02, N14).
-use Rattle.std.specs.Prelude.{Bool, cond, ◌&&◌, not, List, [], ◌∷◌, ◌≡◌, ℕ, leb, eqb}
+use Rattle.std.specs.Prelude.{Bool, cond, ◌&&◌, not, Result, Ok, Err, List, [], ◌∷◌, ◌≡◌, ⊤, ℕ, ◌≤◌, ◌<◌, leb, eqb}
 use Rattle.rule.specs.Lists.{upto, some}
 use Rattle.rule.specs.Graph.{Graph, neighbours}
+use Rattle.rule.specs.Refusals.{number_of}
 use Rattle.memory.specs.declared.Tally.{Tally}
 use Rattle.memory.specs.Plan.{Slices, long_enough, graph_in, holds}
 use Rattle.planner.specs.Questions.{◌else◌, first_no}
 use Rattle.sheet_parser.specs.Sheets.{Fault, wave_read, waves_count, is_sheet}
-use Rattle.sheet_reader.specs.declared.Verdict.{Verdict}
+use Rattle.sheet_reader.specs.declared.refusal.SheetRefusal.{SheetRefusal}
+use Rattle.sheet_reader.specs.declared.refusal.SheetRefusal.TheVariants.{Asked, NoSheet, Clash, ManyWaves}
 
 -- does a bank that clashes with b stand in its wave?
 unfoldable pub has_clash : Graph → (ℕ → ℕ) → ℕ → Bool
@@ -46,10 +48,33 @@ fault_first s t bytes = cond (eqb (sheet_number s t bytes) 27) (clash_first (gra
 unfoldable pub fault_second : Slices → Tally → List ℕ → ℕ
 fault_second s t bytes = cond (eqb (sheet_number s t bytes) 27) (clash_second (graph_in t.banks s) (wave_read bytes)) 0
 
+-- the parts of an answer: the number, the line at fault, and the two banks; 0 where it has none
+pub record Verdict : Type 0 where
+  pub number : ℕ
+  pub line : ℕ
+  pub first : ℕ
+  pub second : ℕ
+
+-- those of what the call answers
+abbrev pub verdict_of : Result ⊤ SheetRefusal → Verdict
+verdict_of (Ok done) = record { number = 0; line = 0; first = 0; second = 0 }
+verdict_of (Err (Asked e)) = record { number = number_of e; line = 0; first = 0; second = 0 }
+verdict_of (Err (NoSheet line)) = record { number = 26; line = line; first = 0; second = 0 }
+verdict_of (Err (Clash first second)) = record { number = 27; line = 0; first = first.0; second = second.0 }
+verdict_of (Err ManyWaves) = record { number = 27; line = 0; first = 0; second = 0 }
+
+-- each refusal is of its kind: a question about the plan has a number up to 3, and banks that are named are two
+abbrev pub OfKind : Result ⊤ SheetRefusal → Type 0
+OfKind (Ok done) = ⊤
+OfKind (Err (Asked e)) = number_of e ≤ 3
+OfKind (Err (NoSheet line)) = ⊤
+OfKind (Err (Clash first second)) = first.0 < second.0
+OfKind (Err ManyWaves) = ⊤
+
 -- what the call answers: beside 26 the line at fault, beside 27 the two banks
 pub record Answered (s : Slices) (t : Tally) (bytes : List ℕ) (r : Verdict) : Type 0 where
   pub number : r.number ≡ sheet_number s t bytes
   pub fault : r.number ≡ 26 → Fault t.banks bytes r.line
   pub line : (r.number ≡ 26 → ⊥) → r.line ≡ 0
-  pub first : r.first.0 ≡ fault_first s t bytes
-  pub second : r.second.0 ≡ fault_second s t bytes
+  pub first : r.first ≡ fault_first s t bytes
+  pub second : r.second ≡ fault_second s t bytes

@@ -1,85 +1,50 @@
 // The sheet reader: whether bytes from anybody are a sheet of a plan that keeps clashing banks apart. `check_sheet` is the call.
 #![tactic(auto)]
 
+mod refusal;
 mod rows;
 
-ghost use Rattle.memory.specs.Plan.{slices_of};
-ghost use Rattle.std.specs.Prelude.{◌≡◌, ◌≤◌, length};
+ghost use Rattle.memory.specs.Lent.{slices_in};
+ghost use Rattle.std.specs.Prelude.{◌≤◌, length};
 ghost use Rattle.memory.specs.inner.View.{Rowed};
-ghost use Rattle.sheet_reader.specs.Calls.{Answered};
+ghost use Rattle.sheet_reader.specs.Calls.{verdict_of, Answered, OfKind};
 ghost use Rattle.sheet_parser.specs.inner.Lines.{wave_in};
 ghost use Rattle.sheet_reader.specs.inner.Rows.{rows_in, Judged};
 
 use crate::rows::find_clash;
-use memory::Tally;
+use memory::PlanMemory;
 use planner::check_plan;
-use rule::{Bank, MOST_BANKS};
+pub use refusal::SheetRefusal;
+use rule::MOST_BANKS;
 use sheet_parser::{UNNAMED, read_sheet};
 
-// The answer of check_sheet: the number; beside 26 the line at fault, from 1; beside 27 two clashing banks in one wave, the
-// lowest first bank, then the lowest second, or 0 and 0 where there are too many waves alone.
-#[derive(Clone, Copy)]
-pub struct Verdict {
-    pub number: u16,
-    pub line: u16,
-    pub first: Bank,
-    pub second: Bank,
-}
-
-// An answer that names no banks.
-fn without_banks(number: u16, line: u16) -> Verdict
-    ensures { (result.number ≡ number) × (result.line ≡ line) × (result.first.0 ≡ 0) × (result.second.0 ≡ 0) }
-{
-    Verdict {
-        number: number,
-        line: line,
-        first: Bank(0),
-        second: Bank(0),
-    }
-}
-
 // Judges a sheet of k waves by the waves of its banks: does it keep clashing banks apart, in no more waves than the plan?
-fn judge(neighbours: &[u16], degrees: &[u16], cells: &[u16], tally: Tally, k: u16) -> Verdict
-    requires rowed { Rowed (rows_in tally.banks neighbours.now) neighbours.now degrees.now }
-    requires banks_in_bounds { tally.banks ≤ length cells.now }
-    ensures { Judged (rows_in tally.banks neighbours.now) (wave_in cells.now) k tally.waves result }
+fn judge(plan: PlanMemory, cells: &[u16], k: u16) -> Result<(), SheetRefusal>
+    requires rowed { Rowed (rows_in plan.tally.banks plan.neighbours.now) plan.neighbours.now plan.degrees.now }
+    requires cells_for_all { plan.tally.banks ≤ length cells.now }
+    ensures judged { Judged (rows_in plan.entry.tally.banks plan.entry.neighbours.now) (wave_in cells.now) k plan.entry.tally.waves (verdict_of result) }
+    ensures kind { OfKind result }
 {
-    let pair = find_clash(neighbours, degrees, cells, tally.banks);
-    if pair.found {
-        return Verdict {
-            number: 27,
-            line: 0,
-            first: Bank(pair.first.0),
-            second: Bank(pair.second.0),
-        };
+    let tally = plan.tally;
+    if let Some((first, second)) = find_clash(plan.neighbours, plan.degrees, cells, tally.banks) {
+        return Err(SheetRefusal::Clash { first, second });
     }
     if tally.waves < k {
-        return without_banks(27, 0);
+        return Err(SheetRefusal::ManyWaves);
     }
-    without_banks(0, 0)
+    Ok(())
 }
 
 // Whether the bytes are a sheet of this plan with each bank once, no empty wave and its foot, that keeps clashing banks in
 // different waves and has no more waves than the plan.
-pub fn check_sheet(
-    neighbours: &[u16],
-    degrees: &[u16],
-    waves: &[u16],
-    counts: &[u16],
-    ranks: &[u16],
-    tally: Tally,
-    sheet: &[u8],
-) -> Verdict
-    ensures { Answered (slices_of neighbours.now degrees.now waves.now counts.now ranks.now) tally sheet.now result }
+pub fn check_sheet(plan: PlanMemory, sheet: &[u8]) -> Result<(), SheetRefusal>
+    ensures answered { Answered (slices_in plan.entry) plan.entry.tally sheet.now (verdict_of result) }
+    ensures kind { OfKind result }
 {
-    let number = check_plan(neighbours, degrees, waves, counts, ranks, tally);
-    if number != 0 {
-        return without_banks(number, 0);
-    }
+    check_plan(plan)?;
     let mut cells = [UNNAMED; MOST_BANKS];
-    let read = read_sheet(sheet, tally, &mut cells);
-    if !read.ok {
-        return without_banks(26, read.line);
+    match read_sheet(sheet, plan.tally, &mut cells) {
+        Ok(k) => judge(plan, &cells, k),
+        Err(line) => Err(SheetRefusal::NoSheet { line }),
     }
-    judge(neighbours, degrees, &cells, tally, read.waves)
 }

@@ -4,6 +4,7 @@ use mathlib.Core.Path.{◌≡◌, sym, ap, ap₂, ◌∙◌}
 use Prim.Native.Nat.{ℕ, ◌+◌, ◌*◌, ◌≤◌}
 use lib.Dec.{T}
 use lib.ListN.{length}
+use Rattle.std.specs.Prelude.{Ok}
 use Rattle.rule.specs.Lists.{upto}
 use Rattle.rule.specs.Graph.{Graph, empty}
 use Rattle.rule.specs.Wave.{wave_count}
@@ -40,7 +41,7 @@ one_sheet G H s t p q = sym (Plans.sheet_is G s t p) ∙ Plans.sheet_is H s t q
 
 -- 3. an output of 4,084 bytes is never too short: memory that holds the plan of G, under a cap that fits, gives its sheet
 pub never_short : (G : Graph) (s : Slices) (t : Tally) (out : List ℕ) → PlanOf G s t → T (cap_fits t) → 4084 ≤ length out
-    → text_result (record { number = 0; length = length (sheet G) }) (over (sheet G) out) ≡ write_sheet s t out
+    → text_result (Ok (length (sheet G))) (over (sheet G) out) ≡ write_sheet s t out
 never_short = Writing.never_short sheet 4084 sheet_fits one_sheet
 
 -- 4. reading the sheet gives the number of waves, letters and banks of the waves, and on its foot the banks and the clashes of the plan

@@ -14,24 +14,22 @@ fn put_member(out: &mut [u8], at: usize, w: Wave, c: Wave, b: Bank) -> usize
     requires { Room (member_text w.0 c.0 b.0) at out.old }
     ensures { Puts (member_text w.0 c.0 b.0) at out.old result out.new }
 {
-    if w.0 != c.0 {
+    if w != c {
         return at;
     }
     let next = put_byte(out, at, b' ');
     put_number(out, next, b.0)
 }
 
-// The banks of wave c, ascending, of n banks in all.
+// The banks of wave c, ascending, of n banks in all. Over the bank numbers, which are what is written. By itself beside poster_writer's `gather`:
+// that one leaves cells, this one text, and a shared walk would take a closure that writes to the output.
 fn put_members(out: &mut [u8], at: usize, waves: &[u16], n: u16, c: Wave) -> usize
     requires { (n ≤ length waves.now) × Room (members_text waves.now c.0 n) at out.old }
     ensures { Puts (members_text waves.now c.0 n) at out.old result out.new }
 {
     let mut next = at;
-    let mut b: u16 = 0;
-    while b < n {
-        let i = b as usize;
-        next = put_member(out, next, Wave(waves[i]), c, Bank(b));
-        b += 1;
+    for b in 0..n {
+        next = put_member(out, next, Wave(waves[usize::from(b)]), c, Bank(b));
     }
     next
 }
@@ -52,10 +50,8 @@ pub fn put_lines(out: &mut [u8], at: usize, waves: &[u16], n: u16, k: u16) -> us
     ensures { Puts (sheet_waves waves.now n k) at out.old result out.new }
 {
     let mut next = at;
-    let mut c: u16 = 0;
-    while c < k {
+    for c in 0..k {
         next = put_line(out, next, waves, n, Wave(c));
-        c += 1;
     }
     next
 }

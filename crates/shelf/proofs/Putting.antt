@@ -8,6 +8,7 @@ use lib.ListN.{length, get_or, take, drop, length-append, length-take, length-dr
 use lib.Seq.{take_at, take-take, length-take-le, take-append-le, take-append_seam, drop-append-le, drop-append-add, drop_at, drop-drop, get_or-drop, get_or-take}
 use Rattle.memory.specs.Cells.{over}
 use Rattle.text.specs.Places.{put, Puts}
+use borrow.Rule.Slice.PartMut.{put_mid}
 use Rattle.text.proofs.Putting.{puts_then, put_front}
 use Rattle.shelf.specs.Shelf.{part}
 use Rattle.shelf.specs.inner.Copies.{Copied}
@@ -86,6 +87,12 @@ pub copied_puts : (cells : List ℕ) (size at : ℕ) (to : List ℕ) (r : ℕ) (
     → Puts (take size cells) at to r to'
 copied_puts cells size at to r to' h p =
     record { next = omega (arith, p.next, length-take-le size cells h); left = p.left }
+
+-- cells copied over a part of a slice are put there
+pub part_put : (cells : List ℕ) (size at k : ℕ) (to new : List ℕ) → size ≤ length cells → k ≡ size → new ≡ take size cells
+    → put_mid at k to new ≡ put (take size cells) at to
+unfolding put
+part_put cells size at k to new h e f = rw (f, e, length-take-le size cells h, drop-drop size at to)
 
 -- a part copied to the front, where all that follows its start was lent
 pub copied_front : (place : List ℕ) (start size : ℕ) (to : List ℕ) (r : ℕ) (to' : List ℕ) → start + size ≤ length place

@@ -9,13 +9,8 @@ pub fn put_cells(to: &mut [u16], at: usize, cells: &[u16], size: usize) -> usize
     requires { (size ≤ length cells.now) × (at + size ≤ length to.old) }
     ensures { Copied cells.now size at to.old result to.new }
 {
-    let mut next = at;
-    let mut i = 0;
-    while i < size {
-        to[next] = cells[i];
-        next += 1;
-        i += 1;
-    }
+    let next = at + size;
+    to[at..next].copy_from_slice(&cells[..size]);
     next
 }
 

@@ -6,5 +6,5 @@ mod names;
 mod shelf;
 
 pub use cells::{put_cells, put_part};
-pub use names::{PLACES, place_of};
+pub use names::place_of;
 pub use shelf::{TALLY_CELLS, place_size, shelf_right, tally_in};

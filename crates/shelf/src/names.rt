@@ -1,9 +1,6 @@
 // The names of kept states.
-ghost use Rattle.std.specs.Prelude.{◌≡◌};
+ghost use Rattle.std.specs.Prelude.{◌≡◌, ◌<◌, MatchOption};
 ghost use Rattle.shelf.specs.Names.{same, place_of};
-
-// The places of a shelf, and what stands for the place of an unknown name.
-pub const PLACES: u16 = 3;
 
 // Whether two byte strings are the same.
 fn same_bytes(a: &[u8], b: &[u8]) -> bool
@@ -12,28 +9,26 @@ fn same_bytes(a: &[u8], b: &[u8]) -> bool
     if a.len() != b.len() {
         return false;
     }
-    let mut i = 0;
-    while i < b.len() {
-        if a[i] != b[i] {
+    for (i, byte) in b.iter().enumerate() {
+        if a[i] != *byte {
             return false;
         }
-        i += 1;
     }
     true
 }
 
-// The place of a name, from 0, or 3 for any other bytes.
-pub fn place_of(name: &[u8]) -> u16
-    ensures { result ≡ place_of name.now }
+// The place of a name, from 0 to 2, if it is one of the three.
+pub fn place_of(name: &[u8]) -> Option<u16>
+    ensures { MatchOption result (place_of name.now ≡ 3) (λ i. (i ≡ place_of name.now) × (i < 3)) }
 {
     if same_bytes(name, b"MORNING ") {
-        return 0;
+        return Some(0);
     }
     if same_bytes(name, b"NOON    ") {
-        return 1;
+        return Some(1);
     }
     if same_bytes(name, b"CLOSE   ") {
-        return 2;
+        return Some(2);
     }
-    PLACES
+    None
 }

@@ -2,9 +2,9 @@
 ghost use Rattle.std.specs.Prelude.{◌≡◌, ◌≤◌, length};
 ghost use Rattle.shelf.specs.Shelf.{place_size, shelf_size, tally_in, holds_in, place_right, shelf_right};
 
-use memory::Tally;
+use memory::{PlanMemory, Tally};
 use plan_test::holds_plan;
-use rule::{COUNT_CELLS, ROW_CELLS, wide};
+use rule::{COUNT_CELLS, ROW_CELLS};
 
 // The cells of a place for each bank: its row, its Counts, its degree, its wave and its rank.
 const BANK_CELLS: usize = 50;
@@ -19,7 +19,7 @@ pub const TALLY_CELLS: usize = 3;
 pub fn place_size(banks: u16) -> usize
     ensures { result ≡ place_size banks }
 {
-    wide(banks) * BANK_CELLS + OTHER_CELLS
+    usize::from(banks) * BANK_CELLS + OTHER_CELLS
 }
 
 // The tally in a place of n banks.
@@ -42,7 +42,7 @@ fn holds_in(place: &[u16], banks: u16) -> bool
     requires { (banks ≤ 1024) × (length place.now ≡ place_size banks) }
     ensures { result ≡ holds_in banks place.now }
 {
-    let n = wide(banks);
+    let n = usize::from(banks);
     let tally = tally_in(place, n);
     if tally.banks != banks {
         return false;
@@ -54,14 +54,14 @@ fn holds_in(place: &[u16], banks: u16) -> bool
     let tally_at = count + n * COUNT_CELLS;
     let rank = tally_at + TALLY_CELLS;
     let end = rank + n;
-    holds_plan(
-        &place[row..degree],
-        &place[degree..wave],
-        &place[wave..count],
-        &place[count..tally_at],
-        &place[rank..end],
+    holds_plan(PlanMemory {
+        neighbours: &place[row..degree],
+        degrees: &place[degree..wave],
+        waves: &place[wave..count],
+        counts: &place[count..tally_at],
+        ranks: &place[rank..end],
         tally,
-    )
+    })
 }
 
 // Whether a place is unused, or used and holds a plan of so many banks.
@@ -70,13 +70,7 @@ fn place_right(place: &[u16], banks: u16) -> bool
     ensures { result ≡ place_right banks place.now }
 {
     let used = place[0];
-    if used == 0 {
-        return true;
-    }
-    if used != 1 {
-        return false;
-    }
-    holds_in(place, banks)
+    used == 0 || used == 1 && holds_in(place, banks)
 }
 
 // Question 5 of a shelf that is long enough.
@@ -88,11 +82,7 @@ pub fn shelf_right(shelf: &[u16], banks: u16) -> bool
     let noon = place_size(banks);
     let close = noon + noon;
     let end = close + noon;
-    if !place_right(&shelf[morning..noon], banks) {
-        return false;
-    }
-    if !place_right(&shelf[noon..close], banks) {
-        return false;
-    }
-    place_right(&shelf[close..end], banks)
+    place_right(&shelf[morning..noon], banks)
+        && place_right(&shelf[noon..close], banks)
+        && place_right(&shelf[close..end], banks)
 }

@@ -21,11 +21,12 @@ fn list_moved(moved: &mut [u16], count: usize, b: Bank, changed: bool) -> usize
     ensures moved_after { moved.new ≡ cond changed (set moved.old count b.0) moved.old }
     ensures value { result ≡ cond changed (count + 1) count }
 {
-    if !changed {
-        return count;
+    if changed {
+        moved[count] = b.0;
+        count + 1
+    } else {
+        count
     }
-    moved[count] = b.0;
-    count + 1
 }
 
 // Takes up the earliest bank of the queue: puts it at the trail's end, collects, assigns, puts it at the end of moved if its wave changed, notifies, and
@@ -47,12 +48,14 @@ pub fn can_step(
         → Stepped e (given neighbours.now degrees.now waves.old counts.old ranks.now trail.old moved.old e.was.tally)
         (given neighbours.now degrees.now waves.new counts.new ranks.now trail.new moved.new e.was.tally) queue.old queue.new p result }
 {
-    let taken = p.taken;
-    let changes = p.moved;
-    let top = p.top;
+    let Progress {
+        taken,
+        moved: changes,
+        top,
+    } = p;
     let next = taken + 1;
     let b = dequeue(ranks, queue);
-    let at = b.0 as usize;
+    let at = usize::from(b.0);
     trail[taken] = b.0;
     let old = Wave(waves[at]);
     let colours = collect_colours(counts, b);
@@ -62,10 +65,10 @@ pub fn can_step(
     notify_colours(
         neighbours, degrees, counts, ranks, queue, b, changed, old, new,
     );
-    let highest = highest_after(top, old, new);
+    let top = highest_after(top, old, new);
     Progress {
         taken: next,
         moved: moves,
-        top: highest,
+        top,
     }
 }

@@ -26,15 +26,12 @@ pub fn settle(
         → Settled e (given neighbours.now degrees.now waves.new counts.new ranks.now trail.new moved.new e.was.tally) result
         × Idle (new e).banks ranks.now queue.new }
 {
-    let top = Highest {
-        most: most,
-        left: false,
-    };
     let mut p = Progress {
         taken: 0,
         moved: 0,
-        top: top,
+        top: Highest { most, left: false },
     };
+    // By hand: a bank that is taken up may queue others.
     while !is_empty(queue) {
         p = can_step(
             neighbours, degrees, waves, counts, ranks, trail, moved, queue, p,

@@ -10,7 +10,7 @@ use lib.Dec.{leb, ltb, eqb}
 use lib.ListN.{length, get_or, length-append, get_or-append}
 use borrow.Author.Tests.{lt-ltb, le-ltb, le-leb, lt-leb, ne_eqb}
 use Rattle.rule.proofs.Booleans.{lt_or_ge, both_true}
-use Rattle.text.specs.declared.number.Number.TheVariants.{Value, Nothing}
+use Rattle.std.proofs.Common.{Some, None}
 use Rattle.text.specs.Numbers.{digits, is_number, value_from, number, decimal_in, decimal}
 use Rattle.text.specs.Unpadded.{is_unpadded, unpadded_number}
 use Rattle.text.proofs.Numbers.{number_kept}
@@ -123,14 +123,14 @@ no_padding x =
     ]
 
 -- numbers below 10,000 read back, in the unpadded form too; the others have too many digits
-pub reads_unpadded : (x : ℕ) → x < 10000 → unpadded_number (decimal x) ≡ Value x
+pub reads_unpadded : (x : ℕ) → x < 10000 → unpadded_number (decimal x) ≡ Some x
 unfolding unpadded_number is_unpadded
 reads_unpadded x h =
     rw (le-leb 1 (length (decimal x)) (some_digit x), le-leb (length (decimal x)) 4 (few_digits 3 x h), no_padding x, decimal_digits x, decimal_value x)
 
-pub reads_back : (x : ℕ) → x < 10000 → number (decimal x) ≡ Value x
+pub reads_back : (x : ℕ) → x < 10000 → number (decimal x) ≡ Some x
 reads_back x h = number_kept (decimal x) x (reads_unpadded x h)
 
-pub reads_not : (x : ℕ) → 10000 ≤ x → number (decimal x) ≡ Nothing
+pub reads_not : (x : ℕ) → 10000 ≤ x → number (decimal x) ≡ None
 unfolding number is_number
 reads_not x h = rw (le-leb 1 (length (decimal x)) (some_digit x), lt-leb (length (decimal x)) 4 (many_digits 4 x h))

@@ -14,15 +14,15 @@ use borrow.Author.Tests.{le-leb, lt-leb, leb-true}
 use Rattle.rule.specs.Lists.{memb}
 use Rattle.rule.proofs.Booleans.{both_true}
 use Rattle.rule.proofs.Lists.{in_cons, in_none}
-use Rattle.text.specs.declared.number.Number.TheVariants.{Value, Nothing}
+use Rattle.std.proofs.Common.{Some, None}
 use Rattle.text.specs.Numbers.{digits, value_from}
 use Rattle.text.specs.inner.Digits.{digits_value}
 
-pub digits_yes : (s : List ℕ) (v : ℕ) → digits s ≡ true → value_from 0 s ≡ v → Value v ≡ digits_value s
+pub digits_yes : (s : List ℕ) (v : ℕ) → digits s ≡ true → value_from 0 s ≡ v → Some v ≡ digits_value s
 unfolding digits_value
 digits_yes s v d e = rw (d, e)
 
-pub digits_no : (s : List ℕ) → digits s ≡ false → Nothing ≡ digits_value s
+pub digits_no : (s : List ℕ) → digits s ≡ false → None ≡ digits_value s
 unfolding digits_value
 digits_no s d = rw d
 
@@ -67,14 +67,6 @@ pub more : (v d i : ℕ) → v < 10 ^ i → d ≤ 9 → 10 * v + d < 10 ^ (i + 1
 more v d i h k =
     let p : 10 ^ (i + 1) ≡ 10 * 10 ^ i = ap (λ (n : ℕ). 10 ^ n) (add-one i) ∙ pow-succ' 10 i in
     omega arith
-
--- at most three digits
-pub small : (v i : ℕ) → v < 10 ^ i → i ≤ 3 → v < 1000
-small v zero h k = omega arith
-small v (suc zero) h k = omega arith
-small v (suc (suc zero)) h k = omega arith
-small v (suc (suc (suc zero))) h k = h
-small v (suc (suc (suc (suc i)))) h k = absurd (omega arith)
 
 -- digits keep a value below a power of ten
 pub value_below : (v i : ℕ) (s : List ℕ) → digits s ≡ true → v < 10 ^ i → value_from v s < 10 ^ (i + length s)

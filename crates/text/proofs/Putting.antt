@@ -1,18 +1,26 @@
 -- One text after another in a slice.
 use mathlib.Core.List.{List, [], ◌∷◌, ◌++◌, append_assoc}
 use mathlib.Core.Path.{◌≡◌, refl, sym, ap, ◌∙◌}
-use Prim.Native.Nat.{ℕ, ◌+◌, ◌≤◌, ◌<◌}
+use Prim.Native.Nat.{ℕ, ◌+◌, ◌-◌, ◌≤◌, ◌<◌}
 use native.Mathlib.Nat.{add-zero, zero-add}
 use native.Mathlib.Numerals.{add-one}
 use native.Mathlib.Omega.{arith}
 use lib.ListN.{length, take, drop, set, length-append, take-append-drop}
 use lib.Seq.{length-take-le, take_at, drop-append-add, drop-drop, set_split}
+use borrow.Rule.Slice.PartMut.{put_mid}
 use Rattle.text.specs.Places.{put, Puts}
 
 -- no text
 pub puts_none : (at : ℕ) (out : List ℕ) → Puts [] at out at out
 unfolding put
 puts_none at out = record { next = sym (add-zero at); left = sym (rw (add-zero at) (take-append-drop at out)) }
+
+-- a part of the slice that was written whole
+pub puts_part : (text : List ℕ) (at e : ℕ) (out : List ℕ) → e ≡ at + length text → Puts text at out e (put_mid at (e - at) out text)
+unfolding put
+puts_part text at e out h =
+    let long : e - at ≡ length text = omega arith in
+    record { next = h; left = rw (long, drop-drop (length text) at out) refl }
 
 -- one byte
 pub puts_one : (v at : ℕ) (out : List ℕ) → at < length out → Puts (v ∷ []) at out (at + 1) (set out at v)

@@ -1,7 +1,5 @@
 -- Numbers as text: read (01, "The list") and printed in decimal.
-use Rattle.std.specs.Prelude.{Bool, true, cond, ◌&&◌, List, [], ◌∷◌, ◌++◌, ℕ, zero, suc, ◌+◌, ◌*◌, ◌-◌, ◌/◌, ◌%◌, leb, ltb, length}
-use Rattle.text.specs.declared.number.Number.{Number}
-use Rattle.text.specs.declared.number.Number.TheVariants.{Value, Nothing}
+use Rattle.std.specs.Prelude.{Option, Some, None, Bool, true, cond, ◌&&◌, List, [], ◌∷◌, ◌++◌, ℕ, zero, suc, ◌+◌, ◌*◌, ◌-◌, ◌/◌, ◌%◌, leb, ltb, length}
 
 -- are they all digits (bytes 48 to 57)?
 unfoldable pub digits : List ℕ → Bool
@@ -18,8 +16,8 @@ value_from v [] = v
 value_from v (c ∷ cs) = value_from (10 * v + (c - 48)) cs
 
 -- what a part reads as where a number belongs
-unfoldable pub number : List ℕ → Number
-number p = cond (is_number p) (Value (value_from 0 p)) Nothing
+unfoldable pub number : List ℕ → Option ℕ
+number p = cond (is_number p) (Some (value_from 0 p)) None
 
 -- the digits of x, the highest first, if it has no more than `depth`
 unfoldable pub decimal_in : ℕ → ℕ → List ℕ

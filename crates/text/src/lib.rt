@@ -5,7 +5,7 @@ mod number;
 mod place;
 mod put;
 
-pub use number::{Number, read_number};
+pub use number::read_number;
 pub use place::find;
 pub use put::{put_byte, put_number, put_text};
 

@@ -6,43 +6,28 @@ ghost use Rattle.text.specs.inner.Digits.{digits_value};
 // The most digits of a number.
 const MOST_DIGITS: usize = 4;
 
-// What a part reads as, where a number belongs.
-#[derive(Clone, Copy)]
-pub enum Number {
-    Value(u16),
-    Nothing,
-}
-
 // Reads a part as a number.
-pub fn read_number(s: &[u8]) -> Number
+#[tactic(auto, unfolding(crate::specs::Numbers::number, crate::specs::Numbers::is_number, crate::specs::inner::Digits::digits_value))]
+pub fn read_number(s: &[u8]) -> Option<u16>
     ensures { result ≡ number s.now }
 {
-    if s.len() < 1 {
-        return Number::Nothing;
+    match s.len() {
+        1..=MOST_DIGITS => read_digits(s),
+        _ => None,
     }
-    if MOST_DIGITS < s.len() {
-        return Number::Nothing;
-    }
-    read_digits(s)
 }
 
 // The value of at most four digits.
-fn read_digits(s: &[u8]) -> Number
+fn read_digits(s: &[u8]) -> Option<u16>
     requires { length s.now ≤ 4 }
     ensures { result ≡ digits_value s.now }
 {
     let mut value: u16 = 0;
-    let mut i = 0;
-    while i < s.len() {
-        let x = s[i];
-        if x < b'0' {
-            return Number::Nothing;
+    for x in s {
+        match *x {
+            b'0'..=b'9' => value = 10 * value + u16::from(*x - b'0'),
+            _ => return None,
         }
-        if b'9' < x {
-            return Number::Nothing;
-        }
-        value = 10 * value + (x - b'0') as u16;
-        i += 1;
     }
-    Number::Value(value)
+    Some(value)
 }

@@ -7,12 +7,8 @@ pub fn find(s: &[u8], from: usize, c: u8) -> usize
     requires { from ≤ length s.now }
     ensures { Finds s.now from c result }
 {
-    let mut i = from;
-    while i < s.len() {
-        if s[i] == c {
-            return i;
-        }
-        i += 1;
+    match s[from..].iter().position(|x| *x == c) {
+        Some(i) => from + i,
+        None => s.len(),
     }
-    s.len()
 }

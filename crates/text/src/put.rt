@@ -17,12 +17,8 @@ pub fn put_text(out: &mut [u8], at: usize, text: &[u8]) -> usize
     requires { Room text.now at out.old }
     ensures { Puts text.now at out.old result out.new }
 {
-    let mut next = at;
-    let mut i = 0;
-    while i < text.len() {
-        next = put_byte(out, next, text[i]);
-        i += 1;
-    }
+    let next = at + text.len();
+    out[at..next].copy_from_slice(text);
     next
 }
 
@@ -32,8 +28,8 @@ pub fn put_number(out: &mut [u8], at: usize, x: u16) -> usize
     ensures { Puts (decimal x) at out.old result out.new }
 {
     if x < 10 {
-        return put_byte(out, at, (48 + x) as u8);
+        return put_byte(out, at, b'0' + x as u8);
     }
     let next = put_number(out, at, x / 10);
-    put_byte(out, next, (48 + x % 10) as u8)
+    put_byte(out, next, b'0' + (x % 10) as u8)
 }

@@ -86,36 +86,30 @@ pub sum_fits : (ds : List ℕ) {row : List ℕ} {n d high : ℕ} → FewEach ds 
     → (k : ℕ) → k < 24 → high + get_or row k 0 < 65536
 sum_fits ds {n = n} {d = d} few l t k small = omega (arith, l.is, cells_few ds n d, few.most, count_small few (omega arith) t small)
 
--- the next degree, 23 - seen, is looked at after those above it: so many banks have it or more
-module _ (ds : List ℕ) (n : ℕ) {seen high : ℕ} (l : LookedFrom (cells_from ds n) (24 - seen) high) (left : seen < 24)
+-- the next degree, d - 1, is looked at after those above it: so many banks have it or more
+module _ (ds : List ℕ) (n : ℕ) {d high : ℕ} (l : LookedFrom (cells_from ds n) d high) (left : 0 < d) (most : d ≤ 24)
     {row : List ℕ} (t : Tallied row (cells_at ds n)) where
-  next_is : high + get_or row (23 - seen) 0 ≡ cells_from ds n (23 - seen)
+  next_is : high + get_or row (d - 1) 0 ≡ cells_from ds n (d - 1)
   next_is =
-      let above : 24 - seen ≡ suc (23 - seen) = omega arith in
-      omega (arith, rw above at l.is, t.counts (23 - seen) (omega arith), cells_next ds n (23 - seen))
+      let above : d ≡ suc (d - 1) = omega arith in
+      omega (arith, l.is, ap (cells_from ds n) above, t.counts (d - 1) (omega arith), cells_next ds n (d - 1))
 
   -- as many as one plus the degree: that is the bound
-  pub found : 23 - seen + 1 ≤ high + get_or row (23 - seen) 0 → Above (cells_from ds n) (23 - seen + 1)
-  found enough d = (
-    λ below. omega (arith, next_is, cells_fall ds n d (23 - seen) (omega arith)),
-    λ below. elim (lt_or_ge d (23 - seen + 1)) [ inl k ↦ k | inr k ↦ absurd (omega (arith, l.low d (omega arith))) ],
+  pub found : d - 1 + 1 ≤ high + get_or row (d - 1) 0 → Above (cells_from ds n) (d - 1 + 1)
+  found enough e = (
+    λ below. omega (arith, next_is, cells_fall ds n e (d - 1) (omega arith)),
+    λ below. elim (lt_or_ge e (d - 1 + 1)) [ inl k ↦ k | inr k ↦ absurd (omega (arith, l.low e (omega arith))) ],
   )
 
   -- or fewer
-  pub passed : high + get_or row (23 - seen) 0 < 23 - seen + 1 → LookedFrom (cells_from ds n) (24 - (seen + 1)) (high + get_or row (23 - seen) 0)
-  passed few =
-      let here : 24 - (seen + 1) ≡ 23 - seen = omega arith in
-      record {
-        is = rw here next_is;
-        low = λ d k. elim (lt_or_ge (23 - seen) d) [
-          | inl m ↦ l.low d (omega arith)
-          | inr m ↦ let same : d ≡ 23 - seen = omega arith in rw same (omega (arith, next_is))
-        ];
-      }
-
--- all degrees are looked at
-pub none_found : (many : ℕ → ℕ) {seen high : ℕ} → LookedFrom many (24 - seen) high → 24 ≤ seen → Above many 0
-none_found many l all d = (λ below. absurd (omega arith), λ below. absurd (omega (arith, l.low d (omega arith))))
+  pub passed : high + get_or row (d - 1) 0 < d - 1 + 1 → LookedFrom (cells_from ds n) (d - 1) (high + get_or row (d - 1) 0)
+  passed few = record {
+    is = next_is;
+    low = λ e k. elim (lt_or_ge (d - 1) e) [
+      | inl m ↦ l.low e (omega arith)
+      | inr m ↦ let same : e ≡ d - 1 = omega arith in rw same (omega (arith, next_is))
+    ];
+  }
 
 -- one number alone is so
 above_le : {many : ℕ → ℕ} {r r' : ℕ} → Above many r → Above many r' → r ≤ r'

@@ -8,15 +8,19 @@ use lib.Dec.{T, leb}
 use lib.ListN.{length, drop, length-append}
 use lib.Seq.{take_at}
 use borrow.Author.Tests.{le-leb, lt-leb}
+use Rattle.std.specs.Prelude.{Result, Ok, Err}
+use Rattle.rule.specs.declared.refusal.Refusal.{Refusal}
+use Rattle.rule.specs.declared.refusal.Refusal.TheVariants.{ShortOutput}
 use Rattle.rule.specs.Graph.{Graph}
+use Rattle.rule.specs.Refusals.{number_of, value_or}
+use Rattle.rule.proofs.Refusals.{refused_some}
 use Rattle.memory.specs.declared.Tally.{Tally}
 use Rattle.memory.specs.Cells.{over}
 use Rattle.memory.specs.Plan.{Slices, long_enough, graph_in, cap_fits, holds, Clashes, PlanOf}
 use Rattle.planner.specs.Questions.{◌else◌, first_no}
 use Rattle.planner.specs.Calls.{plan_number}
 use Rattle.planner.proofs.Numbers.{held_number, number_plan}
-use Rattle.wave_lines.specs.declared.Written.{Written}
-use Rattle.wave_lines.specs.Calls.{text_number, TextResult, text_result, text_by, write_text, written_bytes}
+use Rattle.wave_lines.specs.Calls.{text_number, TextResult, written, text_result, text_by, write_text, written_bytes}
 
 -- question 12 comes after questions 3 to 5: their number stays, and where they have none it decides
 sooner : (a b c d : Bool) (n : ℕ) → n ≡ first_no ((a else 1) ∷ (b else 2) ∷ (c else 3) ∷ []) → (n ≡ 0 → ⊥)
@@ -43,7 +47,7 @@ passed true true false d e = e
 passed true false c d e = e
 passed false b c d e = e
 
-refused : (n : ℕ) (text out : List ℕ) → (n ≡ 0 → ⊥) → text_result (record { number = n; length = 0 }) out ≡ text_by n text out
+refused : (n : ℕ) (text out : List ℕ) → (n ≡ 0 → ⊥) → written n 0 out ≡ text_by n text out
 unfolding text_by
 refused zero text out z = absurd (z refl)
 refused (suc c) text out z = refl
@@ -75,12 +79,12 @@ module _ (text : Graph → List ℕ) (s : Slices) (t : Tally) (out : List ℕ) w
   unfolding write_text
   written_within = within (text_number bytes s t out) bytes out
 
-  -- a number of questions 3 to 5
-  pub text_refused : (n : ℕ) → n ≡ plan_number s t → (n ≡ 0 → ⊥) → text_result (record { number = n; length = 0 }) out ≡ write_text text s t out
+  -- a refusal by questions 3 to 5
+  pub text_refused : (e : Refusal) → number_of e ≡ plan_number s t → text_result (Err e) out ≡ write_text text s t out
   unfolding write_text text_number plan_number
-  text_refused n e z =
-      refused n bytes out z
-      ∙ ap (λ (k : ℕ). text_by k bytes out) (sym (sooner few long held room n e z))
+  text_refused e h =
+      refused (number_of e) bytes out (refused_some e)
+      ∙ ap (λ (k : ℕ). text_by k bytes out) (sym (sooner few long held room (number_of e) h (refused_some e)))
 
   number_12 : 0 ≡ plan_number s t → text_number bytes s t out ≡ first_no ((leb (length bytes) (length out) else 12) ∷ [])
   unfolding text_number plan_number
@@ -88,22 +92,22 @@ module _ (text : Graph → List ℕ) (s : Slices) (t : Tally) (out : List ℕ) w
 
   -- the output is too short
   pub text_short : 0 ≡ plan_number s t → length out < length (text (graph_in t.banks s))
-      → text_result (record { number = 12; length = 0 }) out ≡ write_text text s t out
+      → text_result (Err ShortOutput) out ≡ write_text text s t out
   unfolding write_text text_by first_no
   text_short e h = rw (number_12 e, lt-leb (length bytes) (length out) h)
 
   -- the text is written
   pub text_done-law : 0 ≡ plan_number s t → length (text (graph_in t.banks s)) ≤ length out → (r : ℕ) (out' : List ℕ)
       → r ≡ length (text (graph_in t.banks s)) → out' ≡ over (text (graph_in t.banks s)) out
-      → text_result (record { number = 0; length = r }) out' ≡ write_text text s t out
+      → text_result (Ok r) out' ≡ write_text text s t out
   unfolding write_text text_by first_no
   text_done-law e h r out' er eo =
       rw (number_12 e, le-leb (length bytes) (length out) h)
-      (ap₂ (λ (k : ℕ) (o : List ℕ). text_result (record { number = 0; length = k }) o) er eo)
+      (ap₂ (λ (k : ℕ) (o : List ℕ). written 0 k o) er eo)
 
   -- the same text, got otherwise
   pub text_fits : 0 ≡ plan_number s t → length (text (graph_in t.banks s)) ≤ length out → (same : List ℕ) → same ≡ text (graph_in t.banks s)
-      → text_result (record { number = 0; length = length same }) (over same out) ≡ write_text text s t out
+      → text_result (Ok (length same)) (over same out) ≡ write_text text s t out
   text_fits e h same is = text_done-law e h (length same) (over same out) (ap length is) (ap (λ (l : List ℕ). over l out) is)
 
   -- where no plan's text has more than `most` bytes, no answered length is above it
@@ -118,14 +122,14 @@ module _ (text : Graph → List ℕ) (s : Slices) (t : Tally) (out : List ℕ) w
     unfolding write_text
     written_most = by_number (text_number bytes s t out) refl
 
-    pub answer_most : (answer : Written) (out' : List ℕ) → text_result answer out' ≡ write_text text s t out → answer.length ≤ most
+    pub answer_most : (answer : Result ℕ Refusal) (out' : List ℕ) → text_result answer out' ≡ write_text text s t out → value_or answer 0 ≤ most
     answer_most answer out' e = omega (arith, ap (λ (x : TextResult). x.answer.length) e, written_most)
 
 -- a text that depends on nothing but the clashes whose plan memory holds, and has at most `most` bytes: an output of `most` is never too short
 pub never_short : (text : Graph → List ℕ) (most : ℕ) → ((G : Graph) → Clashes G → length (text G) ≤ most)
     → ((G H : Graph) (s : Slices) (t : Tally) → PlanOf G s t → PlanOf H s t → text G ≡ text H)
     → (G : Graph) (s : Slices) (t : Tally) (out : List ℕ) → PlanOf G s t → T (cap_fits t) → most ≤ length out
-    → text_result (record { number = 0; length = length (text G) }) (over (text G) out) ≡ write_text text s t out
+    → text_result (Ok (length (text G))) (over (text G) out) ≡ write_text text s t out
 never_short text most fits one G s t out held cap room =
     let checked = held_number G s t held cap in
     let plan = number_plan s t checked in

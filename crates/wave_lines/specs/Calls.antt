@@ -1,11 +1,12 @@
 -- What writing a text of the plan answers and leaves (01, "Calls" and "The questions").
-use Rattle.std.specs.Prelude.{List, [], ◌∷◌, ℕ, zero, suc, leb, length, take}
+use Rattle.std.specs.Prelude.{List, [], ◌∷◌, ℕ, zero, suc, leb, length, take, Result}
+use Rattle.rule.specs.declared.refusal.Refusal.{Refusal}
 use Rattle.rule.specs.Graph.{Graph}
+use Rattle.rule.specs.Refusals.{number_in, value_or}
 use Rattle.memory.specs.declared.Tally.{Tally}
 use Rattle.memory.specs.Cells.{over}
 use Rattle.memory.specs.Plan.{Slices, long_enough, graph_in, holds}
 use Rattle.planner.specs.Questions.{◌else◌, first_no}
-use Rattle.wave_lines.specs.declared.Written.{Written}
 
 -- questions 3 to 5 and 12
 unfoldable pub text_number : List ℕ → Slices → Tally → List ℕ → ℕ
@@ -17,18 +18,27 @@ text_number text s t out =
     ∷ (leb (length text) (length out) else 12)
     ∷ [])
 
+-- 01's number, and the bytes of the text
+pub record Written : Type 0 where
+  pub number : ℕ
+  pub length : ℕ
+
 -- what writing a text leaves
 pub record TextResult : Type 0 where
   pub answer : Written
   pub out : List ℕ
 
-abbrev pub text_result : Written → List ℕ → TextResult
-text_result answer out = record { answer = answer; out = out }
+abbrev pub written : ℕ → ℕ → List ℕ → TextResult
+written number length out = record { answer = record { number = number; length = length }; out = out }
+
+-- by the length of the text, or a refusal
+abbrev pub text_result : Result ℕ Refusal → List ℕ → TextResult
+text_result answer out = written (number_in answer) (value_or answer 0) out
 
 -- by the number of the first no: the text at the front of the output, and its length; or the number, and the output as it was
 unfoldable pub text_by : ℕ → List ℕ → List ℕ → TextResult
-text_by zero text out = text_result (record { number = 0; length = length text }) (over text out)
-text_by (suc c) text out = text_result (record { number = suc c; length = 0 }) out
+text_by zero text out = written 0 (length text) (over text out)
+text_by (suc c) text out = written (suc c) 0 out
 
 -- writing a text of the clashes that memory holds, of any memory and any output
 unfoldable pub write_text : (Graph → List ℕ) → Slices → Tally → List ℕ → TextResult

@@ -8,22 +8,16 @@ use memory::Tally;
 use text::{put_byte, put_number, put_text};
 
 // How many digits a number has.
-fn digits(x: u16) -> usize
+pub fn digits(x: u16) -> usize
     ensures { (result ≡ length (decimal x)) × (result ≤ 5) }
 {
-    if x < 10 {
-        return 1;
+    match x {
+        0..=9 => 1,
+        10..=99 => 2,
+        100..=999 => 3,
+        1000..=9999 => 4,
+        _ => 5,
     }
-    if x < 100 {
-        return 2;
-    }
-    if x < 1000 {
-        return 3;
-    }
-    if x < 10000 {
-        return 4;
-    }
-    5
 }
 
 // The bytes of the foot.
@@ -33,6 +27,7 @@ pub fn foot_length(tally: Tally) -> usize
     7 + digits(tally.banks) + digits(tally.clashes)
 }
 
+// By itself: which number stands where is the caller's.
 // `TOTAL n m`, at `at`; answers the place after it.
 fn put_totals(out: &mut [u8], at: usize, n: u16, m: u16) -> usize
     requires { at + (7 + (length (decimal n) + length (decimal m))) ≤ length out.old }

@@ -12,7 +12,10 @@ use checkpoints::open_shelf;
 pub extern "C" fn wave_plan_open_shelf(shelf: &mut [u16], banks: u16) -> u16
     ensures { shelf_result result shelf.new ≡ open_shelf banks shelf.old }
 {
-    open_shelf(shelf, banks)
+    match open_shelf(shelf, banks) {
+        Ok(()) => 0,
+        Err(refusal) => u16::from(refusal),
+    }
 }
 
 // Keeps the plan under a name.

@@ -4,7 +4,7 @@ ghost use Rattle.c_cells.specs.CellMemory.{answered};
 ghost use Rattle.c_cells.specs.Lent.{cells_given};
 ghost use Rattle.c_texts.specs.Texts.{list_call, replay_call};
 
-use c_texts::{Source, make_plan_in};
+use c_texts::{read_list_in, replay_in};
 
 // Reads a list. The result is the row.
 #[unsafe(no_mangle)]
@@ -23,18 +23,8 @@ pub extern "C" fn wave_plan_read_list(
     ensures { answered result (cells_given neighbours.new degrees.new waves.new counts.new ranks.new trail.new moved.new tally.new res.new)
         ≡ list_call list.now (cells_given neighbours.old degrees.old waves.old counts.old ranks.old trail.old moved.old tally.old res.old) }
 {
-    make_plan_in(
-        Source::FromList,
-        list,
-        neighbours,
-        degrees,
-        waves,
-        counts,
-        ranks,
-        trail,
-        moved,
-        tally,
-        res,
+    read_list_in(
+        list, neighbours, degrees, waves, counts, ranks, trail, moved, tally, res,
     )
 }
 
@@ -55,17 +45,7 @@ pub extern "C" fn wave_plan_replay(
     ensures { answered result (cells_given neighbours.new degrees.new waves.new counts.new ranks.new trail.new moved.new tally.new res.new)
         ≡ replay_call journal.now (cells_given neighbours.old degrees.old waves.old counts.old ranks.old trail.old moved.old tally.old res.old) }
 {
-    make_plan_in(
-        Source::FromJournal,
-        journal,
-        neighbours,
-        degrees,
-        waves,
-        counts,
-        ranks,
-        trail,
-        moved,
-        tally,
-        res,
+    replay_in(
+        journal, neighbours, degrees, waves, counts, ranks, trail, moved, tally, res,
     )
 }

@@ -3,7 +3,7 @@ ghost use Rattle.memory.specs.Plan.{slices_of};
 ghost use Rattle.std.specs.Prelude.{◌≡◌};
 ghost use Rattle.c_texts.specs.Texts.{text_answered, sheet_call, poster_call, start_call};
 
-use c_texts::{Text, write_in};
+use c_texts::{start_journal_in, write_poster_in, write_sheet_in};
 
 // Writes the sheet.
 #[unsafe(no_mangle)]
@@ -20,17 +20,7 @@ pub extern "C" fn wave_plan_write_sheet(
     ensures { text_answered result out.new res.new
         ≡ sheet_call (slices_of neighbours.now degrees.now waves.now counts.now ranks.now) tally.now out.old res.old }
 {
-    write_in(
-        Text::Sheet,
-        neighbours,
-        degrees,
-        waves,
-        counts,
-        ranks,
-        tally,
-        out,
-        res,
-    )
+    write_sheet_in(neighbours, degrees, waves, counts, ranks, tally, out, res)
 }
 
 // Writes the poster.
@@ -48,17 +38,7 @@ pub extern "C" fn wave_plan_write_poster(
     ensures { text_answered result out.new res.new
         ≡ poster_call (slices_of neighbours.now degrees.now waves.now counts.now ranks.now) tally.now out.old res.old }
 {
-    write_in(
-        Text::Poster,
-        neighbours,
-        degrees,
-        waves,
-        counts,
-        ranks,
-        tally,
-        out,
-        res,
-    )
+    write_poster_in(neighbours, degrees, waves, counts, ranks, tally, out, res)
 }
 
 // Starts a journal.
@@ -76,15 +56,7 @@ pub extern "C" fn wave_plan_start_journal(
     ensures { text_answered result journal.new res.new
         ≡ start_call (slices_of neighbours.now degrees.now waves.now counts.now ranks.now) tally.now journal.old res.old }
 {
-    write_in(
-        Text::Journal,
-        neighbours,
-        degrees,
-        waves,
-        counts,
-        ranks,
-        tally,
-        journal,
-        res,
+    start_journal_in(
+        neighbours, degrees, waves, counts, ranks, tally, journal, res,
     )
 }

@@ -11,11 +11,11 @@ edit_held-r-requires c =
     }
 
 pub put_answer-requires : goal.put_answer-requires
-put_answer-requires c = omega (arith, c.requires.tally_size_in_bounds)
+put_answer-requires c = omega (arith, c.requires.cells)
 
 pub returns : goal.returns
 returns c =
     let at = c.tally_in-t.ensures in record {
-      res_value = λ G ready. held_done _ _ at _ G _ _ _ _ _ _ _ _ c.edit_held-r.ensures.edit_made ready c.put_answer.ensures.tally c.put_answer.ensures.res;
-      idle_2 = rw (← at) c.edit_held-r.ensures.idle_2;
+      edited = λ G ready. held_done _ _ at _ G _ _ _ _ _ _ _ _ c.edit_held-r.ensures.edit_made ready c.put_answer.ensures.tally c.put_answer.ensures.res;
+      idle_after = rw (← at) c.edit_held-r.ensures.idle_2;
     }

@@ -1,11 +1,12 @@
 -- What the functions under `replay_core` ask (the records Asks ..) and promise.
-use Rattle.std.specs.Prelude.{Bool, false, cond, List, ◌≡◌, ℕ, zero, suc, ◌+◌, ◌-◌, ◌≤◌, eqb, length, drop}
+use Rattle.std.specs.Prelude.{Bool, false, cond, List, Result, Ok, Err, ◌≡◌, ℕ, zero, suc, ◌+◌, ◌-◌, ◌≤◌, eqb, length, drop}
 use Rattle.rule.specs.Graph.{Graph}
+use Rattle.rule.specs.declared.Entry.{Entry}
 use Rattle.memory.specs.Memory.{Memory, Ready}
 use Rattle.planner.specs.States.{State, entry_number, enter}
 use Rattle.planner.specs.inner.Held.{at, Fresh, HoldsState, tried, Stands}
-use Rattle.journal_fields.specs.declared.field.Field.{Field}
-use Rattle.journal_fields.specs.declared.field.Field.TheVariants.{Whole, Wrong, Misnumbered, Short}
+use Rattle.journal_fields.specs.declared.field.Fault.{Fault}
+use Rattle.journal_fields.specs.declared.field.Fault.TheVariants.{Wrong, Misnumbered, Short}
 use Rattle.journal_replay.specs.declared.rerun.Replayed.{Replayed}
 use Rattle.journal_replay.specs.declared.rerun.ReplayedPlan.{ReplayedPlan}
 use Rattle.journal_replay.specs.declared.rerun.Entered.{Entered}
@@ -13,17 +14,17 @@ use Rattle.journal_fields.specs.Fields.{entry_size, Fields, field_of, fields}
 use Rattle.journal_replay.specs.Replay.{ReplayResult, replay_result, replay_answer, enter_all}
 
 -- the number of a field of enough bytes, and what it does
-unfoldable pub field_number : Field → State → ℕ
-field_number (Whole e) s = entry_number e s
-field_number Wrong s = 14
-field_number Misnumbered s = 21
-field_number Short s = 14
+unfoldable pub field_number : Result Entry Fault → State → ℕ
+field_number (Ok e) s = entry_number e s
+field_number (Err Wrong) s = 14
+field_number (Err Misnumbered) s = 21
+field_number (Err Short) s = 14
 
-unfoldable pub field_step : Field → State → State
-field_step (Whole e) s = enter e s
-field_step Wrong s = s
-field_step Misnumbered s = s
-field_step Short s = s
+unfoldable pub field_step : Result Entry Fault → State → State
+field_step (Ok e) s = enter e s
+field_step (Err Wrong) s = s
+field_step (Err Misnumbered) s = s
+field_step (Err Short) s = s
 
 -- memory holds a plan, at this point of a replay, and enough bytes stand at `start` for field i, which is not the first
 pub record AsksField (journal : List ℕ) (numbered : Bool) (start i : ℕ) (begun : Bool) (m : Memory) : Type 0 where
@@ -32,7 +33,7 @@ pub record AsksField (journal : List ℕ) (numbered : Bool) (start i : ℕ) (beg
   pub later : 1 ≤ i
 
 -- a field gets this number and leaves m'; if it is not refused, an edit has come now or not
-pub record FieldDone (f : Field) (s : State) (number : ℕ) (begun : Bool) (m' : Memory) : Type 0 where
+pub record FieldDone (f : Result Entry Fault) (s : State) (number : ℕ) (begun : Bool) (m' : Memory) : Type 0 where
   pub is : number ≡ field_number f s
   pub stands : Stands (tried (field_number f s) (field_step f s) s) m'
   pub begun_is : number ≡ 0 → begun ≡ (field_step f s).begun
@@ -61,11 +62,11 @@ pub record EntersFields (journal : List ℕ) (first : ℕ) (m : Memory) (r : Rep
       → replay_result r.answer m' ≡ enter_fields 2 (fields (drop first journal)) (at false G m)
 
 -- the answer after field i where fewer bytes, `size` of them, follow: by what stands there
-unfoldable pub last_by : Field → ℕ → ℕ → Replayed
-last_by (Whole e) size i = replay_answer 0 0 size
-last_by Wrong size i = replay_answer 14 (i + 1) 0
-last_by Misnumbered size i = replay_answer 0 0 size
-last_by Short size i = replay_answer 0 0 size
+unfoldable pub last_by : Result Entry Fault → ℕ → ℕ → Replayed
+last_by (Ok e) size i = replay_answer 0 0 size
+last_by (Err Wrong) size i = replay_answer 14 (i + 1) 0
+last_by (Err Misnumbered) size i = replay_answer 0 0 size
+last_by (Err Short) size i = replay_answer 0 0 size
 
 -- and by the number of field i
 unfoldable pub ending : Bool → ℕ → ℕ → List ℕ → Replayed

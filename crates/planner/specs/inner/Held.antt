@@ -1,15 +1,16 @@
 -- Memory that holds the plan of given clashes, and what an edit makes of it: what a layer above goes by.
-use Rattle.std.specs.Prelude.{Bool, false, not, List, [], ◌∷◌, ◌≡◌, ℕ, zero, suc, ◌≤◌, ◌<◌, ltb, leb, set}
+use Rattle.std.specs.Prelude.{Bool, false, not, List, [], ◌∷◌, ◌≡◌, ℕ, Result, zero, suc, ◌≤◌, ◌<◌, ltb, leb, set}
 use Rattle.rule.specs.Graph.{Graph}
 use Rattle.rule.specs.Reach.{edited}
 use Rattle.rule.specs.declared.Kind.{Kind}
 use Rattle.rule.specs.declared.Entry.{Entry}
 use Rattle.rule.specs.declared.Entry.TheVariants.{Clash, Rank}
+use Rattle.rule.specs.declared.refusal.Refusal.{Refusal}
+use Rattle.rule.specs.Refusals.{number_in}
 use Rattle.memory.specs.declared.Tally.{Tally}
 use Rattle.memory.specs.Plan.{Slices, PlanOf, graph_in}
 use Rattle.memory.specs.Memory.{Memory, Ready}
 use Rattle.planner.specs.declared.Edited.{Edited}
-use Rattle.planner.specs.declared.Opened.{Opened}
 use Rattle.planner.specs.Questions.{◌else◌, first_no}
 use Rattle.planner.specs.States.{State, entry_number, enter, begin, begin_number}
 use Rattle.planner.specs.Calls.{clash_questions, no_edit, edit_result, edit_number, edit_of}
@@ -104,10 +105,10 @@ pub record RankDone (begun : Bool) (b r : ℕ) (t : Tally) (rs rs' : List ℕ) (
   pub tally : e.tally ≡ t
 
 -- opening n banks got its number and left m', where question 4 is asked for all seven slices
-pub record OpensAll (n : ℕ) (m : Memory) (r : Opened) (m' : Memory) : Type 0 where
-  pub number : r.number ≡ begin_number n m
-  pub refused : (r.number ≡ 0 → ⊥) → m' ≡ m
-  pub opened : r.number ≡ 0 → Stands (begin n m) m'
+pub record OpensAll (n : ℕ) (m : Memory) (r : Result Tally Refusal) (m' : Memory) : Type 0 where
+  pub number : number_in r ≡ begin_number n m
+  pub refused : (number_in r ≡ 0 → ⊥) → m' ≡ m
+  pub opened : number_in r ≡ 0 → Stands (begin n m) m'
 
 -- questions 3 and 4, the latter for trail and moved slices of these lengths
 unfoldable pub room_number : ℕ → ℕ → ℕ → ℕ

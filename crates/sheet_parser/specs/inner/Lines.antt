@@ -1,5 +1,5 @@
 -- The lines of a sheet, as they are read: cells holds the wave of each bank that was named, and 24 for the others.
-use Rattle.std.specs.Prelude.{Bool, true, false, List, ◌∷◌, ◌++◌, map, ◌⊎◌, ◌≡◌, ℕ, ◌+◌, ◌≤◌, ◌<◌, T, ltb, length, get_or, set, drop}
+use Rattle.std.specs.Prelude.{Result, Ok, Err, List, ◌∷◌, ◌++◌, map, ◌⊎◌, ◌≡◌, ℕ, ◌+◌, ◌≤◌, ◌<◌, T, ltb, length, get_or, set, drop}
 use Rattle.rule.specs.Lists.{upto, memb, Sorted}
 use Rattle.rule.specs.Wave.{banks_by}
 use Rattle.text.specs.Text.{joined}
@@ -42,17 +42,12 @@ pub record Takes (s cells : List ℕ) (n c low at next low' : ℕ) (cells' : Lis
   pub text : drop at s ≡ decimal bank ++ drop next s
   pub ends : NoDigit (drop next s)
   pub set : cells' ≡ set cells bank c
-
--- none can be taken
-pub record NoBank (s cells : List ℕ) (n low at : ℕ) (cells' : List ℕ) : Type 0 where
-  pub none : (b : ℕ) (rest : List ℕ) → Fits cells n low b → NoDigit rest → drop at s ≡ decimal b ++ rest → ⊥
-  pub same : cells' ≡ cells
-
-pub record BankTaken (ok : Bool) (s cells : List ℕ) (n c low at next low' : ℕ) (cells' : List ℕ) : Type 0 where
-  pub some : ok ≡ true → Takes s cells n c low at next low' cells'
-  pub none : ok ≡ false → NoBank s cells n low at cells'
   pub after : at ≤ next
   pub inside : next ≤ length s
+
+-- none can be taken
+abbrev pub NoBank : List ℕ → List ℕ → ℕ → ℕ → ℕ → Type 0
+NoBank s cells n low at = (b : ℕ) (rest : List ℕ) → Fits cells n low b → NoDigit rest → drop at s ≡ decimal b ++ rest → ⊥
 
 -- banks not named so far may have been given wave c
 abbrev pub Grown : List ℕ → List ℕ → ℕ → ℕ → Type 0
@@ -66,32 +61,16 @@ pub record OnLine (s cells₀ cells : List ℕ) (n c from low next : ℕ) : Type
   pub last : (b : ℕ) → low ≡ b + 1 → get_or cells b 0 ≡ c
   pub above : (b : ℕ) → low ≤ b → b < n → get_or cells b 0 ≡ c → ⊥
   pub grown : Grown cells₀ cells n c
+  pub inside : next ≤ length s
 
 -- no line of wave c stands at `from`
 abbrev pub NoLine : List ℕ → List ℕ → ℕ → ℕ → ℕ → Type 0
 NoLine s cells n c from = (bs rest : List ℕ) → Banks cells n bs → drop from s ≡ line_text (line_with_banks c bs) ++ rest → ⊥
 
--- reading a line goes on, or has ended without one
-pub record Reading (ok : Bool) (s cells₀ cells : List ℕ) (n c from low next : ℕ) : Type 0 where
-  pub some : ok ≡ true → OnLine s cells₀ cells n c from low next
-  pub none : ok ≡ false → NoLine s cells₀ n c from
-  pub inside : next ≤ length s
-
--- a bank comes next
-pub record GoesOn (s : List ℕ) (ok : Bool) (next : ℕ) : Type 0 where
-  pub going : ok ≡ true
-  pub space : ByteAt s next 32
-
--- the line ends here, after some bank
-pub record Ended (s : List ℕ) (ok : Bool) (low next : ℕ) : Type 0 where
-  pub going : ok ≡ true
-  pub some : 1 ≤ low
-  pub feed : ByteAt s next 10
-
 -- the banks of a line were read, as far as they go
-pub record Banked (ok : Bool) (s cells₀ cells : List ℕ) (n c from low next : ℕ) : Type 0 where
-  pub reading : Reading ok s cells₀ cells n c from low next
-  pub over : GoesOn s ok next → ⊥
+pub record Banked (s cells₀ cells : List ℕ) (n c from low next : ℕ) : Type 0 where
+  pub line : OnLine s cells₀ cells n c from low next
+  pub over : ByteAt s next 32 → ⊥
 
 -- the line of wave c was read
 pub record LineAt (s cells₀ cells : List ℕ) (n c from next : ℕ) : Type 0 where
@@ -99,10 +78,6 @@ pub record LineAt (s cells₀ cells : List ℕ) (n c from next : ℕ) : Type 0 w
   pub inside : next ≤ length s
   pub held : (b : ℕ) × (b < n) × (get_or cells b 0 ≡ c)
   pub grown : Grown cells₀ cells n c
-
-pub record LineRead (ok : Bool) (s cells₀ cells : List ℕ) (n c from next : ℕ) : Type 0 where
-  pub some : ok ≡ true → LineAt s cells₀ cells n c from next
-  pub none : ok ≡ false → NoLine s cells₀ n c from
 
 -- the first line was read
 pub record HeadAt (s : List ℕ) (k next : ℕ) : Type 0 where
@@ -112,10 +87,6 @@ pub record HeadAt (s : List ℕ) (k next : ℕ) : Type 0 where
 
 abbrev pub NoHead : List ℕ → Type 0
 NoHead s = (k : ℕ) (rest : List ℕ) → k ≤ 24 → s ≡ head_text k ++ rest → ⊥
-
-pub record HeadRead (ok : Bool) (s : List ℕ) (k next : ℕ) : Type 0 where
-  pub some : ok ≡ true → HeadAt s k next
-  pub none : ok ≡ false → NoHead s
 
 -- the lines of the first c waves
 unfoldable pub lines_text : (ℕ → ℕ) → ℕ → ℕ → List ℕ
@@ -133,19 +104,14 @@ pub record Lines (s cells : List ℕ) (n k c next : ℕ) : Type 0 where
 abbrev pub NoLines : List ℕ → ℕ → Type 0
 NoLines s n = (m k : ℕ) (w : ℕ → ℕ) → SheetOf n m s k w → ⊥
 
-pub record LinesRead (ok : Bool) (s cells : List ℕ) (n k next line : ℕ) : Type 0 where
-  pub some : ok ≡ true → Lines s cells n k k next
-  pub none : ok ≡ false → NoLines s n
-  pub fault : Fault n s line
-
 -- the bytes are no sheet of n banks and m clashes
 abbrev pub NoSheet : List ℕ → ℕ → ℕ → Type 0
 NoSheet s n m = (k : ℕ) (w : ℕ → ℕ) → SheetOf n m s k w → ⊥
 
-pub record SheetRead (ok : Bool) (s cells : List ℕ) (n m k line : ℕ) : Type 0 where
-  pub some : ok ≡ true → SheetOf n m s k (wave_in cells)
-  pub none : ok ≡ false → NoSheet s n m
-  pub fault : ok ≡ false → Fault n s line
+-- what reading a sheet answers: how many waves it has, those of the cells, or the line at fault
+abbrev pub SheetRead : Result ℕ ℕ → List ℕ → List ℕ → ℕ → ℕ → Type 0
+SheetRead (Ok k) s cells n m = SheetOf n m s k (wave_in cells)
+SheetRead (Err line) s cells n m = NoSheet s n m × Fault n s line
 
 -- no bank was named so far
 abbrev pub NoneNamed : List ℕ → ℕ → Type 0

@@ -1,5 +1,5 @@
 -- Numbers of a sheet, as they are read: in decimal with no zeros in front.
-use Rattle.std.specs.Prelude.{Bool, true, false, List, [], ◌∷◌, ◌++◌, ◌≡◌, ℕ, ◌+◌, ◌≤◌, ◌<◌, length, get_or, drop}
+use Rattle.std.specs.Prelude.{List, [], ◌∷◌, ◌++◌, ◌≡◌, ℕ, ◌+◌, ◌≤◌, ◌<◌, length, get_or, drop}
 use Rattle.text.specs.Numbers.{decimal}
 
 -- byte c stands at place i
@@ -49,8 +49,3 @@ pub record Stopped (s : List ℕ) (at v next : ℕ) : Type 0 where
   pub after : at < next
   pub inside : next ≤ length s
   pub whole : DigitAt s next → NoNumber s at
-
--- what reading a number answers
-pub record NumberRead (ok : Bool) (s : List ℕ) (at v next : ℕ) : Type 0 where
-  pub some : ok ≡ true → NumberAt s at v next
-  pub none : ok ≡ false → NoNumber s at

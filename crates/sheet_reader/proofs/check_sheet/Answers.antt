@@ -1,42 +1,37 @@
 -- `check_sheet` meets its contract, question by question.
-use Rattle.sheet_reader.proofs.Answers.{rows_of, cells_enough, cells_free, answer_plan, answer_sheet, answer_judged}
+use Rattle.rule.proofs.Refusals.{refused_some}
+use Rattle.sheet_reader.proofs.Answers.{rows_of, cells_enough, cells_free, answer_plan, plan_low, answer_sheet, answer_judged}
+use Rattle.std.proofs.lemmas.Result.{err_from_is_err_and}
 use Rattle.wave_lines.proofs.Plans.{plan_most}
-use borrow.Author.Tests.{not-true, not-false}
-use mathlib.Core.Path.{refl, sym, ◌∙◌}
+use mathlib.Core.Path.{refl}
 use native.Mathlib.Omega.{arith}
 use Rattle.sheet_reader.proofs.check_sheet.Goals as goal
 
-pub returns-then-number-ne0 : goal.returns-then-number-ne0
-returns-then-number-ne0 c =
-    let gave = c.without_banks.ensures in
-    answer_plan _ _ _ gave.0 gave.1 gave.2 gave.3 c.check_plan-number.ensures.number c.if-number-ne0.true refl
+pub returns-in_err-check_plan : goal.returns-in_err-check_plan
+returns-in_err-check_plan c =
+    let p = err_from_is_err_and c.from_residual.result c.from_residual.ensures.1 in
+    rw (p.1, p.2) (record {
+      answered = answer_plan _ _ _ refl refl refl refl c.in_err-check_plan.ensures.number (refused_some _) refl;
+      kind = plan_low _ _ c.args.sheet.now _ c.in_err-check_plan.ensures.number (refused_some _);
+    })
 
-pub read_sheet-read-requires : goal.read_sheet-read-requires
-read_sheet-read-requires c =
-    let plan = c.check_plan-number.ensures.plan c.if-number-ne0.false in
-    let most = plan_most _ _ _ plan in
-    record {
-      enough = cells_enough _ most;
-      none_named = cells_free _ most;
-    }
-
-pub returns-then-not-read : goal.returns-then-not-read
-returns-then-not-read c =
-    let gave = c.without_banks-then-not-read.ensures in
-    let none = sym c.if-number-ne0.false ∙ c.check_plan-number.ensures.number in
-    let read = c.read_sheet-read.ensures in
-    let no-sheet = not-true _ c.if-not-read.true in
-    answer_sheet _ _ _ gave.0 gave.1 gave.2 gave.3 none refl (read.none no-sheet) (read.fault no-sheet)
+pub read_sheet-requires : goal.read_sheet-requires
+read_sheet-requires c =
+    let most = plan_most _ _ _ c.in_ok-check_plan.ensures.plan in
+    record { enough = cells_enough _ most; none_named = cells_free _ most }
 
 pub judge-requires : goal.judge-requires
 judge-requires c =
-    let plan = c.check_plan-number.ensures.plan c.if-number-ne0.false in
+    let plan = c.in_ok-check_plan.ensures.plan in
+    record { rowed = rows_of _ _ plan; cells_for_all = omega (arith, plan_most _ _ _ plan) }
+
+pub returns-in-Ok : goal.returns-in-Ok
+returns-in-Ok c =
     record {
-      rowed = rows_of _ _ plan;
-      banks_in_bounds = omega (arith, plan_most _ _ _ plan);
+      answered = answer_judged _ _ _ c.in_ok-check_plan.ensures.number c.in-Ok.ensures c.judge.ensures.judged;
+      kind = c.judge.ensures.kind;
     }
 
-pub returns : goal.returns
-returns c =
-    let none = sym c.if-number-ne0.false ∙ c.check_plan-number.ensures.number in
-    answer_judged _ _ _ none (c.read_sheet-read.ensures.some (not-false _ c.if-not-read.false)) c.judge.ensures
+pub returns-in-Err-clause-answered : goal.returns-in-Err-clause-answered
+returns-in-Err-clause-answered c =
+    answer_sheet _ _ _ refl refl refl refl c.in_ok-check_plan.ensures.number refl c.in-Err.ensures.0 c.in-Err.ensures.1

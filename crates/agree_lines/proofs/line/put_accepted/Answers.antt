@@ -9,8 +9,8 @@ returns-then-own c =
     let put = c.put_text.ensures in
     (rw c.if-own.true put, omega (arith, put.next))
 
-pub returns : goal.returns
+pub returns-else-own : goal.returns-else-own
 unfolding accepted_text
-returns c =
-    let put = c.put_text-2.ensures in
+returns-else-own c =
+    let put = c.put_text-else-own.ensures in
     (rw c.if-own.false put, omega (arith, put.next))

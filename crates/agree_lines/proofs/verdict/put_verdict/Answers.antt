@@ -1,43 +1,64 @@
--- The lines by the number that the call answers.
+-- The lines by what the call answers.
 use Rattle.agree_lines.proofs.Verdicts.{plan_held, sheet_read, bank_below, text_accepted, text_no_sheet, text_waves, text_refused, as_text}
-use mathlib.Core.Path.{sym, ◌∙◌}
+use Rattle.agree_lines.proofs.Verdicts.{waves_many, waves_clash}
+use Rattle.rule.proofs.Refusals.{refused_some}
+use mathlib.Core.Path.{refl, sym, ◌∙◌}
 use native.Mathlib.Omega.{arith}
 use Rattle.agree_lines.proofs.verdict.put_verdict.Goals as goal
 
-pub is_own-own-requires : goal.is_own-own-requires
-is_own-own-requires c = plan_held _ _ _ (sym c.check_sheet-verdict.ensures.number ∙ c.if-number-eq0.true)
+pub is_own-requires : goal.is_own-requires
+is_own-requires c = plan_held _ _ _ (sym c.in-Ok.ensures.answered.number)
 
-pub returns-then-number-eq0 : goal.returns-then-number-eq0
-returns-then-number-eq0 c =
-    let check = c.check_sheet-verdict in
-    let own = c.is_own-own.ensures in
-    let lines = as_text (text_accepted _ _ _ _ own c.if-number-eq0.true) c.put_accepted.ensures.0 in
-    (record { verdict = check.result; is = check.ensures; text = lines }, omega (arith, c.requires, c.put_accepted.auto.out, c.put_accepted.ensures.1))
+pub put_banks-requires-clause-sheet : goal.put_banks-requires-clause-sheet
+put_banks-requires-clause-sheet c =
+    let check = rw c.in-Err-Clash.field-0-is at c.in-Err-Clash.ensures in
+    sheet_read _ _ _ (sym check.answered.number)
 
-pub returns-then-number-eq26 : goal.returns-then-number-eq26
-returns-then-number-eq26 c =
-    let check = c.check_sheet-verdict in
-    let lines = as_text (text_no_sheet _ _ _ _ c.if-number-eq26.true) c.put_no_sheet.ensures.0 in
-    (record { verdict = check.result; is = check.ensures; text = lines }, omega (arith, c.requires, c.put_no_sheet.auto.out, c.put_no_sheet.ensures.1))
+pub put_banks-requires-clause-first_is_bank : goal.put_banks-requires-clause-first_is_bank
+put_banks-requires-clause-first_is_bank c =
+    let check = rw c.in-Err-Clash.field-0-is at c.in-Err-Clash.ensures in
+    bank_below _ _ _ check.answered refl check.kind
 
-pub put_waves-requires : goal.put_waves-requires
-put_waves-requires c =
-    let check = c.check_sheet-verdict.ensures in
-    let number = c.if-number-eq27.true in
-    record {
-      in_bounds = c.requires;
-      sheet_value = sheet_read _ _ _ (sym check.number ∙ number);
-      a_lt_banks = bank_below _ _ _ check number;
-    }
+pub returns-in-Ok : goal.returns-in-Ok
+returns-in-Ok c =
+    let put = c.put_accepted in (
+      record { verdict = _; is = c.in-Ok.ensures.answered; text = as_text (text_accepted _ _ _ _ c.is_own.ensures refl) put.ensures.0 },
+      omega (arith, c.requires, put.auto.out, put.ensures.1),
+    )
 
-pub returns-then-number-eq27 : goal.returns-then-number-eq27
-returns-then-number-eq27 c =
-    let check = c.check_sheet-verdict in
-    let lines = as_text (text_waves _ _ _ _ c.if-number-eq27.true) c.put_waves.ensures.0 in
-    (record { verdict = check.result; is = check.ensures; text = lines }, omega (arith, c.requires, c.put_waves.auto.out, c.put_waves.ensures.1))
+pub returns-in-Err-Asked : goal.returns-in-Err-Asked
+returns-in-Err-Asked c =
+    let put = rw c.from.ensures at c.put_refusal.ensures in
+    let check = rw c.in-Err-Asked.field-0-is at c.in-Err-Asked.ensures in
+    let low = check.kind in (
+      record {
+        verdict = _;
+        is = check.answered;
+        text = as_text (text_refused _ _ _ _ (refused_some _) (λ z. omega arith) (λ z. omega arith)) put.0;
+      },
+      omega (arith, c.requires, c.put_refusal.auto.out, put.1),
+    )
 
-pub returns : goal.returns
-returns c =
-    let check = c.check_sheet-verdict in
-    let lines = as_text (text_refused _ _ _ _ c.if-number-eq0.false c.if-number-eq26.false c.if-number-eq27.false) c.put_refusal.ensures.0 in
-    (record { verdict = check.result; is = check.ensures; text = lines }, omega (arith, c.requires, c.put_refusal.auto.out, c.put_refusal.ensures.1))
+pub returns-in-Err-NoSheet : goal.returns-in-Err-NoSheet
+returns-in-Err-NoSheet c =
+    let put = c.put_no_sheet in
+    let check = rw c.in-Err-NoSheet.field-0-is at c.in-Err-NoSheet.ensures in (
+      record { verdict = _; is = check.answered; text = as_text (text_no_sheet _ _ _ _ refl) put.ensures.0 },
+      omega (arith, c.requires, put.auto.out, put.ensures.1),
+    )
+
+pub returns-in-Err-Clash : goal.returns-in-Err-Clash
+returns-in-Err-Clash c =
+    let put = c.put_banks in
+    let check = rw c.in-Err-Clash.field-0-is at c.in-Err-Clash.ensures in (
+      record { verdict = _; is = check.answered; text = as_text (waves_clash _ _ _ _ check.kind ∙ text_waves _ _ _ _ refl) put.ensures.0 },
+      omega (arith, c.requires, put.auto.out, put.ensures.1),
+    )
+
+pub returns-in-Err-ManyWaves : goal.returns-in-Err-ManyWaves
+returns-in-Err-ManyWaves c =
+    let put = c.put_many in
+    let check = rw c.in-Err-ManyWaves.field-0-is at c.in-Err-ManyWaves.ensures in (
+      record { verdict = _; is = check.answered; text = as_text (waves_many 0 0 _ _ refl ∙ text_waves _ _ _ _ refl) put.ensures.0 },
+      omega (arith, c.requires, put.auto.out, put.ensures.1),
+    )

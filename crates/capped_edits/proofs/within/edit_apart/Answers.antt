@@ -14,7 +14,7 @@ put_kept-taken-requires c =
     let p = c.requires in
     λ z.
     let few = trail_few m (c.try_edit-tried.ensures p.0 (own_ready p.1)) z in
-    (omega (arith, few, p.1.plan.clashes.most, c.own_trail-2-1.given), omega (arith, few, p.1.trail_room))
+    (omega (arith, few, p.1.plan.clashes.most), omega (arith, few, p.1.trail_room))
 
 pub put_kept-changed-requires : goal.put_kept-changed-requires
 put_kept-changed-requires c =
@@ -23,7 +23,7 @@ put_kept-changed-requires c =
     let p = c.requires in
     λ z.
     let few = moved_few m (c.try_edit-tried.ensures p.0 (own_ready p.1)) z in
-    (omega (arith, few, p.1.plan.clashes.most, c.own_moved-2-1.given), omega (arith, few, p.1.moved_room))
+    (omega (arith, few, p.1.plan.clashes.most), omega (arith, few, p.1.moved_room))
 
 pub returns : goal.returns
 returns c =

@@ -1,5 +1,6 @@
 -- `try_edit`: refused at once, made, or made and unmade.
 use Rattle.capped_edits.proofs.Unmade.{made_ready, first_refused, kept, unmade}
+use Rattle.rule.proofs.Refusals.{refused_some}
 use mathlib.Core.Path.{sym, ◌∙◌}
 use Rattle.capped_edits.proofs.within.try_edit.Goals as goal
 
@@ -11,10 +12,10 @@ returns-then-made-ne0 c =
     let e = c.edit_alone-made.ensures in
     λ G ready. first_refused (e G ready) _ c.if-made-ne0.true
 
-pub returns-then-number-eq0 : goal.returns-then-number-eq0
-returns-then-number-eq0 c =
+pub returns-in_default : goal.returns-in_default
+returns-in_default c =
     let e = c.edit_alone-made.ensures in
-    λ G ready. kept (e G ready) _ c.if-made-ne0.false (sym c.late_number-number.ensures ∙ c.if-number-eq0.true)
+    λ G ready. kept (e G ready) _ c.if-made-ne0.false (sym (c.in_default.ensures {u = tt}))
 
 pub take_back-requires : goal.take_back-requires
 take_back-requires c =
@@ -26,5 +27,5 @@ pub returns : goal.returns
 returns c =
     let e = c.edit_alone-made.ensures in
     λ G ready.
-    unmade (e G ready) ready c.if-made-ne0.false (c.take_back.ensures _ (made_ready (e G ready) c.if-made-ne0.false)) _ c.late_number-number.result
-    c.late_number-number.ensures c.if-number-eq0.false _ c.refuse.ensures
+    unmade (e G ready) ready c.if-made-ne0.false (c.take_back.ensures _ (made_ready (e G ready) c.if-made-ne0.false)) _ c.from.result
+    (c.from.ensures ∙ c.in-Err.ensures) (λ z. refused_some _ (sym c.from.ensures ∙ z)) _ c.refuse.ensures

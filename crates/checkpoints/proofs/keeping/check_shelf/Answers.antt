@@ -4,8 +4,8 @@ use mathlib.Core.Path.{sym}
 use native.Mathlib.Omega.{arith}
 use Rattle.checkpoints.proofs.keeping.check_shelf.Goals as goal
 
-pub returns-then-wide-gt-MOST_BANKS : goal.returns-then-wide-gt-MOST_BANKS
-returns-then-wide-gt-MOST_BANKS c = sym (shelf_many c.args.banks c.args.shelf.now (omega arith))
+pub returns-then-from-gt-MOST_BANKS : goal.returns-then-from-gt-MOST_BANKS
+returns-then-from-gt-MOST_BANKS c = sym (shelf_many c.args.banks c.args.shelf.now (omega arith))
 
 pub returns-then-shelf-place_size : goal.returns-then-shelf-place_size
 returns-then-shelf-place_size c = sym (shelf_short c.args.banks c.args.shelf.now (omega arith) (omega arith))

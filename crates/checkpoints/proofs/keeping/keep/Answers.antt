@@ -1,34 +1,35 @@
 -- `keep`: the place of the name is filled.
 use Rattle.checkpoints.proofs.Calls.{keep_refused, keep_done}
-use Rattle.shelf.proofs.Places.{place_room}
-use mathlib.Core.Path.{refl, sym, ◌∙◌}
+use Rattle.checkpoints.proofs.Numbers.{place_lent}
+use Rattle.rule.proofs.Refusals.{refused_some}
+use Rattle.std.proofs.lemmas.Result.{err_from_is_err_and}
+use mathlib.Core.Path.{refl, ◌∙◌}
 use native.Mathlib.Omega.{arith}
 use Rattle.checkpoints.proofs.keeping.keep.Goals as goal
 
-pub returns-then-number-ne0 : goal.returns-then-number-ne0
-returns-then-number-ne0 c = keep_refused _ _ _ _ _ c.check_keep-number.ensures.number c.if-number-ne0.true
+pub returns-in_err-check_keep : goal.returns-in_err-check_keep
+returns-in_err-check_keep c =
+    let p = err_from_is_err_and c.from_residual.result c.from_residual.ensures.1 in
+    rw (p.1, p.2) (keep_refused _ _ _ _ _ c.in_err-check_keep.ensures.number (refused_some _))
+
+pub unreachable-requires : goal.unreachable-requires
+unreachable-requires c = absurd (omega (arith, c.in_default.ensures {u = tt}, c.in_ok-check_keep.ensures.ready.known))
 
 pub overflow_mul-at : goal.overflow_mul-at
 overflow_mul-at c =
-    let ready = c.check_keep-number.ensures.ready c.if-number-ne0.false in
-    let i = c.wide.result in
-    let size = c.place_size.result in
-    let room = place_room i size (omega (arith, ready.known, c.place_of.ensures, c.wide.ensures)) in
-    omega (arith, room, ready.few, c.place_size.ensures)
+    let ready = c.in_ok-check_keep.ensures.ready in
+    omega (arith, place_lent ready (c.from.ensures ∙ c.in-Some.ensures.0) c.place_size.ensures)
 
 pub put_plan-requires : goal.put_plan-requires
 put_plan-requires c =
-    let ready = c.check_keep-number.ensures.ready c.if-number-ne0.false in
-    let i = c.wide.result in
-    let size = c.place_size.result in
-    let room = place_room i size (omega (arith, ready.known, c.place_of.ensures, c.wide.ensures)) in
+    let ready = c.in_ok-check_keep.ensures.ready in
     record {
-      banks_in_bounds = omega (arith, room, ready.room, c.place_size.ensures);
-      ranks_value = ready.long;
+      room = omega (arith, place_lent ready (c.from.ensures ∙ c.in-Some.ensures.0) c.place_size.ensures, c.place_size.ensures);
+      long = ready.long;
     }
 
 pub returns : goal.returns
 returns c =
-    keep_done _ _ _ _ _ _ (sym c.if-number-ne0.false ∙ c.check_keep-number.ensures.number)
-    (rw (c.wide.ensures ∙ c.place_of.ensures, c.place_size.ensures) refl)
+    keep_done _ _ _ _ _ _ c.in_ok-check_keep.ensures.number
+    (rw (c.from.ensures ∙ c.in-Some.ensures.0, c.place_size.ensures) refl)
     c.put_plan.ensures

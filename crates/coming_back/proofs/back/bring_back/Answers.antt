@@ -8,28 +8,28 @@ use Rattle.coming_back.proofs.back.bring_back.Goals as goal
 
 pub put_part-requires : goal.put_part-requires
 put_part-requires c =
-    let l = long c.args.n _ c.requires.ranks_value in
-    (omega (arith, l.neighbours), omega (arith, c.requires.place_len))
+    let l = long c.args.n _ c.requires.long in
+    (omega (arith, l.neighbours), omega (arith, c.requires.size))
 
 pub put_part-requires-2 : goal.put_part-requires-2
 put_part-requires-2 c =
-    let l = long c.args.n _ c.requires.ranks_value in
-    (omega (arith, l.degrees), omega (arith, c.requires.place_len))
+    let l = long c.args.n _ c.requires.long in
+    (omega (arith, l.degrees), omega (arith, c.requires.size))
 
 pub put_part-requires-3 : goal.put_part-requires-3
 put_part-requires-3 c =
-    let l = long c.args.n _ c.requires.ranks_value in
-    (omega (arith, l.waves), omega (arith, c.requires.place_len))
+    let l = long c.args.n _ c.requires.long in
+    (omega (arith, l.waves), omega (arith, c.requires.size))
 
 pub put_part-requires-4 : goal.put_part-requires-4
 put_part-requires-4 c =
-    let l = long c.args.n _ c.requires.ranks_value in
-    (omega (arith, l.counts), omega (arith, c.requires.place_len))
+    let l = long c.args.n _ c.requires.long in
+    (omega (arith, l.counts), omega (arith, c.requires.size))
 
 pub put_part-requires-5 : goal.put_part-requires-5
 put_part-requires-5 c =
-    let l = long c.args.n _ c.requires.ranks_value in
-    (omega (arith, l.ranks), omega (arith, c.requires.place_len))
+    let l = long c.args.n _ c.requires.long in
+    (omega (arith, l.ranks), omega (arith, c.requires.size))
 
 pub returns : goal.returns
 returns c =

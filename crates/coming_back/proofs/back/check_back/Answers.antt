@@ -1,97 +1,45 @@
 -- `check_back`: each return is one case of `back_number`.
-use Rattle.checkpoints.proofs.Numbers.{back_many, back_short, back_keep, back_unused, back_fine}
-use Rattle.memory.specs.Plan.{slices_of}
-use Rattle.shelf.proofs.Places.{place_room}
+use Rattle.checkpoints.proofs.Numbers.{place_lent, back_many, back_short, back_keep, back_unused, back_fine}
+use Rattle.rule.proofs.Refusals.{refused_some}
+use Rattle.std.proofs.lemmas.Result.{err_from_is_err_and}
 use mathlib.Core.Path.{refl, sym, ◌∙◌}
 use native.Mathlib.Omega.{arith}
 use Rattle.coming_back.proofs.back.check_back.Goals as goal
 
-pub returns-then-n-gt-MOST_BANKS : goal.returns-then-n-gt-MOST_BANKS
-returns-then-n-gt-MOST_BANKS c =
-    let s = slices_of c.args.neighbours.now c.args.degrees.now c.args.waves.now c.args.counts.now c.args.ranks.now in
-    let t = c.args.tally in
-    let moved = c.args.moved.now in
-    let name = c.args.name.now in
-    let shelf = c.args.shelf.now in
-    record {
-      number = sym (back_many s t moved name shelf (omega arith));
-      ready = λ z. absurd (omega (arith, z));
-    }
+pub returns-then-n-gt-MOST_BANKS-clause-number : goal.returns-then-n-gt-MOST_BANKS-clause-number
+returns-then-n-gt-MOST_BANKS-clause-number c = sym (back_many _ _ _ _ _ (omega arith))
 
-pub returns-then-moved-n : goal.returns-then-moved-n
-returns-then-moved-n c =
-    let s = slices_of c.args.neighbours.now c.args.degrees.now c.args.waves.now c.args.counts.now c.args.ranks.now in
-    let t = c.args.tally in
-    let moved = c.args.moved.now in
-    let name = c.args.name.now in
-    let shelf = c.args.shelf.now in
-    record {
-      number = sym (back_short s t moved name shelf (omega arith) (omega arith));
-      ready = λ z. absurd (omega (arith, z));
-    }
+pub returns-then-moved-n-clause-number : goal.returns-then-moved-n-clause-number
+returns-then-moved-n-clause-number c = sym (back_short _ _ _ _ _ (omega arith) (omega arith))
 
-pub returns-then-number-ne0 : goal.returns-then-number-ne0
-returns-then-number-ne0 c =
-    let s = slices_of c.args.neighbours.now c.args.degrees.now c.args.waves.now c.args.counts.now c.args.ranks.now in
-    let t = c.args.tally in
-    let moved = c.args.moved.now in
-    let name = c.args.name.now in
-    let shelf = c.args.shelf.now in
-    record {
-      number = sym (back_keep s t moved name shelf _ (omega arith) (sym c.check_keep-number.ensures.number) c.if-number-ne0.true);
-      ready = λ z. absurd (c.if-number-ne0.true z);
-    }
+pub returns-in_err-check_keep-clause-number : goal.returns-in_err-check_keep-clause-number
+returns-in_err-check_keep-clause-number c =
+    let p = err_from_is_err_and c.from_residual.result c.from_residual.ensures.1 in
+    rw (p.1, p.2) (sym (back_keep _ _ _ _ _ _ (omega arith) (sym c.in_err-check_keep.ensures.number) (refused_some _)))
+
+pub unreachable-requires : goal.unreachable-requires
+unreachable-requires c = absurd (omega (arith, c.in_default.ensures {u = tt}, c.in_ok-check_keep.ensures.ready.known))
 
 pub overflow_mul-at : goal.overflow_mul-at
-overflow_mul-at c =
-    let ready = c.check_keep-number.ensures.ready c.if-number-ne0.false in
-    let i = c.wide.result in
-    let size = c.place_size.result in
-    let room = place_room i size (omega (arith, ready.known, c.place_of.ensures, c.wide.ensures)) in
-    omega (arith, room, ready.few, c.place_size.ensures)
+overflow_mul-at c = omega (arith, place_lent c.in_ok-check_keep.ensures.ready (c.from.ensures ∙ c.in-Some.ensures.0) c.place_size.ensures)
 
 pub offset_bounds-shelf-at : goal.offset_bounds-shelf-at
 offset_bounds-shelf-at c =
-    let ready = c.check_keep-number.ensures.ready c.if-number-ne0.false in
-    let i = c.wide.result in
-    let size = c.place_size.result in
-    let room = place_room i size (omega (arith, ready.known, c.place_of.ensures, c.wide.ensures)) in
-    omega (arith, room, ready.few, c.place_size.ensures)
+    omega (arith, c.place_size.ensures, place_lent c.in_ok-check_keep.ensures.ready (c.from.ensures ∙ c.in-Some.ensures.0) c.place_size.ensures)
 
 pub bounds-shelf-at : goal.bounds-shelf-at
 bounds-shelf-at c =
-    let ready = c.check_keep-number.ensures.ready c.if-number-ne0.false in
-    let i = c.wide.result in
-    let size = c.place_size.result in
-    let room = place_room i size (omega (arith, ready.known, c.place_of.ensures, c.wide.ensures)) in
-    omega (arith, room, ready.room, c.place_size.ensures)
+    omega (arith, c.place_size.ensures, place_lent c.in_ok-check_keep.ensures.ready (c.from.ensures ∙ c.in-Some.ensures.0) c.place_size.ensures)
 
-pub returns-then-shelf-at-ne1 : goal.returns-then-shelf-at-ne1
-returns-then-shelf-at-ne1 c =
-    let s = slices_of c.args.neighbours.now c.args.degrees.now c.args.waves.now c.args.counts.now c.args.ranks.now in
-    let t = c.args.tally in
-    let moved = c.args.moved.now in
-    let name = c.args.name.now in
-    let shelf = c.args.shelf.now in
-    let zero_of = sym c.check_keep-number.ensures.number ∙ c.if-number-ne0.false in
-    let unused =
-    back_unused s t moved name shelf _ (omega arith) zero_of (rw (c.wide.ensures ∙ c.place_of.ensures, c.place_size.ensures) refl) c.if-shelf-at-ne1.true in
-    record {
-      number = sym unused;
-      ready = λ z. absurd (omega (arith, z));
-    }
+pub returns-then-shelf-at-ne1-clause-number : goal.returns-then-shelf-at-ne1-clause-number
+returns-then-shelf-at-ne1-clause-number c =
+    sym (back_unused _ _ _ _ _ _ (omega arith) (sym c.in_ok-check_keep.ensures.number)
+    (rw (c.from.ensures ∙ c.in-Some.ensures.0, c.place_size.ensures) refl) c.if-shelf-at-ne1.true)
 
 pub returns : goal.returns
 returns c =
-    let s = slices_of c.args.neighbours.now c.args.degrees.now c.args.waves.now c.args.counts.now c.args.ranks.now in
-    let t = c.args.tally in
-    let moved = c.args.moved.now in
-    let name = c.args.name.now in
-    let shelf = c.args.shelf.now in
-    let zero_of = sym c.check_keep-number.ensures.number ∙ c.if-number-ne0.false in
-    let fine =
-    back_fine s t moved name shelf _ (omega arith) zero_of (rw (c.wide.ensures ∙ c.place_of.ensures, c.place_size.ensures) refl) c.if-shelf-at-ne1.false in
     record {
-      number = sym fine;
-      ready = λ z. (c.check_keep-number.ensures.ready c.if-number-ne0.false, omega arith);
+      number = sym (back_fine _ _ _ _ _ _ (omega arith) (sym c.in_ok-check_keep.ensures.number)
+          (rw (c.from.ensures ∙ c.in-Some.ensures.0, c.place_size.ensures) refl) c.if-shelf-at-ne1.false);
+      ready = (c.in_ok-check_keep.ensures.ready, omega arith);
     }

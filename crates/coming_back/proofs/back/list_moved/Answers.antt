@@ -1,12 +1,11 @@
 -- The banks below b are listed.
-use Prim.Native.Nat.{◌-◌}
 use Rattle.checkpoints.proofs.Listing.{length_differing, listed_none}
 use mathlib.Core.Path.{◌≡◌, refl, ◌∙◌}
 use native.Mathlib.Omega.{arith}
 use Rattle.coming_back.proofs.back.list_moved.Goals as goal
 
 pub loop-b-init : goal.loop-b-init
-loop-b-init c = (listed_none _ _ _, omega arith, refl)
+loop-b-init c = (listed_none _ _ _, refl)
 
 pub list_bank-count-requires : goal.list_bank-count-requires
 list_bank-count-requires c =
@@ -14,14 +13,14 @@ list_bank-count-requires c =
     let few = length_differing w.b c.args.old.now c.args.new.now in
     let count = w.invariant.0.count in
     record {
-      b_in_bounds = (omega (arith, c.requires), omega (arith, c.requires));
-      count_in_bounds = (omega (arith, count, w.invariant.2, c.requires), omega (arith, count, c.requires));
+      bank = (omega (arith, c.requires), omega (arith, c.requires));
+      room = (omega (arith, count, w.invariant.1, c.requires), omega (arith, count, c.requires));
     }
 
 pub loop-b-preserved : goal.loop-b-preserved
 loop-b-preserved c =
     let w = c.loop-b in
-    (c.list_bank-count.ensures _ w.invariant.0, omega arith, c.list_bank-count.auto.moved ∙ w.invariant.2)
+    (c.list_bank-count.ensures _ w.invariant.0, c.list_bank-count.auto.moved ∙ w.invariant.1)
 
 pub returns : goal.returns
 returns c =

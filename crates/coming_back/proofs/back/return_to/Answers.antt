@@ -9,25 +9,25 @@ use Rattle.coming_back.proofs.back.return_to.Goals as goal
 
 pub list_moved-differing-requires : goal.list_moved-differing-requires
 list_moved-differing-requires c =
-    let n = c.wide-n.result in
-    let is-n = c.wide-n.ensures in
-    let l = long c.args.tally.banks _ c.requires.ranks_value in
-    let part = length_lent (1 + n * 24) (1 + n * 24 + n) n c.args.place.now (omega arith) (omega (arith, c.requires.banks_bound.1, is-n)) in
-    (omega (arith, c.requires.banks_bound.0), omega (arith, l.waves), omega (arith, part, is-n), omega (arith, c.requires.banks_bound.2))
+    let n = c.from-n.result in
+    let is-n = c.from-n.ensures in
+    let l = long c.args.tally.banks _ c.requires.long in
+    let part = length_lent (1 + n * 24) (1 + n * 24 + n) n c.args.place.now (omega arith) (omega (arith, c.requires.fits.1, is-n)) in
+    (omega (arith, c.requires.fits.0), omega (arith, l.waves), omega (arith, part, is-n), omega (arith, c.requires.fits.2))
 
 pub bring_back-requires : goal.bring_back-requires
 bring_back-requires c =
-    let is-n = c.wide-n.ensures in
+    let is-n = c.from-n.ensures in
     record {
-      place_len = omega (arith, c.requires.banks_bound.1, is-n);
-      n_bound = omega (arith, c.requires.banks_bound.0, is-n);
-      ranks_value = rw is-n c.requires.ranks_value;
+      size = omega (arith, c.requires.fits.1, is-n);
+      few = omega (arith, c.requires.fits.0, is-n);
+      long = rw is-n c.requires.long;
     }
 
 pub returns : goal.returns
 returns c =
-    let n = c.wide-n.result in
-    let is-n = c.wide-n.ensures in
+    let n = c.from-n.result in
+    let is-n = c.from-n.ensures in
     let banks = c.args.tally.banks in
     let cells = c.args.place.now in
     let s = slices_of c.args.neighbours.now c.args.degrees.now c.args.waves.now c.args.counts.now c.args.ranks.now in

@@ -1,22 +1,9 @@
--- No bank below b is of step k.
-use Prim.Native.Nat.{◌-◌}
-use Rattle.crew_lines.proofs.Lines.{none_first, none_next, lowest_found, lowest_none}
-use borrow.Author.Rules.{rules}
-use mathlib.Core.Path.{◌≡◌}
-use native.Mathlib.Omega.{arith}
+-- The place that the library finds is the lowest bank's.
+use Rattle.std.proofs.Common.{take, rules}
+use Rattle.crew_lines.proofs.Lines.{FirstPlace, lowest_is}
 use Rattle.crew_lines.proofs.line.lowest.Goals as goal
-
-pub loop-b-init : goal.loop-b-init
-loop-b-init c = (none_first _ _, omega arith)
-
-pub returns-then-steps-i : goal.returns-then-steps-i
-returns-then-steps-i c = (lowest_found _ _ _ _ c.loop-b-test.true c.loop-b.invariant.0 c.if-steps-i.true, search rules)
-
-pub loop-b-preserved : goal.loop-b-preserved
-loop-b-preserved c = (none_next _ _ _ c.loop-b.invariant.0 c.if-steps-i.false, omega arith)
 
 pub returns : goal.returns
 returns c =
-    let w = c.loop-b in
-    let e : w.b ≡ c.args.n = omega arith in
-    (lowest_none _ _ _ (rw e at w.invariant.0), search rules)
+    let first : FirstPlace c.args.steps.now c.args.k (take c.from.result c.args.steps.now) c.position.result = search rules in
+    rw c.unwrap_or.ensures (lowest_is c.args.steps.now c.args.k c.args.n c.requires.0 c.requires.1 c.position.result (rw c.from.ensures at first))

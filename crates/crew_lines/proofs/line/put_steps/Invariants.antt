@@ -1,5 +1,4 @@
 -- The loop has written the lines of the first k steps.
-use Prim.Native.Nat.{◌-◌, ◌≤◌}
 use Rattle.crew_lines.specs.inner.Cells.{steps_in}
 use Rattle.text.specs.Places.{Puts}
 use lib.ListN.{length}
@@ -7,7 +6,4 @@ use mathlib.Core.Path.{◌≡◌}
 use Rattle.crew_lines.proofs.line.put_steps.Given as goal
 
 abbrev pub invariant-loop-k : goal.invariant-loop-k
-invariant-loop-k l = Puts (steps_in l.waves l.steps l.n l.k) l.at l.initial.out l.next l.out × (l.k ≤ l.total) × (length l.out ≡ length l.initial.out)
-
-abbrev pub decreases-loop-k : goal.decreases-loop-k
-decreases-loop-k l = l.total - l.k
+invariant-loop-k l = Puts (steps_in l.waves l.steps l.n l.k) l.at l.initial.out l.next l.out × (length l.out ≡ length l.initial.out)

@@ -1,10 +1,13 @@
 -- `set_cap_core`: the tally with the cap, or as it was.
 use Rattle.edit_calls.proofs.Calls.{cap_not_set, cap_is_set}
-use mathlib.Core.Path.{sym, ◌∙◌}
+use Rattle.rule.proofs.Refusals.{refused_some}
+use Rattle.std.proofs.lemmas.Result.{err_from_is_err_and}
 use Rattle.edit_calls.proofs.capping.set_cap_core.Goals as goal
 
-pub returns-then-number-ne0 : goal.returns-then-number-ne0
-returns-then-number-ne0 c = let n = c.check_cap-number in cap_not_set _ _ _ n.result n.ensures c.if-number-ne0.true
+pub returns-in_err-check_cap : goal.returns-in_err-check_cap
+returns-in_err-check_cap c =
+    let p = err_from_is_err_and c.from_residual.result c.from_residual.ensures.1 in
+    rw (p.1, p.2) (cap_not_set _ _ _ _ c.in_err-check_cap.ensures (refused_some _))
 
 pub returns : goal.returns
-returns c = cap_is_set _ _ _ (sym c.if-number-ne0.false ∙ c.check_cap-number.ensures)
+returns c = cap_is_set _ _ _ c.in_ok-check_cap.ensures

@@ -26,8 +26,8 @@ pub returns : goal.returns
 returns c =
     let a = c.args in record {
       fact = λ G ed.
-          c.propagate.ensures.fact
+          c.propagate.ensures.made
           (origin_of _ G (given a.neighbours.now a.degrees.now a.waves.now a.counts.now a.ranks.now a.trail.now a.moved.now a.tally))
           (changed_from ed (c.change_clash-old.ensures G (rowed_before ed) ed.acceptable) (c.count_after-clashes.ensures ∙ clashes_after ed));
-      idle_2 = c.propagate.ensures.idle_2;
+      idle_2 = c.propagate.ensures.idle;
     }

@@ -13,8 +13,8 @@ pub waves_after-most-requires : goal.waves_after-most-requires
 waves_after-most-requires c =
     let st = (c.settle-done.ensures _ (working c.requires.rows_changed.1 (c.queue_seeds.ensures c.requires.rows_changed.0 (seedable c.requires.rows_changed.1 c.requires.idle)))).0 in
     record {
-      banks_in_bounds = count_in-law c.requires.rows_changed.1 st;
-      by_index = waves_small c.requires.rows_changed.1 st;
+      long = count_in-law c.requires.rows_changed.1 st;
+      small = waves_small c.requires.rows_changed.1 st;
       top = top_after c.requires.rows_changed.1 st;
     }
 
@@ -31,8 +31,8 @@ overflow_cast-result-2 c =
 pub returns : goal.returns
 returns c =
     let most = c.waves_after-most in record {
-      fact = λ o ch. outcome ch (c.settle-done.ensures _ (working ch (c.queue_seeds.ensures o (seedable ch c.requires.idle)))).0 most.result most.ensures;
-      idle_2 =
+      made = λ o ch. outcome ch (c.settle-done.ensures _ (working ch (c.queue_seeds.ensures o (seedable ch c.requires.idle)))).0 most.result most.ensures;
+      idle =
           let p = c.requires.rows_changed in
           idle_after p.1 (c.settle-done.ensures _ (working p.1 (c.queue_seeds.ensures p.0 (seedable p.1 c.requires.idle)))).1;
     }

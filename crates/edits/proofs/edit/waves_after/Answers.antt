@@ -2,5 +2,5 @@
 use Rattle.recolouring.proofs.Tops.{top_is}
 use Rattle.edits.proofs.edit.waves_after.Goals as goal
 
-pub returns : goal.returns
-returns c = top_is _ c.requires.top c.if-top.false
+pub returns-else-top : goal.returns-else-top
+returns-else-top c = top_is _ c.requires.top c.if-top.false

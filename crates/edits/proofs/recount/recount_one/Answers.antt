@@ -5,4 +5,4 @@ use Rattle.edits.proofs.recount.recount_one.Goals as goal
 pub returns : goal.returns
 returns c =
     let a = c.args in
-    part_back a.counts.now c.count_earlier.new.row a.b.0 _ c.requires.b_in_bounds c.count_earlier.ensures
+    rw c.from-start.ensures (part_back a.counts.now c.count_earlier.new.row a.b.0 _ c.requires.b_in_bounds c.count_earlier.ensures)

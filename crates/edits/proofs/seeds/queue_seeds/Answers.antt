@@ -5,8 +5,8 @@ use Rattle.edits.proofs.seeds.queue_seeds.Goals as goal
 pub queue_seed-requires : goal.queue_seed-requires
 queue_seed-requires c =
     let sd = c.requires.1 in record {
-      by_index = (_, _, sd.counts);
-      v_lt_banks = sd.bank_a;
+      recounting = (_, _, sd.counts);
+      bank = sd.bank_a;
     }
 
 pub queue_seed-requires-2 : goal.queue_seed-requires-2
@@ -14,8 +14,8 @@ queue_seed-requires-2 c =
     let sd = c.requires.1 in
     let one = c.queue_seed.ensures _ _ sd.counts in
     record {
-      by_index = (_, _, one.counts);
-      v_lt_banks = sd.bank_b;
+      recounting = (_, _, one.counts);
+      bank = sd.bank_b;
     }
 
 pub queue_turned-requires : goal.queue_turned-requires

@@ -10,7 +10,7 @@ pub returns-then-tally-b : goal.returns-then-tally-b
 returns-then-tally-b c = rank_far c.if-begun.false c.if-tally-b.true c.refuse-then-tally-b.ensures
 
 pub bounds-ranks-at : goal.bounds-ranks-at
-bounds-ranks-at c = omega (arith, c.wide-at.ensures, c.if-tally-b.false, c.requires)
+bounds-ranks-at c = omega (arith, c.from-at.ensures, c.if-tally-b.false, c.requires)
 
 pub returns : goal.returns
-returns c = rank_done c.if-begun.false (omega (arith, c.if-tally-b.false)) c.wide-at.ensures
+returns c = rank_done c.if-begun.false (omega (arith, c.if-tally-b.false)) c.from-at.ensures

@@ -1,25 +1,27 @@
 -- `edit_held` meets its contract: what it refuses is as it was, and what `make_edit` leaves is the edit that the definition accepts.
 use Rattle.memory.specs.Lent.{given}
 use Rattle.planner.proofs.Outcomes.{edit_refused, editable, edit_accepted}
+use Rattle.rule.proofs.Refusals.{refused_some}
 use mathlib.Core.Path.{sym, ◌∙◌}
 use Rattle.held_edits.proofs.editing.edit_held.Goals as goal
 
-pub edit_number-number-requires : goal.edit_number-number-requires
-edit_number-number-requires c = (c.requires.holds_plan.0, c.requires.holds_plan.1.plan)
+pub edit_number-requires : goal.edit_number-requires
+edit_number-requires c = (c.requires.holds_plan.0, c.requires.holds_plan.1.plan)
 
-pub returns-then-number-ne0 : goal.returns-then-number-ne0
-returns-then-number-ne0 c =
+pub returns-in-Err : goal.returns-in-Err
+returns-in-Err c =
     let a = c.args in record {
       edit_made = λ G ready.
           edit_refused _ G _ _ (given a.neighbours.now a.degrees.now a.waves.now a.counts.now a.ranks.now a.trail.now a.moved.now a.tally) ready
-          c.edit_number-number.result (c.edit_number-number.ensures G ready.plan) c.if-number-ne0.true c.refuse.result c.refuse.ensures.0 c.refuse.ensures.1;
+          c.from.result (c.from.ensures ∙ c.in-Err.ensures G ready.plan) (λ z. refused_some _ (sym c.from.ensures ∙ z)) c.refuse.result c.refuse.ensures.0
+          c.refuse.ensures.1;
       idle_2 = c.requires.idle;
     }
 
 pub make_edit-done-requires : goal.make_edit-done-requires
 make_edit-done-requires c =
     record {
-      editable = (c.requires.holds_plan.0, editable _ _ _ c.requires.holds_plan.1 (sym c.if-number-ne0.false ∙ c.edit_number-number.ensures c.requires.holds_plan.0 c.requires.holds_plan.1.plan));
+      editable = (c.requires.holds_plan.0, editable _ _ _ c.requires.holds_plan.1 (c.in_default.ensures {u = tt} c.requires.holds_plan.0 c.requires.holds_plan.1.plan));
       idle = c.requires.idle;
     }
 
@@ -27,7 +29,7 @@ pub returns : goal.returns
 returns c =
     record {
       edit_made = λ G ready.
-          let e = sym c.if-number-ne0.false ∙ c.edit_number-number.ensures G ready.plan in
+          let e = c.in_default.ensures {u = tt} G ready.plan in
           edit_accepted _ _ _ ready e (c.make_edit-done.ensures.fact G (editable _ _ _ ready e));
       idle_2 = c.make_edit-done.ensures.idle_2;
     }

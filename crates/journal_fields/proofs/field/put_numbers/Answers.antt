@@ -1,5 +1,5 @@
 -- `put_numbers` meets its contract: tag and length, edit number, and the two numbers.
-use Rattle.journal_fields.proofs.Writing.{number_room, pair_room, field_put}
+use Rattle.journal_fields.proofs.Writing.{number_room, pair_room, pair_of, field_put}
 use Rattle.journal_fields.specs.Fields.{two_bytes}
 use native.Mathlib.Omega.{arith}
 use Rattle.journal_fields.proofs.field.put_numbers.Goals as goal
@@ -19,7 +19,7 @@ put_text-requires c =
     c.put_number-after_number.auto.journal c.put_number-after_number.ensures
 
 pub returns : goal.returns
-unfolding two_bytes
 returns c =
+    let four = pair_of _ _ _ _ (omega (arith, c.ranges.x)) (omega (arith, c.ranges.y)) c.to_le_bytes.ensures c.to_le_bytes-2.ensures in
     field_put c.args.numbered _ _ c.args.x c.args.y _ _ c.requires.0 _ c.value_bytes.ensures _ _ c.put_text-after_head.auto.out c.put_text-after_head.ensures _ _
-    c.put_number-after_number.auto.journal c.put_number-after_number.ensures _ _ c.put_text.ensures
+    c.put_number-after_number.auto.journal c.put_number-after_number.ensures _ _ _ four c.put_text.ensures

@@ -16,7 +16,7 @@ pub overflow_add-next : goal.overflow_add-next
 overflow_add-next c = omega (arith, c.entry_bytes.ensures, c.requires.asks_field.inside)
 
 pub overflow_sub-number : goal.overflow_sub-number
-overflow_sub-number c = omega (arith, c.wide-number.ensures, c.requires.asks_field.later)
+overflow_sub-number c = omega (arith, c.from-number.ensures, c.requires.asks_field.later)
 
 pub slice_bounds-read_field-count : goal.slice_bounds-read_field-count
 slice_bounds-read_field-count c = omega (arith, c.requires.asks_field.inside)
@@ -24,19 +24,18 @@ slice_bounds-read_field-count c = omega (arith, c.requires.asks_field.inside)
 pub slice_bounds-read_field-start : goal.slice_bounds-read_field-start
 slice_bounds-read_field-start c = omega (arith, c.requires.asks_field.inside)
 
-pub returns-in_default : goal.returns-in_default
-returns-in_default c =
+pub returns-in-Err : goal.returns-in-Err
+returns-in-Err c =
     record {
-      enters_field = enters_none _ _ _ _ _ (number_of _ _ c.wide-number.ensures) _ c.read_field-read.ensures _ _ _ refl (next_of _ _ _ c.entry_bytes.ensures) c.in_default.not-Whole
-          c.refusal.ensures;
-      idle_2 = c.requires.idle;
-      unranked_2 = c.requires.unranked;
+      enters_field = enters_none _ _ _ _ _ (number_of _ _ c.from-number.ensures) _ c.in-Err.ensures _ _ _ refl (next_of _ _ _ c.entry_bytes.ensures) _ refl (c.from.ensures ∙ c.refusal.ensures);
+      idle_after = c.requires.idle;
+      unranked_after = c.requires.unranked;
     }
 
 pub enter_held-done-requires : goal.enter_held-done-requires
 enter_held-done-requires c =
     record {
-      enterable = record { held = c.requires.asks_field.held; fits = read_fits _ _ c.args.journal.now c.args.start _ c.read_field-read.ensures _ c.in-Whole.is };
+      enterable = record { held = c.requires.asks_field.held; fits = read_fits _ _ c.args.journal.now c.args.start _ c.in-Ok.ensures _ refl };
       idle = c.requires.idle;
       unranked = c.requires.unranked;
     }
@@ -44,8 +43,8 @@ enter_held-done-requires c =
 pub returns : goal.returns
 returns c =
     record {
-      enters_field = enters_one _ _ _ _ _ (number_of _ _ c.wide-number.ensures) _ c.read_field-read.ensures _ _ _ refl (next_of _ _ _ c.entry_bytes.ensures) _ c.in-Whole.is
+      enters_field = enters_one _ _ _ _ _ (number_of _ _ c.from-number.ensures) _ c.in-Ok.ensures _ _ _ refl (next_of _ _ _ c.entry_bytes.ensures) _ refl
           _ _ c.enter_held-done.ensures.enters refl c.begun_by.ensures;
-      idle_2 = c.enter_held-done.ensures.idle_2;
-      unranked_2 = λ f. c.enter_held-done.ensures.unranked_2 (sym c.begun_by.ensures ∙ f);
+      idle_after = c.enter_held-done.ensures.idle_2;
+      unranked_after = λ f. c.enter_held-done.ensures.unranked_2 (sym c.begun_by.ensures ∙ f);
     }

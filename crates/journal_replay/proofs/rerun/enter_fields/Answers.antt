@@ -4,7 +4,6 @@ use Rattle.journal_replay.proofs.Passing.{ahead_start, ahead_holds, ahead_banks,
 use Rattle.planner.proofs.Lengths.{same, then}
 use Rattle.planner.proofs.Made.{ready_banks}
 use lib.ListN.{length}
-use mathlib.Core.Bool.{false}
 use mathlib.Core.List.{List}
 use mathlib.Core.Path.{◌≡◌, refl}
 use native.Mathlib.Omega.{arith}
@@ -80,8 +79,8 @@ loop-last-preserved c =
       omega (arith, c.enter_field-last.ensures.enters_field.next, inside),
       omega (arith, c.enter_field-last.ensures.enters_field.next, c.enter_field-last.ensures.enters_field.field, i.3),
       omega (arith, c.enter_field-last.ensures.enters_field.field),
-      rw (ahead_banks _ _ _ h.0 _ _ _ (i.0 h.0 h.1 h.2) c.loop-last-test.true _ _ c.enter_field-last.ensures.enters_field) c.enter_field-last.ensures.idle_2,
-      c.enter_field-last.ensures.unranked_2,
+      rw (ahead_banks _ _ _ h.0 _ _ _ (i.0 h.0 h.1 h.2) c.loop-last-test.true _ _ c.enter_field-last.ensures.enters_field) c.enter_field-last.ensures.idle_after,
+      c.enter_field-last.ensures.unranked_after,
     )
 
 pub ended-answer-requires : goal.ended-answer-requires

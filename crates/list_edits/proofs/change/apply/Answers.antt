@@ -22,8 +22,8 @@ returns-in-One c =
     let is = c.in-One.is in
     record {
       applies = record { of = λ G h f. rw is (change_one _ G _ h f _ _ _ (c.enter_held.ensures.enters.of G h f)) };
-      idle_2 = c.enter_held.ensures.idle_2;
-      unranked_2 = λ f. c.enter_held.ensures.unranked_2 (one_begun _ is f);
+      idle_after = c.enter_held.ensures.idle_2;
+      unranked_after = λ f. c.enter_held.ensures.unranked_2 (one_begun _ is f);
     }
 
 pub returns-in-StrikeAll : goal.returns-in-StrikeAll
@@ -31,6 +31,6 @@ returns-in-StrikeAll c =
     let is = c.in-StrikeAll.is in
     record {
       applies = record { of = λ G h f. rw is ((c.strike_all.ensures.strikes_all _).of G h f) };
-      idle_2 = c.strike_all.ensures.idle_2;
-      unranked_2 = λ f. absurd (all_begun _ is f);
+      idle_after = c.strike_all.ensures.idle_after;
+      unranked_after = λ f. absurd (all_begun _ is f);
     }

@@ -1,12 +1,11 @@
--- `strike_all` meets its contract. The invariant: memory holds a plan in which `left` clashes of b are left, and striking these leads to the same state; the queue is idle.
-use Prim.Native.Nat.{◌≤◌}
+-- `strike_all` meets its contract. The invariant: memory holds a plan in which the clashes of b are left that are not yet struck, and striking these leads to the same state; the queue is idle.
+use Prim.Native.Nat.{◌+◌, ◌-◌, ◌≤◌}
 use Rattle.list_edits.proofs.Queued.{edit_banks}
 use Rattle.list_pass.proofs.Passing.{change_none, change_all}
 use Rattle.list_pass.proofs.Struck.{left_start, left_some, left_turn, left_end}
 use Rattle.planner.proofs.Lengths.{same, then}
-use borrow.Author.Count.{falls_down}
 use lib.ListN.{length}
-use mathlib.Core.Path.{refl, ap, ◌∙◌}
+use mathlib.Core.Path.{◌≡◌, refl, ap, ◌∙◌}
 use native.Mathlib.Omega.{arith}
 use Rattle.list_edits.proofs.change.strike_all.Goals as goal
 
@@ -16,50 +15,48 @@ returns-then-tally-b c =
     let r = c.refuse.ensures in
     record {
       strikes_all = λ begun. record { of = λ G h f. rw r.0 (rw r.1 (change_none begun G _ h f _ far)) };
-      idle_2 = c.requires.idle;
+      idle_after = c.requires.idle;
     }
 
 pub clashes_held-row-requires : goal.clashes_held-row-requires
 clashes_held-row-requires c = ((c.requires.holds_plan.0, c.requires.holds_plan.1.plan), c.if-tally-b.false)
 
-pub loop-left-init : goal.loop-left-init
-loop-left-init c = (
-  λ G h. left_start G _ _ _ _ refl h c.if-tally-b.false (ap length (c.clashes_held-row.ensures G h.plan)),
+pub loop-struck-init : goal.loop-struck-init
+loop-struck-init c = (
+  λ G h. left_start G _ _ _ _ refl h c.if-tally-b.false (omega (arith, ap length (c.clashes_held-row.ensures G h.plan))),
   same _,
   c.requires.idle,
   refl,
 )
 
-pub clashes_held-row-requires-in-loop-left : goal.clashes_held-row-requires-in-loop-left
-clashes_held-row-requires-in-loop-left c =
-    let w = c.loop-left.invariant.0 c.requires.holds_plan.0 c.requires.holds_plan.1 in
+pub clashes_held-row-requires-in-loop-struck : goal.clashes_held-row-requires-in-loop-struck
+clashes_held-row-requires-in-loop-struck c =
+    let w = c.loop-struck.invariant.0 c.requires.holds_plan.0 c.requires.holds_plan.1 in
     ((w.graph, w.ready.plan), w.below)
 
 pub bounds-row-0 : goal.bounds-row-0
 bounds-row-0 c =
-    let w = c.loop-left.invariant.0 c.requires.holds_plan.0 c.requires.holds_plan.1 in
-    left_some _ _ _ _ _ _ w c.loop-left-test.true _ (c.clashes_held-row-in-loop-left.ensures w.graph w.ready.plan)
+    let w = c.loop-struck.invariant.0 c.requires.holds_plan.0 c.requires.holds_plan.1 in
+    left_some _ _ _ _ _ _ w (omega arith) _ (c.clashes_held-row-in-loop-struck.ensures w.graph w.ready.plan)
 
 pub edit_held-last-requires : goal.edit_held-last-requires
 edit_held-last-requires c =
-    let i = c.loop-left.invariant in
+    let i = c.loop-struck.invariant in
     let w = i.0 c.requires.holds_plan.0 c.requires.holds_plan.1 in
     record {
       holds_plan = (w.graph, w.ready);
       idle = rw i.3 i.2;
     }
 
-pub overflow_sub-left : goal.overflow_sub-left
-overflow_sub-left c = c.loop-left-test.true
-
-pub loop-left-smaller : goal.loop-left-smaller
-loop-left-smaller c = falls_down _ c.loop-left-test.true
-
-pub loop-left-preserved : goal.loop-left-preserved
-loop-left-preserved c =
-    let i = c.loop-left.invariant in
+pub loop-struck-preserved : goal.loop-struck-preserved
+loop-struck-preserved c =
+    let i = c.loop-struck.invariant in
+    let all = length c.clashes_held-row.result.now in
+    let less : all - c.loop-struck._struck - 1 ≡ all - (c.loop-struck._struck + 1) = omega arith in
+    let row = c.clashes_held-row-in-loop-struck.ensures in
+    let strike = c.edit_held-last.ensures.edit_made in
     let k = c.edit_held-last.auto in (
-      λ G h. let w = i.0 G h in left_turn G _ _ _ _ _ w c.loop-left-test.true _ (c.clashes_held-row-in-loop-left.ensures w.graph w.ready.plan) _ _ (c.edit_held-last.ensures.edit_made w.graph w.ready),
+      λ G h. let w = i.0 G h in rw less at (left_turn G _ _ _ _ _ w (omega arith) _ (row w.graph w.ready.plan) _ _ (strike w.graph w.ready)),
       then _ _ _ i.1 (record { neighbours = k.neighbours; degrees = k.degrees; waves = k.waves; counts = k.counts; ranks = refl; trail = k.trail; moved = k.moved }),
       rw i.3 at c.edit_held-last.ensures.idle_2,
       let w = i.0 c.requires.holds_plan.0 c.requires.holds_plan.1 in edit_banks (c.edit_held-last.ensures.edit_made w.graph w.ready) w.ready ∙ i.3,
@@ -67,10 +64,10 @@ loop-left-preserved c =
 
 pub returns : goal.returns
 returns c =
-    let i = c.loop-left.invariant in record {
+    let i = c.loop-struck.invariant in record {
       strikes_all = λ begun. record {
         of = λ G h f. let w = i.0 G h in change_all begun G _ h f _ _ _ c.if-tally-b.false w.number
-            (left_end G _ _ _ _ _ w c.loop-left-test.false);
+            (left_end G _ _ _ _ _ w (omega arith));
       };
-      idle_2 = i.2;
+      idle_after = i.2;
     }

@@ -16,9 +16,9 @@ slice_bounds-read_row_in-count c = omega (arith, c.find-end.ensures.low)
 
 pub returns-in_default : goal.returns-in_default
 returns-in_default c = record {
-  edits_row = edits_none _ _ _ _ c.find-end.ensures _ _ _ _ refl refl _ c.read_row_in-read.ensures c.in_default.not-Edit c.not_taken-number.ensures;
-  idle_2 = c.requires.idle;
-  unranked_2 = c.requires.unranked;
+  edits_row = edits_none _ _ _ _ c.find-end.ensures _ _ _ _ refl refl _ c.read_row_in-read.ensures c.in_default.not-Edit (c.from.ensures ∙ c.not_taken.ensures);
+  idle_after = c.requires.idle;
+  unranked_after = c.requires.unranked;
 }
 
 pub apply-done-requires : goal.apply-done-requires
@@ -31,7 +31,7 @@ apply-done-requires c = record {
 pub returns : goal.returns
 returns c =
     record {
-      edits_row = edits_one _ _ _ _ c.find-end.ensures _ _ _ _ refl refl _ (sym c.in-Edit.is ∙ c.read_row_in-read.ensures) _ _ c.apply-done.ensures.applies refl c.begun_after-come.ensures;
-      idle_2 = c.apply-done.ensures.idle_2;
-      unranked_2 = λ f. c.apply-done.ensures.unranked_2 (sym c.begun_after-come.ensures ∙ f);
+      edits_row = edits_one _ _ _ _ c.find-end.ensures _ _ _ _ refl refl _ (sym c.in-Edit.is ∙ c.read_row_in-read.ensures) _ _ c.apply-done.ensures.applies refl c.begun_after.ensures;
+      idle_after = c.apply-done.ensures.idle_after;
+      unranked_after = λ f. c.apply-done.ensures.unranked_after (sym c.begun_after.ensures ∙ f);
     }

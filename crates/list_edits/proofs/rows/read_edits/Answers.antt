@@ -1,11 +1,10 @@
 -- `read_edits` meets its contract. The invariant: memory holds the plan after the rows so far, and what is ahead leads to the same result; a row is no further than its first byte; the queue is idle.
-use Prim.Native.Nat.{◌+◌, ◌-◌, ◌<◌}
+use Prim.Native.Nat.{◌<◌}
 use Rattle.list_edits.proofs.Queued.{idle_row}
 use Rattle.list_pass.proofs.Passing.{ahead_start, ahead_held, ahead_turn, ahead_end}
 use Rattle.planner.proofs.Lengths.{same, then}
 use Rattle.planner.proofs.Made.{ready_banks}
 use lib.ListN.{length}
-use mathlib.Core.Bool.{false}
 use mathlib.Core.Path.{refl}
 use native.Mathlib.Omega.{arith}
 use Rattle.list_edits.proofs.rows.read_edits.Goals as goal
@@ -63,13 +62,13 @@ loop-last-preserved c =
       }),
       done.within,
       omega (arith, done.row, done.on, i.3),
-      idle_row done held c.edit_row-last.ensures.idle_2,
-      c.edit_row-last.ensures.unranked_2,
+      idle_row done held c.edit_row-last.ensures.idle_after,
+      c.edit_row-last.ensures.unranked_after,
     )
 
 pub returns : goal.returns
 returns c =
     record {
-      of = λ G h f. rw c.ended-answer.ensures (ahead_end _ _ _ _ G _ _ _ (c.loop-last.invariant.0 G h f)
+      of = λ G h f. rw c.ended.ensures (ahead_end _ _ _ _ G _ _ _ (c.loop-last.invariant.0 G h f)
           (λ z. elim c.loop-last-test.branch [ then-loop-last-test+else-last-list w ↦ w.if-last-list.false | else-loop-last-test w ↦ absurd (w.loop-last-test.false z) ]));
     }

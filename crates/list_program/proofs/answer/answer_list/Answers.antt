@@ -1,17 +1,14 @@
--- `answer_list` meets its contract: the refusal of a list that is refused, else the text of the plan that it left.
-use Rattle.list_program.proofs.Answering.{answer_refused, answer_text-law, text_within}
+-- The refusal of a list that is refused, else the text of the plan that it left.
+use Rattle.list_program.proofs.Answering.{answer_refused, answer_text-law, unwrapped, unwrapped_within}
 use Rattle.list_program.proofs.answer.answer_list.Goals as goal
 
-pub returns-then-reading-ne0 : goal.returns-then-reading-ne0
-returns-then-reading-ne0 c =
-    let p = c.put_refusal.ensures in (
-      answer_refused _ _ _ _ c.read_list_core-read.ensures
-          c.if-reading-ne0.true _ _ p.0,
-      p.1,
-    )
+pub returns-then-reading-ne0-clause-answers : goal.returns-then-reading-ne0-clause-answers
+returns-then-reading-ne0-clause-answers g c =
+    λ text w. answer_refused text _ _ _ c.read_list_core-read.ensures c.if-reading-ne0.true _ _ c.put_refusal.ensures.0
 
-pub returns : goal.returns
-returns c =
-    let read = c.read_list_core-read.ensures in
-    let w = c.write_text-written.ensures in
-    (answer_text-law _ _ _ _ read c.if-reading-ne0.false _ w, text_within _ _ _ _ read _ w)
+pub returns-clause-answers : goal.returns-clause-answers
+returns-clause-answers g c =
+    λ text w. rw (c.unwrap_or.ensures, unwrapped c.write.result) (answer_text-law text _ _ _ c.read_list_core-read.ensures c.if-reading-ne0.false _ (w _ _ _ _ c.write.ensures))
+
+pub returns-clause-within : goal.returns-clause-within
+returns-clause-within g c = rw c.unwrap_or.ensures (unwrapped_within _ _ (c.requires.written_within _ _ _ _ c.write.ensures))

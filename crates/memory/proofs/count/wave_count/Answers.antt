@@ -1,24 +1,20 @@
--- `most` is the most of the first i waves.
+-- `most` is the most of the waves so far.
 use Rattle.memory.proofs.Sums.{most_none, most_next}
-use Rattle.memory.specs.inner.Counts.{most_of}
-use borrow.Author.Rules.{rules}
-use mathlib.Core.Path.{◌≡◌, ap, ◌∙◌}
+use lib.ListN.{length-take}
+use lib.Seq.{get_or-take}
 use native.Mathlib.Omega.{arith}
 use Rattle.memory.proofs.count.wave_count.Goals as goal
-use Rattle.memory.proofs.count.wave_count.Goals.{then-most-w, else-most-w}
 
-pub loop-i-init : goal.loop-i-init
-loop-i-init c = (search rules, most_none _)
+pub loop-wave-init : goal.loop-wave-init
+loop-wave-init c = most_none _
 
-pub overflow_add-most : goal.overflow_add-most
-overflow_add-most c = omega (arith, c.requires.by_index c.loop-i.i (omega arith))
-
-pub loop-i-preserved : goal.loop-i-preserved
-loop-i-preserved c =
-    let next = most_next c.args.waves.now c.loop-i.i in
-    (search rules, elim c.if-most-w.branch [ then-most-w w ↦ omega (arith, w.most-is, w.if-most-w.true, next) | else-most-w w ↦ omega (arith, w.most-is, w.if-most-w.false, next) ])
-
-pub returns : goal.returns
-returns c =
-    let e : c.loop-i.i ≡ c.args.banks = omega arith in
-    c.loop-i.invariant.1 ∙ ap (most_of c.args.waves.now) e
+pub loop-wave-preserved : goal.loop-wave-preserved
+loop-wave-preserved c =
+    let at = c.loop-wave.wave-index in
+    omega (
+      arith,
+      c.max-most.ensures,
+      c.loop-wave.invariant,
+      most_next c.args.waves.now at,
+      get_or-take c.args.banks c.args.waves.now at 0 (omega (arith, c.loop-wave-test.true, length-take c.args.banks c.args.waves.now)),
+    )

@@ -3,11 +3,11 @@ use Rattle.memory.proofs.Rows.{group_lent}
 use Rattle.neighbour_rows.proofs.RowCells.{altered}
 use Rattle.neighbour_rows.proofs.clash.change_neighbour.Goals as goal
 
-pub change_row-next-requires : goal.change_row-next-requires
-change_row-next-requires c = (c.requires.0, rw (group_lent 23 c.args.neighbours.now c.args.b.0) c.requires.1.ready)
+pub change_row-requires : goal.change_row-requires
+change_row-requires c = (c.requires.0, rw (c.from-at.ensures, group_lent 23 c.args.neighbours.now c.args.b.0) c.requires.1.ready)
 
 pub returns : goal.returns
 returns c =
-    λ banks al.
-    let done = rw (group_lent 23 c.args.neighbours.now c.args.b.0) at c.change_row-next.ensures.0 in
-    rw c.change_row-next.ensures.1 (altered al c.change_row-next.new.row (done banks al.ready))
+    let row = rw (c.from-at.ensures, group_lent 23 c.args.neighbours.now c.args.b.0) at c.change_row.ensures.0 in
+    let degree = rw c.from-at.ensures at c.change_row.ensures.1 in
+    λ banks al. rw (c.from-at.ensures, degree) (altered al c.change_row.new.row (row banks al.ready))

@@ -1,10 +1,12 @@
--- `open_all` meets its contract: refused by `room_number`, or what `open_core` leaves.
+-- `open_all` meets its contract: refused by `check_room`, or what `open_core` leaves.
 use Rattle.planner.proofs.Rooms.{room_refused, room_opened}
-use mathlib.Core.Path.{refl}
+use Rattle.std.proofs.lemmas.Result.{err_from_is_err_and}
 use Rattle.opening.proofs.opening.open_all.Goals as goal
 
-pub returns-then-number-ne0 : goal.returns-then-number-ne0
-returns-then-number-ne0 c = room_refused _ _ _ c.room_number-number.ensures c.if-number-ne0.true refl
+pub returns-in_err-check_room : goal.returns-in_err-check_room
+returns-in_err-check_room c =
+    let p = err_from_is_err_and c.from_residual.result c.from_residual.ensures.1 in
+    rw (p.1, p.2) (room_refused _ _ _ c.in_err-check_room.ensures)
 
 pub returns : goal.returns
-returns c = room_opened _ _ _ c.room_number-number.ensures c.if-number-ne0.false _ _ c.open_core.ensures
+returns c = room_opened _ _ c.in_ok-check_room.ensures _ _ c.open_core.ensures

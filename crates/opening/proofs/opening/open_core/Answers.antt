@@ -1,10 +1,17 @@
 -- `open_core` meets its contract: each return is one case of `opened`.
-use Rattle.memory.proofs.Theorems.{long}
-use Rattle.memory.specs.Plan.{slices_of}
-use Rattle.planner.proofs.NoClash.{opened_many, opened_short, opened_filled}
-use mathlib.Core.Path.{sym, ◌∙◌}
+use mathlib.Core.Bool.{Bool, true}
+use mathlib.Core.Path.{◌≡◌, sym, ◌∙◌}
 use native.Mathlib.Omega.{arith}
+use Prim.Native.Nat.{ℕ}
+use Rattle.memory.proofs.Theorems.{long}
+use Rattle.memory.specs.Plan.{Slices, long_enough}
+use Rattle.memory.specs.inner.View.{Long}
+use Rattle.planner.proofs.NoClash.{opened_many, opened_short, opened_filled}
 use Rattle.opening.proofs.opening.open_core.Goals as goal
+
+-- there is room for each fill
+room : {n : ℕ} {s : Slices} {r : Bool} → r ≡ long_enough n s → r ≡ true → Long n s
+room {n} {s} e t = long n s (sym e ∙ t)
 
 pub returns-then-n-gt-MOST_BANKS : goal.returns-then-n-gt-MOST_BANKS
 returns-then-n-gt-MOST_BANKS c = opened_many _ _ _ (omega arith)
@@ -13,44 +20,24 @@ pub returns-then-not-long_enough : goal.returns-then-not-long_enough
 returns-then-not-long_enough c = opened_short _ _ _ (omega arith) (sym c.long_enough.ensures ∙ c.if-not-long_enough.true)
 
 pub fill-requires : goal.fill-requires
-fill-requires c =
-    let a = c.args in
-    let room = sym c.long_enough.ensures ∙ c.if-not-long_enough.false in
-    let l = long a.banks (slices_of a.neighbours.now a.degrees.now a.waves.now a.counts.now a.ranks.now) room in
-    omega (arith, c.wide-n.ensures, l.neighbours)
+fill-requires c = omega (arith, c.from-n.ensures, (room c.long_enough.ensures c.if-not-long_enough.false).neighbours)
 
 pub fill-requires-2 : goal.fill-requires-2
-fill-requires-2 c =
-    let a = c.args in
-    let room = sym c.long_enough.ensures ∙ c.if-not-long_enough.false in
-    let l = long a.banks (slices_of a.neighbours.now a.degrees.now a.waves.now a.counts.now a.ranks.now) room in
-    omega (arith, c.wide-n.ensures, l.degrees)
+fill-requires-2 c = omega (arith, c.from-n.ensures, (room c.long_enough.ensures c.if-not-long_enough.false).degrees)
 
 pub fill-requires-3 : goal.fill-requires-3
-fill-requires-3 c =
-    let a = c.args in
-    let room = sym c.long_enough.ensures ∙ c.if-not-long_enough.false in
-    let l = long a.banks (slices_of a.neighbours.now a.degrees.now a.waves.now a.counts.now a.ranks.now) room in
-    omega (arith, c.wide-n.ensures, l.waves)
+fill-requires-3 c = omega (arith, c.from-n.ensures, (room c.long_enough.ensures c.if-not-long_enough.false).waves)
 
 pub fill-requires-4 : goal.fill-requires-4
-fill-requires-4 c =
-    let a = c.args in
-    let room = sym c.long_enough.ensures ∙ c.if-not-long_enough.false in
-    let l = long a.banks (slices_of a.neighbours.now a.degrees.now a.waves.now a.counts.now a.ranks.now) room in
-    omega (arith, c.wide-n.ensures, l.counts)
+fill-requires-4 c = omega (arith, c.from-n.ensures, (room c.long_enough.ensures c.if-not-long_enough.false).counts)
 
 pub fill-requires-5 : goal.fill-requires-5
-fill-requires-5 c =
-    let a = c.args in
-    let room = sym c.long_enough.ensures ∙ c.if-not-long_enough.false in
-    let l = long a.banks (slices_of a.neighbours.now a.degrees.now a.waves.now a.counts.now a.ranks.now) room in
-    omega (arith, c.wide-n.ensures, l.ranks)
+fill-requires-5 c = omega (arith, c.from-n.ensures, (room c.long_enough.ensures c.if-not-long_enough.false).ranks)
 
 pub returns : goal.returns
 returns c =
     let a = c.args in
-    opened_filled a.banks c.wide-n.result a.neighbours.now a.degrees.now a.waves.now a.counts.now a.ranks.now a.tally
-    c.wide-n.ensures (omega (arith, c.wide-n.ensures, c.if-n-gt-MOST_BANKS.false))
+    opened_filled a.banks c.from-n.result a.neighbours.now a.degrees.now a.waves.now a.counts.now a.ranks.now a.tally
+    c.from-n.ensures (omega (arith, c.from-n.ensures, c.if-n-gt-MOST_BANKS.false))
     (sym c.long_enough.ensures ∙ c.if-not-long_enough.false)
-    c.fill.ensures c.fill-2.ensures c.fill-3.ensures c.fill-4.ensures c.fill-5.ensures c.first_waves.ensures
+    c.fill.ensures c.fill-2.ensures c.fill-3.ensures c.fill-4.ensures c.fill-5.ensures (omega (arith, c.min.ensures))

@@ -1,5 +1,4 @@
--- The loop has written the first i banks.
-use Prim.Native.Nat.{◌-◌, ◌≤◌}
+-- The loop has written the banks before the index.
 use Rattle.poster_lines.specs.Poster.{right_aligned}
 use Rattle.text.specs.Places.{Puts}
 use Rattle.text.specs.Text.{joined}
@@ -8,8 +7,5 @@ use mathlib.Core.List.{map}
 use mathlib.Core.Path.{◌≡◌}
 use Rattle.poster_lines.proofs.lines.put_banks.Given as goal
 
-abbrev pub invariant-loop-i : goal.invariant-loop-i
-invariant-loop-i l = Puts (joined (map right_aligned (take l.i l.banks))) l.at l.initial.out l.next l.out × (l.i ≤ length l.banks) × (length l.out ≡ length l.initial.out)
-
-abbrev pub decreases-loop-i : goal.decreases-loop-i
-decreases-loop-i l = length l.banks - l.i
+abbrev pub invariant-loop-b : goal.invariant-loop-b
+invariant-loop-b l = Puts (joined (map right_aligned (take l.b-index l.banks))) l.at l.initial.out l.next l.out × (length l.out ≡ length l.initial.out)

@@ -1,5 +1,4 @@
--- The loop has written i lines.
-use Prim.Native.Nat.{◌-◌, ◌≤◌}
+-- The loop has written the lines before the index.
 use Rattle.poster_lines.specs.Poster.{padded}
 use Rattle.text.specs.Places.{Puts}
 use Rattle.text.specs.Text.{joined}
@@ -8,8 +7,5 @@ use mathlib.Core.List.{[]}
 use mathlib.Core.Path.{◌≡◌}
 use Rattle.poster_lines.proofs.lines.put_blank_lines.Given as goal
 
-abbrev pub invariant-loop-i : goal.invariant-loop-i
-invariant-loop-i l = Puts (joined (replicate l.i (padded []))) l.at l.initial.out l.next l.out × (l.i ≤ l.count) × (length l.out ≡ length l.initial.out)
-
-abbrev pub decreases-loop-i : goal.decreases-loop-i
-decreases-loop-i l = l.count - l.i
+abbrev pub invariant-loop-line : goal.invariant-loop-line
+invariant-loop-line l = Puts (joined (replicate l._line (padded []))) l.at l.initial.out l.next l.out × (length l.out ≡ length l.initial.out)

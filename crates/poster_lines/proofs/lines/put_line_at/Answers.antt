@@ -4,12 +4,14 @@ use Rattle.poster_lines.proofs.lines.put_line_at.Goals as goal
 
 pub put_line-requires : goal.put_line-requires
 put_line-requires c =
-    let fits = part_fits c.args.banks.now _ _ c.requires.1 c.line_end-to.ensures in
+    let to = c.min-to.ensures in
+    let fits = part_fits c.args.banks.now _ _ c.requires.1 to in
     (fits.0, fits.1, c.requires.4)
 
 pub returns : goal.returns
 returns c =
+    let to = c.min-to.ensures in
     let mark = c.mark_of.ensures in
     let a = c.args in
     let banks = a.banks.now in
-    rw (line_at a.c.0 banks a.i c.requires.3, part_at banks a.i _ c.line_end-to.ensures, ← mark) c.put_line.ensures
+    rw (line_at a.c.0 banks a.i c.requires.3, part_at banks a.i _ to, ← mark) c.put_line.ensures

@@ -1,5 +1,4 @@
--- The loop has written the first i lines.
-use Prim.Native.Nat.{◌-◌, ◌≤◌}
+-- The loop has written the lines before the index.
 use Rattle.poster_lines.specs.inner.Lines.{lines_with}
 use Rattle.text.specs.Places.{Puts}
 use Rattle.text.specs.Text.{joined}
@@ -8,7 +7,4 @@ use mathlib.Core.Path.{◌≡◌}
 use Rattle.poster_lines.proofs.lines.put_wave.Given as goal
 
 abbrev pub invariant-loop-i : goal.invariant-loop-i
-invariant-loop-i l = Puts (joined (take l.i (lines_with l.c.0 l.banks))) l.at l.initial.out l.next l.out × (l.i ≤ length (lines_with l.c.0 l.banks)) × (length l.out ≡ length l.initial.out)
-
-abbrev pub decreases-loop-i : goal.decreases-loop-i
-decreases-loop-i l = l.lines - l.i
+invariant-loop-i l = Puts (joined (take l.i (lines_with l.c.0 l.banks))) l.at l.initial.out l.next l.out × (length l.out ≡ length l.initial.out)

@@ -1,12 +1,11 @@
 -- The loop has counted the lines of the waves below c.
-use Prim.Native.Nat.{◌-◌}
 use Rattle.poster_writer.proofs.Cells.{count_none, count_next}
 use mathlib.Core.Path.{◌≡◌, sym}
 use native.Mathlib.Omega.{arith}
 use Rattle.poster_writer.proofs.waves.count_lines.Goals as goal
 
 pub loop-c-init : goal.loop-c-init
-loop-c-init c = (sym (count_none c.args.waves.now c.args.n), omega arith, omega arith)
+loop-c-init c = (sym (count_none c.args.waves.now c.args.n), omega arith)
 
 pub loop-c-preserved : goal.loop-c-preserved
 loop-c-preserved c =
@@ -15,7 +14,6 @@ loop-c-preserved c =
     let counted = c.count_wave-lines.ensures in (
       omega (arith, count_next a.waves.now a.n w.c, w.invariant.0, counted.0),
       omega (arith, w.invariant.1, counted.1),
-      omega arith,
     )
 
 pub returns : goal.returns

@@ -1,5 +1,4 @@
 -- The loop has put the banks of wave c below b.
-use Prim.Native.Nat.{◌-◌, ◌≤◌}
 use Rattle.text.specs.Places.{Puts}
 use Rattle.wave_lines.specs.inner.Cells.{members_of}
 use lib.ListN.{length}
@@ -7,7 +6,4 @@ use mathlib.Core.Path.{◌≡◌}
 use Rattle.poster_writer.proofs.waves.gather.Given as goal
 
 abbrev pub invariant-loop-b : goal.invariant-loop-b
-invariant-loop-b l = Puts (members_of l.waves l.c.0 l.b) 0 l.initial.banks l.next l.banks × (l.b ≤ l.n) × (length l.banks ≡ length l.initial.banks)
-
-abbrev pub decreases-loop-b : goal.decreases-loop-b
-decreases-loop-b l = l.n - l.b
+invariant-loop-b l = Puts (members_of l.waves l.c.0 l.b) 0 l.initial.banks l.next l.banks × (length l.banks ≡ length l.initial.banks)

@@ -1,5 +1,4 @@
 -- The loop has written the waves below c.
-use Prim.Native.Nat.{◌-◌, ◌≤◌}
 use Rattle.poster_writer.specs.inner.Cells.{poster_waves}
 use Rattle.text.specs.Places.{Puts}
 use lib.ListN.{length}
@@ -7,7 +6,4 @@ use mathlib.Core.Path.{◌≡◌}
 use Rattle.poster_writer.proofs.waves.put_waves.Given as goal
 
 abbrev pub invariant-loop-c : goal.invariant-loop-c
-invariant-loop-c l = Puts (poster_waves l.waves l.n l.c) 0 l.initial.out l.next l.out × (l.c ≤ l.k) × (length l.out ≡ length l.initial.out)
-
-abbrev pub decreases-loop-c : goal.decreases-loop-c
-decreases-loop-c l = l.k - l.c
+invariant-loop-c l = Puts (poster_waves l.waves l.n l.c) 0 l.initial.out l.next l.out × (length l.out ≡ length l.initial.out)

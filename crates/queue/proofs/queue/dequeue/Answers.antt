@@ -30,7 +30,7 @@ clear_bit-requires c =
     let found = c.first_place-place.ensures wait.0 wait.1 in
     record {
       has_bit = has_bit wait.1 head found;
-      t = bit_set wait.1 head found;
+      is_set = bit_set wait.1 head found;
     }
 
 pub offset_bounds-queue-word : goal.offset_bounds-queue-word
@@ -56,7 +56,7 @@ clear_bit-requires-2 c =
     let found = c.first_place-place.ensures wait.0 wait.1 in
     record {
       has_bit = summary_bits (spot_less wait.1 head found) one;
-      t = still_marked wait.1 head found one;
+      is_set = still_marked wait.1 head found one;
     }
 
 pub returns : goal.returns

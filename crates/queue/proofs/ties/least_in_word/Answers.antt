@@ -24,7 +24,7 @@ pub loop-rest-smaller : goal.loop-rest-smaller
 loop-rest-smaller c = scan_less c.loop-rest.invariant c.loop-rest-test.true
 
 pub loop-rest-preserved : goal.loop-rest-preserved
-loop-rest-preserved c = scan_step c.loop-rest.invariant c.loop-rest-test.true (c.smaller-least.ensures ∙ ap (λ (x : ℕ). min c.loop-rest.least x) c.key.ensures)
+loop-rest-preserved c = scan_step c.loop-rest.invariant c.loop-rest-test.true (c.min-least.ensures ∙ ap (λ (x : ℕ). min c.loop-rest.least x) c.key.ensures)
 
 pub returns : goal.returns
 returns c = scan_end (rw c.loop-rest-test.false at c.loop-rest.invariant)

@@ -3,4 +3,4 @@ use Rattle.queue.proofs.Writing.{clear_written}
 use Rattle.queue.proofs.words.clear_bit.Goals as goal
 
 pub returns : goal.returns
-returns c = clear_written c.requires.has_bit c.args.out c.requires.t
+returns c = rw c.from.ensures (clear_written c.requires.has_bit c.args.out c.requires.is_set)

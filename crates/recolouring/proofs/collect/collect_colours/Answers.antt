@@ -3,4 +3,4 @@ use Rattle.recolouring.proofs.Collecting.{collects}
 use Rattle.recolouring.proofs.collect.collect_colours.Goals as goal
 
 pub returns : goal.returns
-returns c = λ G ws ix bank. collects G ws _ _ c.requires ix bank
+returns c = λ G ws ix bank. rw c.from-start.ensures (collects G ws _ _ c.requires ix bank)

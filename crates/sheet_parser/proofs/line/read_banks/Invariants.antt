@@ -1,12 +1,11 @@
--- The line so far, or that there is none.
+-- The line so far.
 use Prim.Native.Nat.{◌-◌}
-use Rattle.sheet_parser.specs.inner.Lines.{Reading}
+use Rattle.sheet_parser.specs.inner.Lines.{OnLine}
 use lib.ListN.{length}
-use mathlib.Core.Path.{◌≡◌}
 use Rattle.sheet_parser.proofs.line.read_banks.Given as goal
 
 abbrev pub invariant-loop-c : goal.invariant-loop-c
-invariant-loop-c l = Reading l.place.ok l.s l.initial.cells l.cells l.n l.c.0 l.from l.place.low l.place.next × (length l.cells ≡ length l.initial.cells)
+invariant-loop-c l = OnLine l.s l.initial.cells l.cells l.n l.c.0 l.from l.place.low l.place.next
 
 abbrev pub decreases-loop-c : goal.decreases-loop-c
 decreases-loop-c l = length l.s - l.place.next

@@ -1,30 +1,20 @@
 -- `read_head` meets its contract: the word, the number of waves, the line feed.
-use Rattle.memory.proofs.Tested.{granted, denied}
 use Rattle.sheet_parser.proofs.Sheets.{no_word, no_count, many_waves, no_feed, head_read}
-use borrow.Author.Tests.{not-true, not-false}
-use native.Mathlib.Omega.{arith}
 use Rattle.sheet_parser.proofs.sheet.read_head.Goals as goal
+use Rattle.sheet_parser.proofs.sheet.read_head.Goals.{then-count-gt-MOST_WAVES-via-then-count-gt-MOST_WAVES, then-count-gt-MOST_WAVES-via-else-count-gt-MOST_WAVES+then-not-byte_at}
 
 pub returns-then-not-text_at : goal.returns-then-not-text_at
-returns-then-not-text_at c = no_word (denied _ c.text_at.result c.text_at.ensures c.if-not-text_at.true)
+returns-then-not-text_at c = no_word c.if-not-text_at.ensures
 
-pub returns-then-not-count : goal.returns-then-not-count
-returns-then-not-count c = no_count (c.read_number-count.ensures.none (not-true _ c.if-not-count.true))
+pub returns-in_err-count : goal.returns-in_err-count
+returns-in_err-count c = rw c.from_residual.ensures (no_count c.in_err-count.ensures)
 
 pub returns-then-count-gt-MOST_WAVES : goal.returns-then-count-gt-MOST_WAVES
-returns-then-count-gt-MOST_WAVES c = many_waves (c.read_number-count.ensures.some (not-false _ c.if-not-count.false)) c.if-count-gt-MOST_WAVES.true
-
-pub returns-then-not-byte_at : goal.returns-then-not-byte_at
-returns-then-not-byte_at c = no_feed (c.read_number-count.ensures.some (not-false _ c.if-not-count.false)) (denied _ c.byte_at.result c.byte_at.ensures c.if-not-byte_at.true)
-
-pub overflow_add-result : goal.overflow_add-result
-overflow_add-result c =
-    let feed = (granted _ c.byte_at.result c.byte_at.ensures c.if-not-byte_at.false) in
-    omega (arith, feed.inside)
+returns-then-count-gt-MOST_WAVES c =
+    elim c.then-count-gt-MOST_WAVES.branch [
+      | then-count-gt-MOST_WAVES-via-then-count-gt-MOST_WAVES w ↦ many_waves c.in_ok-count.ensures w.if-count-gt-MOST_WAVES.true
+      | then-count-gt-MOST_WAVES-via-else-count-gt-MOST_WAVES+then-not-byte_at w ↦ no_feed c.in_ok-count.ensures w.if-not-byte_at.ensures
+    ]
 
 pub returns : goal.returns
-returns c =
-    let count = c.read_number-count.ensures.some (not-false _ c.if-not-count.false) in
-    let word = granted _ c.text_at.result c.text_at.ensures c.if-not-text_at.false in
-    let feed = granted _ c.byte_at.result c.byte_at.ensures c.if-not-byte_at.false in
-    head_read count word c.if-count-gt-MOST_WAVES.false feed
+returns c = head_read c.in_ok-count.ensures c.if-not-text_at.ensures c.if-count-gt-MOST_WAVES.false c.if-not-byte_at.ensures

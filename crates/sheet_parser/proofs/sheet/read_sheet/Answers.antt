@@ -1,52 +1,27 @@
 -- `read_sheet` meets its contract: the first line, the lines of the waves, the foot, every bank.
-use Rattle.memory.proofs.Tested.{granted, denied}
-use Rattle.sheet_parser.proofs.Sheets.{fault_head}
-use Rattle.sheet_parser.proofs.Sheets.{no_head, no_foot, not_all, sheet_done}
-use Rattle.sheet_parser.proofs.Tests.{never_false, never_true}
-use borrow.Author.Tests.{not-true, not-false}
+use Rattle.std.proofs.Common.{None, ◌≡◌, arith}
+use Rattle.std.proofs.lemmas.Result.{err_from_is_err_and}
+use Rattle.sheet_parser.proofs.Sheets.{no_head, fault_head, no_foot, not_all, fault_foot, sheet_done}
+use Rattle.sheet_parser.specs.inner.Lines.{NoSheet}
 use Rattle.sheet_parser.proofs.sheet.read_sheet.Goals as goal
+use Rattle.sheet_parser.proofs.sheet.read_sheet.Goals.{then-not-foot_at-via-then-not-foot_at, then-not-foot_at-via-else-not-foot_at+then-not-all_named}
 
-pub returns-then-not-head : goal.returns-then-not-head
-returns-then-not-head c =
-    let none = c.read_head-head.ensures.none (not-true _ c.if-not-head.true) in
-    record { some = never_true; none = λ e. no_head none; fault = λ e. fault_head _ none }
-
-pub read_lines-body-requires : goal.read_lines-body-requires
-read_lines-body-requires c =
-    record {
-      head_at = (c.read_head-head.ensures.some (not-false _ c.if-not-head.false), c.requires.enough);
-      none_named = c.requires.none_named;
-    }
-
-pub returns-then-not-body : goal.returns-then-not-body
-returns-then-not-body c =
-    let body = c.read_lines-body.ensures in
-    record { some = never_true; none = λ e. body.none (not-true _ c.if-not-body.true) _; fault = λ e. body.fault }
-
-pub foot_at-requires : goal.foot_at-requires
-foot_at-requires c = (c.read_lines-body.ensures.some (not-false _ c.if-not-body.false)).inside
+pub returns-in_err-head : goal.returns-in_err-head
+returns-in_err-head c =
+    let p = err_from_is_err_and c.from_residual.result c.from_residual.ensures.1 in
+    let missed : c.read_head.result ≡ None = grind arith in
+    let line : c.in_err-head.field-0.0 ≡ 1 = grind arith in
+    let none = rw missed at c.read_head.ensures in
+    rw (p.1, p.2, line) (no_head none, fault_head _ none)
 
 pub returns-then-not-foot_at : goal.returns-then-not-foot_at
 returns-then-not-foot_at c =
-    let body = c.read_lines-body.ensures in
-    record {
-      some = never_true;
-      none = λ e. no_foot (body.some (not-false _ c.if-not-body.false)) (denied _ c.foot_at.result c.foot_at.ensures c.if-not-foot_at.true);
-      fault = λ e. body.fault;
-    }
-
-pub returns-then-not-all_named : goal.returns-then-not-all_named
-returns-then-not-all_named c =
-    let body = c.read_lines-body.ensures in
-    record {
-      some = never_true;
-      none = λ e. not_all (body.some (not-false _ c.if-not-body.false)) (denied _ c.all_named.result c.all_named.ensures c.if-not-all_named.true);
-      fault = λ e. body.fault;
-    }
+    let read = c.in_ok-foot.ensures in
+    let none = elim c.then-not-foot_at.branch as (λ b. NoSheet c.args.s.now c.args.tally.banks c.args.tally.clashes) [
+      | then-not-foot_at-via-then-not-foot_at w ↦ no_foot read w.if-not-foot_at.ensures
+      | then-not-foot_at-via-else-not-foot_at+then-not-all_named w ↦ not_all read w.if-not-all_named.ensures
+    ] in
+    (none, fault_foot read)
 
 pub returns : goal.returns
-returns c =
-    let read = c.read_lines-body.ensures.some (not-false _ c.if-not-body.false) in
-    let foot = granted _ c.foot_at.result c.foot_at.ensures c.if-not-foot_at.false in
-    let all = granted _ c.all_named.result c.all_named.ensures c.if-not-all_named.false in
-    record { some = λ e. sheet_done read foot all; none = never_false; fault = never_false }
+returns c = sheet_done c.in_ok-foot.ensures c.if-not-foot_at.ensures c.if-not-all_named.ensures

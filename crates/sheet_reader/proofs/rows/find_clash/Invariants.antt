@@ -1,5 +1,5 @@
 -- No bank below b has a clashing bank in its wave.
-use Prim.Native.Nat.{ℕ, ◌-◌, ◌<◌, ◌≤◌}
+use Prim.Native.Nat.{ℕ, ◌<◌}
 use Rattle.sheet_parser.specs.inner.Lines.{wave_in}
 use Rattle.sheet_reader.specs.Calls.{has_clash}
 use Rattle.sheet_reader.specs.inner.Rows.{rows_in}
@@ -8,7 +8,4 @@ use mathlib.Core.Path.{◌≡◌}
 use Rattle.sheet_reader.proofs.rows.find_clash.Given as goal
 
 abbrev pub invariant-loop-b : goal.invariant-loop-b
-invariant-loop-b l = (l.b ≤ l.n) × ((x : ℕ) → x < l.b → has_clash (rows_in l.n l.neighbours) (wave_in l.cells) x ≡ false)
-
-abbrev pub decreases-loop-b : goal.decreases-loop-b
-decreases-loop-b l = l.n - l.b
+invariant-loop-b l = (x : ℕ) → x < l.b → has_clash (rows_in l.n l.neighbours) (wave_in l.cells) x ≡ false

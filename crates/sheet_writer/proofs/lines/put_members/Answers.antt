@@ -1,5 +1,4 @@
 -- The loop has written the banks below b.
-use Prim.Native.Nat.{◌-◌}
 use Rattle.sheet_writer.proofs.Texts.{members_none, members_next, members_room}
 use Rattle.sheet_writer.specs.inner.Cells.{member_text, members_text}
 use Rattle.text.proofs.Putting.{puts_none, puts_then}
@@ -11,14 +10,14 @@ use Rattle.sheet_writer.proofs.lines.put_members.Goals as goal
 pub loop-b-init : goal.loop-b-init
 loop-b-init c =
     let a = c.args in
-    (rw (members_none a.waves.now a.c.0) (puts_none _ _), omega arith, refl)
+    (rw (members_none a.waves.now a.c.0) (puts_none _ _), refl)
 
 pub put_member-next-requires : goal.put_member-next-requires
 put_member-next-requires c =
     let w = c.loop-b in
     let a = c.args in
     let room = members_room a.waves.now a.c.0 w.b a.n c.loop-b-test.true in
-    omega (arith, w.invariant.0.next, w.invariant.2, c.requires.1)
+    rw c.from.ensures (omega (arith, w.invariant.0.next, w.invariant.1, c.requires.1))
 
 pub loop-b-preserved : goal.loop-b-preserved
 loop-b-preserved c =
@@ -28,8 +27,8 @@ loop-b-preserved c =
     let room = members_room ws a.c.0 w.b a.n c.loop-b-test.true in
     let fits = c.requires.1 in
     let more =
-    puts_then (members_text ws a.c.0 w.b) (member_text (get_or ws w.b 0) a.c.0 w.b) a.at a.out.now (omega arith) _ _ _ _ w.invariant.0 c.put_member-next.ensures in
-    (rw (members_next ws a.c.0 w.b) more, omega arith, c.put_member-next.auto.out ∙ w.invariant.2)
+    puts_then (members_text ws a.c.0 w.b) (member_text (get_or ws w.b 0) a.c.0 w.b) a.at a.out.now (omega arith) _ _ _ _ w.invariant.0 (rw c.from.ensures at c.put_member-next.ensures) in
+    (rw (members_next ws a.c.0 w.b) more, c.put_member-next.auto.out ∙ w.invariant.1)
 
 pub returns : goal.returns
 returns c =

@@ -1,10 +1,10 @@
--- `waves_length` meets its contract: the first line has 8 bytes below 10 waves, else 9.
-use Rattle.sheet_writer.proofs.Lengths.{head_low, head_high}
+-- The first line is its word, its digits and its line feed.
+use Rattle.sheet_writer.proofs.Texts.{length_head}
+use Rattle.text.proofs.Decimal.{few_digits}
 use native.Mathlib.Omega.{arith}
 use Rattle.sheet_writer.proofs.sheet.waves_length.Goals as goal
 
-pub returns-then-k-lt10 : goal.returns-then-k-lt10
-returns-then-k-lt10 c = omega (arith, head_low _ c.if-k-lt10.true)
-
 pub returns : goal.returns
-returns c = omega (arith, head_high _ c.if-k-lt10.false (omega arith))
+returns c =
+    let k = c.args.k in
+    (omega (arith, length_head k), omega (arith, few_digits 1 k (omega arith)))

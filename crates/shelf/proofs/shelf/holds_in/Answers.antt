@@ -5,11 +5,11 @@ use native.Mathlib.Omega.{arith}
 use Rattle.shelf.proofs.shelf.holds_in.Goals as goal
 
 pub returns-then-tally-banks : goal.returns-then-tally-banks
-returns-then-tally-banks c = holds_other c.args.banks c.args.place.now _ (rw c.wide-n.ensures at c.tally_in-tally.ensures) c.if-tally-banks.true
+returns-then-tally-banks c = holds_other c.args.banks c.args.place.now _ (rw c.from-n.ensures at c.tally_in-tally.ensures) c.if-tally-banks.true
 
 pub holds_plan-requires : goal.holds_plan-requires
 holds_plan-requires c =
-    let n = c.wide-n.result in
+    let n = c.from-n.result in
     let t = c.tally_in-tally in
     let cells = c.args.place.now in
     let degree = 1 + n * 23 in
@@ -17,7 +17,7 @@ holds_plan-requires c =
     let count = wave + n in
     let tally-at = count + n * 24 in
     let rank = tally-at + 3 in
-    let is-n = c.wide-n.ensures in
+    let is-n = c.from-n.ensures in
     let banks = c.if-tally-banks.false in
     let parts = slices_from c.args.banks degree wave count tally-at rank (rank + n) cells
     (omega arith) (omega arith) (omega arith) (omega arith) (omega arith) (omega arith) in
@@ -28,7 +28,7 @@ holds_plan-requires c =
 
 pub returns : goal.returns
 returns c =
-    let n = c.wide-n.result in
+    let n = c.from-n.result in
     let t = c.tally_in-tally in
     let cells = c.args.place.now in
     let degree = 1 + n * 23 in
@@ -36,7 +36,7 @@ returns c =
     let count = wave + n in
     let tally-at = count + n * 24 in
     let rank = tally-at + 3 in
-    let is-n = c.wide-n.ensures in
+    let is-n = c.from-n.ensures in
     let banks = c.if-tally-banks.false in
     let parts = slices_from c.args.banks degree wave count tally-at rank (rank + n) cells
     (omega arith) (omega arith) (omega arith) (omega arith) (omega arith) (omega arith) in

@@ -2,6 +2,7 @@
 use Rattle.steps.proofs.Stepping.{taken_less, counts_in, indexed, free_wave, notifiable, treated, worked}
 use mathlib.Core.Path.{refl}
 use native.Mathlib.Omega.{arith}
+use Rattle.steps.specs.inner.Work.{new}
 use Rattle.steps.proofs.can_step.can_step.Goals as goal
 
 pub overflow_add-next : goal.overflow_add-next
@@ -53,15 +54,15 @@ notify_colours-requires c =
     let st = c.requires.1 in
     let wk = st.working in
     let dq = c.dequeue-b.ensures _ st.waiting in
-    (_, notifiable wk dq (c.collect_colours-colours.ensures _ _ (indexed wk dq) dq.next.bank) c.assign_colour-changed.ensures)
+    (new c.requires.0, rw c.from-at.ensures (notifiable wk dq (c.collect_colours-colours.ensures _ _ (indexed wk dq) dq.next.bank) c.assign_colour-changed.ensures))
 
-pub highest_after-highest-requires : goal.highest_after-highest-requires
-highest_after-highest-requires c =
+pub highest_after-top-requires : goal.highest_after-top-requires
+highest_after-top-requires c =
     let st = c.requires.1 in
     let wk = st.working in
     let dq = c.dequeue-b.ensures _ st.waiting in
     let cells = (notifiable wk dq (c.collect_colours-colours.ensures _ _ (indexed wk dq) dq.next.bank) c.assign_colour-changed.ensures).movable _ dq.next.bank in
-    record { bound = cells.low; bound_2 = cells.high }
+    record { bound = rw c.from-at.ensures cells.low; bound_2 = rw c.from-at.ensures cells.high }
 
 pub returns : goal.returns
 returns c =
@@ -70,9 +71,10 @@ returns c =
     let dq = c.dequeue-b.ensures _ st.waiting in
     let set = c.collect_colours-colours.ensures _ _ (indexed wk dq) dq.next.bank in
     let one = c.assign_colour-changed.ensures in
-    let ntf = c.notify_colours.ensures _ (notifiable wk dq set one) in
+    let ntf = rw c.from-at.ensures at (c.notify_colours.ensures (new e) (rw c.from-at.ensures (notifiable wk dq set one))) in
+    let top = rw c.from-at.ensures at c.highest_after-top.ensures in
     record {
       bank = _;
-      treated = treated wk dq set one ntf refl c.list_moved-moves.ensures.moved_after c.list_moved-moves.ensures.value c.highest_after-highest.ensures;
-      working = worked wk dq set one ntf refl c.list_moved-moves.ensures.moved_after c.list_moved-moves.ensures.value c.highest_after-highest.ensures;
+      treated = treated wk dq set one ntf refl c.list_moved-moves.ensures.moved_after c.list_moved-moves.ensures.value top;
+      working = worked wk dq set one ntf refl c.list_moved-moves.ensures.moved_after c.list_moved-moves.ensures.value top;
     }

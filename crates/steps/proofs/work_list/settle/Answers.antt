@@ -1,5 +1,4 @@
 -- `settle`: the state of the work-list is the loop's invariant.
-use Prim.Native.Nat.{◌-◌}
 use Rattle.steps.proofs.Ending.{steppable, settled}
 use mathlib.Core.Path.{refl, ◌∙◌}
 use native.Mathlib.Omega.{arith}

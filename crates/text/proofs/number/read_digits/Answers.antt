@@ -1,45 +1,33 @@
--- `read_digits` meets its contract. The invariant: the bytes up to i are digits, and i digits give a value below 10 ^ i.
+-- The bytes passed are digits, and as many digits give a value below that power of ten.
 use Prim.Native.Nat.{◌-◌, ◌≤◌}
-use Rattle.text.proofs.Digits.{digits_low, digits_high, digits_next, value_next, digits_end, value_end, more, small, digits_yes, digits_no}
+use Rattle.text.proofs.Digits.{digits_low, digits_high, digits_next, value_next, digits_end, value_end, more, digits_yes, digits_no}
 use lib.ListN.{get_or}
 use mathlib.Core.Path.{◌∙◌}
 use native.Mathlib.Omega.{arith}
 use Rattle.text.proofs.number.read_digits.Goals as goal
 
-pub returns-then-x-lt48 : goal.returns-then-x-lt48
-returns-then-x-lt48 c =
+pub returns-in_default : goal.returns-in_default
+returns-in_default c =
+    let w = c.loop-x in
+    digits_no _ (w.invariant.0 ∙ digits_low _ w.x-index (omega arith) (omega arith))
+
+pub returns-in_default-2 : goal.returns-in_default-2
+returns-in_default-2 c =
+    let w = c.loop-x in
+    digits_no _ (w.invariant.0 ∙ digits_high _ w.x-index (omega arith) (omega arith) (omega arith))
+
+pub loop-x-preserved : goal.loop-x-preserved
+loop-x-preserved c =
     let s = c.args.s.now in
-    let w = c.loop-i in
-    digits_no s (w.invariant.0 ∙ digits_low s w.i (omega arith) c.if-x-lt48.true)
-
-pub returns-then-x-gt57 : goal.returns-then-x-gt57
-returns-then-x-gt57 c =
-    let s = c.args.s.now in
-    let w = c.loop-i in
-    digits_no s (w.invariant.0 ∙ digits_high s w.i (omega arith) c.if-x-lt48.false c.if-x-gt57.true)
-
-pub overflow_mul-value : goal.overflow_mul-value
-overflow_mul-value c =
-    let w = c.loop-i in
-    omega (arith, small w.value w.i w.invariant.2 (omega arith))
-
-pub overflow_add-value : goal.overflow_add-value
-overflow_add-value c =
-    let w = c.loop-i in
-    omega (arith, small w.value w.i w.invariant.2 (omega arith))
-
-pub loop-i-preserved : goal.loop-i-preserved
-loop-i-preserved c =
-    let s = c.args.s.now in
-    let w = c.loop-i in
-    let low : 48 ≤ get_or s w.i 0 = c.if-x-lt48.false in
-    let high : get_or s w.i 0 ≤ 57 = c.if-x-gt57.false in
-    let more-digits = w.invariant.0 ∙ digits_next s w.i (omega arith) low high in
-    let more-value = w.invariant.1 ∙ value_next s w.i w.value (omega arith) in
-    (more-digits, more-value, more w.value (get_or s w.i 0 - 48) w.i w.invariant.2 (omega arith), omega arith)
+    let w = c.loop-x in
+    let low : 48 ≤ get_or s w.x-index 0 = omega arith in
+    let high : get_or s w.x-index 0 ≤ 57 = omega arith in
+    let more-digits = w.invariant.0 ∙ digits_next s w.x-index (omega arith) low high in
+    let more-value = w.invariant.1 ∙ value_next s w.x-index w.value (omega arith) in
+    (more-digits, rw c.from.ensures more-value, omega (arith, more w.value (get_or s w.x-index 0 - 48) w.x-index w.invariant.2 (omega arith)))
 
 pub returns : goal.returns
 returns c =
     let s = c.args.s.now in
-    let w = c.loop-i in
-    digits_yes s w.value (w.invariant.0 ∙ digits_end s w.i (omega arith)) (w.invariant.1 ∙ value_end s w.i w.value (omega arith))
+    let w = c.loop-x in
+    digits_yes s w.value (w.invariant.0 ∙ digits_end s w.x-index (omega arith)) (w.invariant.1 ∙ value_end s w.x-index w.value (omega arith))

@@ -1,19 +1,19 @@
--- `digits` meets its contract: each branch by the number of digits.
+-- Each branch by the number of digits.
 use Rattle.text.proofs.Decimal.{length_low, length_decimal}
 use native.Mathlib.Omega.{arith}
 use Rattle.wave_lines.proofs.foot.digits.Goals as goal
 
-pub returns-then-x-lt10 : goal.returns-then-x-lt10
-returns-then-x-lt10 c = omega (arith, length_low _ c.if-x-lt10.true)
+pub returns-in-0-to-9 : goal.returns-in-0-to-9
+returns-in-0-to-9 c = omega (arith, length_low c.args.x (omega arith))
 
-pub returns-then-x-lt100 : goal.returns-then-x-lt100
-returns-then-x-lt100 c = omega (arith, length_decimal 1 _ c.if-x-lt10.false c.if-x-lt100.true)
+pub returns-in-10-to-99 : goal.returns-in-10-to-99
+returns-in-10-to-99 c = omega (arith, length_decimal 1 c.args.x (omega arith) (omega arith))
 
-pub returns-then-x-lt1000 : goal.returns-then-x-lt1000
-returns-then-x-lt1000 c = omega (arith, length_decimal 2 _ c.if-x-lt100.false c.if-x-lt1000.true)
+pub returns-in-100-to-999 : goal.returns-in-100-to-999
+returns-in-100-to-999 c = omega (arith, length_decimal 2 c.args.x (omega arith) (omega arith))
 
-pub returns-then-x-lt10000 : goal.returns-then-x-lt10000
-returns-then-x-lt10000 c = omega (arith, length_decimal 3 _ c.if-x-lt1000.false c.if-x-lt10000.true)
+pub returns-in-1000-to-9999 : goal.returns-in-1000-to-9999
+returns-in-1000-to-9999 c = omega (arith, length_decimal 3 c.args.x (omega arith) (omega arith))
 
-pub returns : goal.returns
-returns c = omega (arith, length_decimal 4 _ c.if-x-lt10000.false (omega arith))
+pub returns-in_default : goal.returns-in_default
+returns-in_default c = omega (arith, length_decimal 4 c.args.x (omega arith) (omega arith))

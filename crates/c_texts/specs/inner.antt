@@ -1,2 +1,0 @@
--- Inner vocabulary: for functions that no other crate calls.
-pub mod Sources

@@ -1,9 +1,0 @@
--- The arguments below i are numbers.
-use Prim.Native.Nat.{◌-◌, ◌≤◌}
-use Rattle.doubt.proofs.arguments.all_numbers.Given as goal
-
-abbrev pub invariant-loop-i : goal.invariant-loop-i
-invariant-loop-i g l = l.i ≤ l.count
-
-abbrev pub decreases-loop-i : goal.decreases-loop-i
-decreases-loop-i g l = l.count - l.i

@@ -1,0 +1,2 @@
+-- Whether a row names a bank.
+pub mod Named

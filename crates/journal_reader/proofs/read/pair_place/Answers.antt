@@ -1,8 +1,0 @@
--- `pair_place` meets its contract.
-use Rattle.journal_reader.proofs.read.pair_place.Goals as goal
-
-pub returns-then-numbered : goal.returns-then-numbered
-returns-then-numbered c = rw c.if-numbered.true
-
-pub returns : goal.returns
-returns c = rw c.if-numbered.false
