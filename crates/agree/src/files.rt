@@ -18,7 +18,7 @@ fn read_named<R: Files>(rt: &R, name: &[u8], bytes: &mut [u8]) -> Option<usize>
     read_from(&mut file, bytes)
 }
 
-// Reads the file that argument i names, to its end or as far as there is room.
+// Reads the file that argument i names, to its end or as far as there is room. Answers how many bytes it read, or nothing if it cannot be read.
 pub fn read_file<R: Env + Files>(rt: &R, i: usize, bytes: &mut [u8]) -> Option<usize>
     ensures { IfSome result (λ n. n ≤ length bytes.new) }
 {

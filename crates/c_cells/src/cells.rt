@@ -1,10 +1,12 @@
 // Reading a tally from its cells, and putting tallies and results into theirs.
-ghost use Rattle.std.specs.Prelude.{◌≡◌, ◌≤◌, length};
+ghost use Rattle.std.specs.Prelude.{[], ◌∷◌, ◌≡◌, ◌≤◌, length};
+ghost use Rattle.rule.specs.Refusals.{number_in, value_or};
 ghost use Rattle.memory.specs.Cells.{over};
 ghost use Rattle.c_cells.specs.CellMemory.{tally_size, tally_in, tally_cells, short_number};
 ghost use Rattle.c_cells.specs.inner.Enough.{Enough};
 
 use memory::{Tally, put_front};
+use rule::Refusal;
 
 // The cells of a tally slice: banks, clashes, waves, cap.
 const TALLY_CELLS: usize = 4;
@@ -51,4 +53,22 @@ pub fn put_answer(tally: &mut [u16], res: &mut [u16], after: Tally, results: &[u
 {
     put_tally(tally, after);
     put_front(res, results);
+}
+
+// Puts the one result of a call at the front, or 0 where it is refused. Answers 0, or the refusal's number.
+pub fn put_result(res: &mut [u16], done: Result<u16, Refusal>) -> u16
+    requires { 1 ≤ length res.old }
+    ensures number { result ≡ number_in done }
+    ensures res { res.new ≡ over (value_or done 0 ∷ []) res.old }
+{
+    match done {
+        Ok(answer) => {
+            put_front(res, &[answer]);
+            0
+        }
+        Err(refusal) => {
+            put_front(res, &[0]);
+            u16::from(refusal)
+        }
+    }
 }

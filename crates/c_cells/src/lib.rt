@@ -3,4 +3,4 @@
 
 mod cells;
 
-pub use cells::{put_answer, put_tally, room, tally_in};
+pub use cells::{put_answer, put_result, put_tally, room, tally_in};

@@ -4,9 +4,9 @@ ghost use Rattle.std.specs.Prelude.{◌≡◌};
 ghost use Rattle.c_reads.specs.Reads.{read_answered};
 ghost use Rattle.c_reads.specs.Crews.{crew_answered, crew_call, least_call};
 
-use c_cells::{room, tally_in};
+use c_cells::{put_result, room, tally_in};
 use crews::{crew_steps, least_crew};
-use memory::{PlanMemory, put_front};
+use memory::PlanMemory;
 
 const CREW_RESULTS: usize = 1;
 
@@ -37,16 +37,7 @@ pub fn crew_steps_in(
         ranks,
         tally: tally_in(tally),
     };
-    match crew_steps(plan, couriers, steps) {
-        Ok(total) => {
-            put_front(res, &[total]);
-            0
-        }
-        Err(refusal) => {
-            put_front(res, &[0]);
-            u16::from(refusal)
-        }
-    }
+    put_result(res, crew_steps(plan, couriers, steps))
 }
 
 // The least number of couriers that ends within `limit` steps: the result.
@@ -75,14 +66,5 @@ pub fn least_crew_in(
         ranks,
         tally: tally_in(tally),
     };
-    match least_crew(plan, limit) {
-        Ok(couriers) => {
-            put_front(res, &[couriers]);
-            0
-        }
-        Err(refusal) => {
-            put_front(res, &[0]);
-            u16::from(refusal)
-        }
-    }
+    put_result(res, least_crew(plan, limit))
 }

@@ -3,7 +3,7 @@ ghost use Rattle.memory.specs.Plan.{slices_of};
 ghost use Rattle.std.specs.Prelude.{◌≡◌};
 ghost use Rattle.c_reads.specs.Reads.{read_answered, wave_call, clashes_call, bound_call, direct_call};
 
-use c_cells::{room, tally_in};
+use c_cells::{put_result, room, tally_in};
 use direct_rule::wave_by_rule;
 use memory::{PlanMemory, put_front};
 use planner::{clashes_of, wave_of};
@@ -42,16 +42,7 @@ pub fn wave_of_in(
         ranks,
         tally: tally_in(tally),
     };
-    match wave_of(plan, Bank(b)) {
-        Ok(wave) => {
-            put_front(res, &[wave.0]);
-            0
-        }
-        Err(refusal) => {
-            put_front(res, &[0]);
-            u16::from(refusal)
-        }
-    }
+    put_result(res, wave_of(plan, Bank(b)).map(|wave| wave.0))
 }
 
 // The clashes of bank b: the results are the cell of `neighbours` where they start, and how many they are. The number is that of
@@ -81,9 +72,9 @@ pub fn clashes_of_in(
         ranks,
         tally: tally_in(tally),
     };
-    let part = clashes_of(plan, Bank(b));
     match wave_of(plan, Bank(b)) {
         Ok(_) => {
+            let part = clashes_of(plan, Bank(b));
             put_front(
                 res,
                 &[(ROW_CELLS * usize::from(b)) as u16, part.len() as u16],
@@ -91,7 +82,7 @@ pub fn clashes_of_in(
             0
         }
         Err(refusal) => {
-            put_front(res, &[0, part.len() as u16]);
+            put_front(res, &[0, 0]);
             u16::from(refusal)
         }
     }
@@ -122,16 +113,7 @@ pub fn wave_bound_in(
         ranks,
         tally: tally_in(tally),
     };
-    match wave_bound(plan) {
-        Ok(bound) => {
-            put_front(res, &[bound]);
-            0
-        }
-        Err(refusal) => {
-            put_front(res, &[0]);
-            u16::from(refusal)
-        }
-    }
+    put_result(res, wave_bound(plan))
 }
 
 // The wave of bank b, read straight off the rule: the result.
@@ -160,14 +142,5 @@ pub fn wave_by_rule_in(
         ranks,
         tally: tally_in(tally),
     };
-    match wave_by_rule(plan, Bank(b)) {
-        Ok(wave) => {
-            put_front(res, &[wave.0]);
-            0
-        }
-        Err(refusal) => {
-            put_front(res, &[0]);
-            u16::from(refusal)
-        }
-    }
+    put_result(res, wave_by_rule(plan, Bank(b)).map(|wave| wave.0))
 }

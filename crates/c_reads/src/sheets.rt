@@ -4,6 +4,7 @@ ghost use Rattle.c_reads.specs.Sheets.{SheetChecked};
 
 use c_cells::{room, tally_in};
 use memory::{PlanMemory, put_front};
+use rule::Refusal;
 use sheet_reader::{SheetRefusal, check_sheet};
 
 const SHEET_RESULTS: usize = 3;
@@ -50,15 +51,15 @@ pub fn check_sheet_in(
         }
         Err(SheetRefusal::NoSheet { line }) => {
             put_front(res, &[line, 0, 0]);
-            26
+            u16::from(Refusal::NoSheet)
         }
         Err(SheetRefusal::Clash { first, second }) => {
             put_front(res, &[0, first.0, second.0]);
-            27
+            u16::from(Refusal::ClashInWave)
         }
         Err(SheetRefusal::ManyWaves) => {
             put_front(res, &[0, 0, 0]);
-            27
+            u16::from(Refusal::ClashInWave)
         }
     }
 }

@@ -3,9 +3,9 @@ ghost use Rattle.memory.specs.Plan.{slices_of};
 ghost use Rattle.std.specs.Prelude.{◌≡◌};
 ghost use Rattle.c_texts.specs.Texts.{text_answered, sheet_call, poster_call, start_call};
 
-use c_cells::{room, tally_in};
+use c_cells::{put_result, room, tally_in};
 use journal::start_journal;
-use memory::{PlanMemory, put_front};
+use memory::PlanMemory;
 use poster_writer::write_poster;
 use sheet_writer::write_sheet;
 
@@ -41,16 +41,7 @@ pub fn write_sheet_in(
         ranks,
         tally,
     };
-    match write_sheet(plan, out) {
-        Ok(length) => {
-            put_front(res, &[length as u16]);
-            0
-        }
-        Err(refusal) => {
-            put_front(res, &[0]);
-            u16::from(refusal)
-        }
-    }
+    put_result(res, write_sheet(plan, out).map(|length| length as u16))
 }
 
 // Writes the poster.
@@ -80,16 +71,7 @@ pub fn write_poster_in(
         ranks,
         tally,
     };
-    match write_poster(plan, out) {
-        Ok(length) => {
-            put_front(res, &[length as u16]);
-            0
-        }
-        Err(refusal) => {
-            put_front(res, &[0]);
-            u16::from(refusal)
-        }
-    }
+    put_result(res, write_poster(plan, out).map(|length| length as u16))
 }
 
 // Starts a journal.
@@ -119,14 +101,8 @@ pub fn start_journal_in(
         ranks,
         tally,
     };
-    match start_journal(plan, journal) {
-        Ok(length) => {
-            put_front(res, &[length as u16]);
-            0
-        }
-        Err(refusal) => {
-            put_front(res, &[0]);
-            u16::from(refusal)
-        }
-    }
+    put_result(
+        res,
+        start_journal(plan, journal).map(|length| length as u16),
+    )
 }

@@ -112,7 +112,7 @@ fn try_edit(
     take_back(
         kind, neighbours, degrees, waves, counts, ranks, trail, moved, made.tally, a, b,
     );
-    refuse(u16::from(refusal), tally)
+    refuse(refusal, tally)
 }
 
 // Puts the first k cells at the front of a slice where the edit got no number. Answers how many were put.

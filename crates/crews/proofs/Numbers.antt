@@ -21,14 +21,6 @@ use Rattle.crews.specs.Calls.{crew_fits, crew_number, step_cells, crew_result, c
 use Rattle.crews.specs.inner.Serving.{Crew}
 
 -- from 1 to 64
-pub fits_none : (q : ℕ) → q < 1 → leb 1 q ≡ crew_fits q
-unfolding crew_fits
-fits_none q l = rw (lt-leb 1 q l)
-
-pub fits_some : (q : ℕ) → 1 ≤ q → (r : Bool) → r ≡ leb q 64 → r ≡ crew_fits q
-unfolding crew_fits
-fits_some q l r e = rw (le-leb 1 q l) e
-
 pub crew_of : (q : ℕ) → crew_fits q ≡ true → Crew q
 unfolding crew_fits
 crew_of q e = let b = both_true (leb 1 q) (leb q 64) e in record { some = leb-true 1 q b.0; few = leb-true q 64 b.1 }

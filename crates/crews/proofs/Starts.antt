@@ -1,8 +1,11 @@
 -- The steps before each wave, as they are added up.
 use mathlib.Core.List.{List}
-use mathlib.Core.Path.{◌≡◌, refl, ap, ap₂, ◌∙◌}
+use mathlib.Core.Path.{◌≡◌, refl, sym, ap, ap₂, ◌∙◌}
 use native.Mathlib.Decide.{ℕ_discrete}
 use native.Mathlib.Nat.{div-le_self}
+use Rattle.std.proofs.Math.Nat.{div-eq_of_lt-le, add-mul}
+use Rattle.std.specs.Int.{div_ceil}
+use Rattle.std.proofs.lemmas.Grind.{div_ceil_times}
 use native.Mathlib.Numerals.{add-one}
 use native.Mathlib.Omega.{arith}
 use Prim.Native.Nat.{ℕ, zero, suc, ◌+◌, ◌*◌, ◌-◌, ◌/◌, ◌≤◌, ◌<◌}
@@ -20,6 +23,12 @@ sum_up_cong q f g (suc k) h = ap₂ ◌+◌ (sum_up_cong q f g k (λ w l. h w (o
 pub divided_few : (m q : ℕ) → m ≤ 1024 → q ≤ 64 → (m + (q - 1)) / q ≤ 1087
 divided_few m q l k = omega (arith, div-le_self (m + (q - 1)) q)
 
+-- rounded up: with q - 1 added first
+ceil_is : (m q : ℕ) → 1 ≤ q → div_ceil m q ≡ (m + (q - 1)) / q
+ceil_is m q some =
+    let p = div_ceil_times m q (omega arith) in
+    sym (div-eq_of_lt-le q (omega (arith, p.1)) (rw (add-mul (div_ceil m q) 1 q) (omega (arith, p.0))))
+
 module _ {sizes : List ℕ} {q : ℕ} (sz : Sizes sizes) (crew : Crew q) where
   pub steps_few : (w : ℕ) → w ≤ 24 → steps_to sizes q w ≤ 1087 * w
   unfolding sum_up divided_up
@@ -33,16 +42,17 @@ module _ {sizes : List ℕ} {q : ℕ} (sz : Sizes sizes) (crew : Crew q) where
 
   module _ {w : ℕ} {starts : List ℕ} {sum : ℕ} (st : StartsTo sizes q w starts sum) (l : w < 24) where
     -- what is added fits
-    pub sum_fits : {m : ℕ} → m ≤ 1087 → sum + m / q < 65536
-    sum_fits {m} few = omega (arith, st.total, steps_few w (omega arith), div-le_self m q)
+    pub sum_fits : sum + div_ceil (get_or sizes w 0) q < 65536
+    sum_fits =
+        omega (arith, st.total, steps_few w (omega arith), ceil_is (get_or sizes w 0) q crew.some, divided_few (get_or sizes w 0) q (sz.few w l) crew.few)
 
     -- the next wave is added
-    pub starts_next : StartsTo sizes q (w + 1) (set starts w sum) (sum + (get_or sizes w 0 + (q - 1)) / q)
+    pub starts_next : StartsTo sizes q (w + 1) (set starts w sum) (sum + div_ceil (get_or sizes w 0) q)
     unfolding sum_up divided_up
     starts_next = record {
       long = length-set starts w sum ∙ st.long;
       before = λ v k. at v k (ℕ_discrete v w);
-      total = rw add-one (ap (λ (x : ℕ). x + (get_or sizes w 0 + (q - 1)) / q) st.total);
+      total = rw (add-one, ceil_is (get_or sizes w 0) q crew.some) (ap (λ (x : ℕ). x + (get_or sizes w 0 + (q - 1)) / q) st.total);
     }
       where
         at : (v : ℕ) → v < w + 1 → Dec (v ≡ w) → get_or (set starts w sum) v 0 ≡ steps_to sizes q v

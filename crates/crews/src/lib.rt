@@ -27,7 +27,7 @@ const MOST_STEPS: u16 = 1024;
 fn crew_fits(couriers: u16) -> bool
     ensures { result ≡ crew_fits couriers }
 {
-    1 <= couriers && couriers <= MOST_COURIERS
+    (1..=MOST_COURIERS).contains(&couriers)
 }
 
 // Questions 3 to 5, of which 4 also asks for n cells of steps, and whether there are 1 to 64 couriers.

@@ -24,7 +24,7 @@ pub fn first_steps(sizes: &[u16; COUNT_CELLS], q: u16) -> Starts
     let mut total: u16 = 0;
     for (w, size) in sizes.iter().enumerate() {
         cells[w] = total;
-        total += (*size + (q - 1)) / q;
+        total += size.div_ceil(q);
     }
     Starts { cells, total }
 }

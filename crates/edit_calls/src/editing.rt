@@ -36,7 +36,7 @@ pub fn edit_core(
         tally,
     };
     if let Err(refusal) = check_memory(plan, trail, moved) {
-        return refuse(u16::from(refusal), tally);
+        return refuse(refusal, tally);
     }
     edit_within(
         kind,

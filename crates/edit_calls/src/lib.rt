@@ -1,4 +1,4 @@
-// The calls that change a plan: add, strike and set_cap.
+// An edit of one clash, and setting the cap, with the tally by value: the cores of the calls add, strike and set_cap of `lent_calls`.
 #![tactic(auto)]
 
 mod capping;

@@ -12,16 +12,13 @@ use memory::Tally;
 use planner::{Answer, Edited};
 use queue::WORDS;
 use queue_places::place_by_rank;
-use rule::{Bank, Entry, Kind};
+use rule::{Bank, Entry, Kind, Refusal};
 
 // Whether an edit has come, once this entry has.
 pub fn begun_by(entry: Entry, begun: bool) -> bool
     ensures { result ≡ begun_by entry begun }
 {
-    match entry {
-        Entry::Clash(_, _, _) => true,
-        Entry::Rank(_, _) => begun,
-    }
+    begun || matches!(entry, Entry::Clash(..))
 }
 
 // Sets the rank of b, or refuses with 18 where an edit has come, or with 4.
@@ -30,10 +27,10 @@ fn rank_held(ranks: &mut [u16], tally: Tally, begun: bool, b: Bank, rank: u16) -
     ensures { RankDone begun b.0 rank tally ranks.old ranks.new result }
 {
     if begun {
-        return refuse(18, tally);
+        return refuse(Refusal::LateRank, tally);
     }
     if tally.banks <= b.0 {
-        return refuse(4, tally);
+        return refuse(Refusal::FarBank, tally);
     }
     let at = usize::from(b.0);
     ranks[at] = rank;

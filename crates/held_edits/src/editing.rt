@@ -2,7 +2,7 @@
 ghost use Rattle.std.specs.Prelude.{◌≡◌, ℕ};
 ghost use Rattle.rule.specs.Lists.{memb};
 ghost use Rattle.rule.specs.Graph.{Graph};
-ghost use Rattle.rule.specs.Refusals.{number_in};
+ghost use Rattle.rule.specs.Refusals.{number_in, number_of};
 ghost use Rattle.rule.specs.declared.Kind.TheVariants.{Adding, Striking};
 ghost use Rattle.memory.specs.Plan.{PlanOf};
 ghost use Rattle.memory.specs.Memory.{Ready};
@@ -77,13 +77,13 @@ pub fn edit_number(kind: Kind, plan: PlanMemory, a: Bank, b: Bank) -> Result<(),
     clash_number(kind, row, b, plan.degrees[at_a], plan.degrees[at_b])
 }
 
-// A refused edit: the number, counts 0, the tally as it was.
-pub fn refuse(number: u16, tally: Tally) -> Edited
-    ensures { (result.answer ≡ no_edit number) × (result.tally ≡ tally) }
+// A refused edit: the refusal's number, counts 0, the tally as it was.
+pub fn refuse(refusal: Refusal, tally: Tally) -> Edited
+    ensures { (result.answer ≡ no_edit (number_of refusal)) × (result.tally ≡ tally) }
 {
     Edited {
         answer: Answer {
-            number,
+            number: u16::from(refusal),
             moved: 0,
             trail: 0,
         },
@@ -125,7 +125,7 @@ pub fn edit_held(
         tally,
     };
     if let Err(refusal) = edit_number(kind, plan, a, b) {
-        return refuse(u16::from(refusal), tally);
+        return refuse(refusal, tally);
     }
     let done = make_edit(
         kind, neighbours, degrees, waves, counts, ranks, trail, moved, queue, tally, a, b,

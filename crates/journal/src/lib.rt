@@ -14,7 +14,7 @@ pub struct Recorded {
     pub length: u16,
 }
 
-// What it leaves beside its slices.
+// What a recorded edit leaves beside its slices.
 #[derive(Clone, Copy)]
 pub struct RecordedEdit {
     pub answer: Recorded,

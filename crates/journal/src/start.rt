@@ -98,7 +98,7 @@ fn put_adds(journal: &mut [u8], done: usize, plan: PlanMemory) -> usize
     next
 }
 
-// Starts a journal: writes its first field, the ranks other than 0 and the clashes now listed to the front of `journal`. Answers its length, at
+// Starts a journal: writes its first field, the ranks other than 0 and the clashes that are listed to the front of `journal`. Answers its length, at
 // most 60,000, or changes nothing and gives the refusal of the first no.
 pub fn start_journal(plan: PlanMemory, journal: &mut [u8]) -> Result<usize, Refusal>
     ensures { start_result (start_answered result) journal.new ≡ started (slices_in plan.entry) plan.entry.tally journal.old }

@@ -118,7 +118,7 @@ fn ended(rest: &[u8], numbered: bool, number: u16, field: u16) -> Replayed
         };
     };
     Replayed {
-        number: 14,
+        number: u16::from(Refusal::WrongField),
         field: field + 1,
         left_over: 0,
     }
@@ -153,7 +153,7 @@ fn enter_fields(
         next: first,
         tally,
     };
-    // By hand: `last` says where the next field starts, and the loop ends with the first field that is refused.
+    // No `for`, which would be no plainer: `last` says where the next field starts, and the loop ends with the first field that is refused.
     while last.number == 0 && size <= journal.len() - last.next {
         last = enter_field(
             journal,

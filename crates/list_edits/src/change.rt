@@ -11,7 +11,7 @@ use list_rows::Change;
 use memory::{PlanMemory, Tally};
 use planner::{Answer, Edited, clashes_held};
 use queue::WORDS;
-use rule::{Bank, Kind};
+use rule::{Bank, Kind, Refusal};
 
 // Makes the edit of one row or sets its rank. The answer is that of its last edit.
 pub fn apply(
@@ -67,7 +67,7 @@ fn strike_all(
     ensures idle_after { Idle tally.banks ranks.now queue.new }
 {
     if tally.banks <= b.0 {
-        return refuse(4, tally);
+        return refuse(Refusal::FarBank, tally);
     }
     let plan = PlanMemory {
         neighbours,
@@ -88,7 +88,7 @@ fn strike_all(
         tally,
     };
     // Over a count: each strike changes the row, so that the next one is read anew.
-    for _struck in 0..left {
+    for _ in 0..left {
         let held = last.tally;
         let plan = PlanMemory {
             neighbours,

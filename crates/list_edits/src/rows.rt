@@ -41,7 +41,7 @@ pub fn read_edits(
         begun: false,
         tally,
     };
-    // By hand: the pass goes on while rows are left and none was refused.
+    // No `for`, which would be no plainer: the pass goes on while rows are left and none was refused.
     while last.number == 0 && last.next < list.len() {
         last = edit_row(
             list,

@@ -9,10 +9,10 @@ use list_pass::{Listed, Reading, first_row};
 use list_rows::{Row, read_row_in};
 use memory::Tally;
 use opening::open_all;
+use rule::Refusal;
 use text::{MOST_BYTES, find};
 
-// Reads a list: opens the plan, then makes the rows' edits. This is the core, which takes and returns the tally by value:
-// programs and other crates call it. The function that borrows the tally is a thin one over it.
+// Reads a list: opens the plan, then makes the rows' edits. It takes and returns the tally by value: `lent_calls` has the call that borrows it.
 pub fn read_list_core(
     list: &[u8],
     neighbours: &mut [u16],
@@ -29,7 +29,10 @@ pub fn read_list_core(
 {
     if MOST_BYTES < list.len() {
         return Listed {
-            answer: Reading { number: 9, row: 0 },
+            answer: Reading {
+                number: u16::from(Refusal::ManyBytes),
+                row: 0,
+            },
             tally,
         };
     }
@@ -39,7 +42,7 @@ pub fn read_list_core(
     let Row::Banks(banks) = read_row_in(first.v2, &list[start..end]) else {
         return Listed {
             answer: Reading {
-                number: 10,
+                number: u16::from(Refusal::NoBankCount),
                 row: first.row,
             },
             tally,

@@ -66,7 +66,7 @@ pub fn lines_for(banks: usize) -> usize
     requires { banks ≤ 1024 }
     ensures { result ≡ (banks + 6) / 7 }
 {
-    (banks + (LINE_BANKS - 1)) / LINE_BANKS
+    banks.div_ceil(LINE_BANKS)
 }
 
 // The lines of wave c with these banks.

@@ -28,7 +28,7 @@ pub fn write_poster(plan: PlanMemory, out: &mut [u8]) -> Result<usize, Refusal>
     let n = tally.banks;
     let k = tally.waves;
     let lines = count_lines(plan.waves, n, k) + 1;
-    let pages = (lines + (PAGE_LINES - 1)) / PAGE_LINES;
+    let pages = lines.div_ceil(PAGE_LINES);
     let length = PAGE_BYTES * pages;
     if out.len() < length {
         return Err(Refusal::ShortOutput);

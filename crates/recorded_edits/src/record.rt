@@ -1,4 +1,4 @@
-// The calls that make an edit and record it.
+// An edit that is made and recorded, with the tally by value.
 ghost use Rattle.std.specs.Prelude.{◌≡◌};
 ghost use Rattle.rule.specs.Refusals.{number_in};
 ghost use Rattle.memory.specs.Lent.{given, slices_in};

@@ -27,7 +27,6 @@ pub fn foot_length(tally: Tally) -> usize
     7 + digits(tally.banks) + digits(tally.clashes)
 }
 
-// By itself: which number stands where is the caller's.
 // `TOTAL n m`, at `at`; answers the place after it.
 fn put_totals(out: &mut [u8], at: usize, n: u16, m: u16) -> usize
     requires { at + (7 + (length (decimal n) + length (decimal m))) ≤ length out.old }

@@ -1,10 +1,8 @@
 -- `crew_fits` meets its contract.
-use Rattle.crews.proofs.Numbers.{fits_none, fits_some}
-use mathlib.Core.Path.{refl}
+use borrow.Author.Rules.{rules}
+use Rattle.crews.specs.Calls.{crew_fits}
 use Rattle.crews.proofs.crew_fits.Goals as goal
 
-pub returns-then-couriers-ge1 : goal.returns-then-couriers-ge1
-returns-then-couriers-ge1 c = fits_some _ c.if-couriers-ge1.true _ refl
-
-pub returns-else-couriers-ge1 : goal.returns-else-couriers-ge1
-returns-else-couriers-ge1 c = fits_none _ c.if-couriers-ge1.false
+pub returns : goal.returns
+unfolding crew_fits
+returns c = rw (c.contains.ensures.value, c.new.ensures.start, c.new.ensures.end, c.new.ensures.exhausted) (search rules)

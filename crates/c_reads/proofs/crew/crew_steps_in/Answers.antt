@@ -8,10 +8,7 @@ pub returns-then-short-ne0 : goal.returns-then-short-ne0
 unfolding crew_call
 returns-then-short-ne0 c = roomed_some _ _ _ _ c.room-short.ensures.number _ _ c.if-short-ne0.true
 
-pub returns-in-Ok : goal.returns-in-Ok
-returns-in-Ok c = crew_done-law _ _ _ _ _ c.tally_in.ensures c.if-short-ne0.false c.room-short.ensures.number _ _ _ _ _ c.in-Ok.ensures c.put_front.ensures
-
-pub returns-in-Err : goal.returns-in-Err
-returns-in-Err c =
-    rw c.from.ensures
-    (crew_done-law _ _ _ _ _ c.tally_in.ensures c.if-short-ne0.false c.room-short.ensures.number _ _ _ _ _ c.in-Err.ensures c.put_front-in-Err.ensures)
+pub returns : goal.returns
+returns c =
+    rw c.put_result.ensures.number
+    (crew_done-law _ _ _ _ _ c.tally_in.ensures c.if-short-ne0.false c.room-short.ensures.number _ _ _ _ _ c.crew_steps.ensures c.put_result.ensures.res)

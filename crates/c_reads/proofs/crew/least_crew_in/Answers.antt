@@ -8,10 +8,7 @@ pub returns-then-short-ne0 : goal.returns-then-short-ne0
 unfolding least_call
 returns-then-short-ne0 c = roomed_some _ _ _ _ c.room-short.ensures.number _ _ c.if-short-ne0.true
 
-pub returns-in-Ok : goal.returns-in-Ok
-returns-in-Ok c = least_done-law _ _ _ _ _ c.tally_in.ensures c.if-short-ne0.false c.room-short.ensures.number _ _ _ c.in-Ok.ensures c.put_front.ensures
-
-pub returns-in-Err : goal.returns-in-Err
-returns-in-Err c =
-    rw c.from.ensures
-    (least_done-law _ _ _ _ _ c.tally_in.ensures c.if-short-ne0.false c.room-short.ensures.number _ _ _ c.in-Err.ensures c.put_front-in-Err.ensures)
+pub returns : goal.returns
+returns c =
+    rw c.put_result.ensures.number
+    (least_done-law _ _ _ _ _ c.tally_in.ensures c.if-short-ne0.false c.room-short.ensures.number _ _ _ c.least_crew.ensures c.put_result.ensures.res)

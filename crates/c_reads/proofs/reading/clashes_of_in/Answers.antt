@@ -1,4 +1,6 @@
 -- `clashes_of_in` meets its contract.
+use Rattle.rule.proofs.Refusals.{refused_some}
+use Rattle.planner.proofs.Rows.{clashes_refused}
 use Rattle.c_cells.proofs.Rooms.{roomed_some}
 use Rattle.c_reads.proofs.Answers.{bank_small, few_clashes, row_end}
 use Rattle.c_reads.proofs.Done.{clashes_done-law}
@@ -18,9 +20,6 @@ overflow_cast-from c = omega (arith, c.from.ensures, bank_small _ _ _ (sym c.in-
 pub overflow_cast-part : goal.overflow_cast-part
 overflow_cast-part c = omega (arith, few_clashes _ _ _ _ c.clashes_of-part.ensures)
 
-pub overflow_cast-part-in-Err : goal.overflow_cast-part-in-Err
-overflow_cast-part-in-Err c = omega (arith, few_clashes _ _ _ _ c.clashes_of-part.ensures)
-
 pub returns-in-Ok : goal.returns-in-Ok
 unfolding row_start
 returns-in-Ok c =
@@ -29,6 +28,7 @@ returns-in-Ok c =
 
 pub returns-in-Err : goal.returns-in-Err
 returns-in-Err c =
+    let number = c.in-Err.ensures.number in
     rw c.from-in-Err.ensures
-    (clashes_done-law _ _ _ _ _ _ c.tally_in.ensures c.if-short-ne0.false _ _ _ _ c.room-short.ensures.number c.in-Err.ensures.number (row_end _ _) c.clashes_of-part.ensures
-    c.put_front-in-Err.ensures)
+    (clashes_done-law _ _ _ _ _ _ c.tally_in.ensures c.if-short-ne0.false _ _ _ _ c.room-short.ensures.number number (row_end _ _)
+    (clashes_refused _ _ _ _ number (refused_some _)) c.put_front-in-Err.ensures)

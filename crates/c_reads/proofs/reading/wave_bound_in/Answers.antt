@@ -8,13 +8,8 @@ pub returns-then-short-ne0 : goal.returns-then-short-ne0
 unfolding bound_call
 returns-then-short-ne0 c = roomed_some _ _ _ _ c.room-short.ensures.number _ _ c.if-short-ne0.true
 
-pub returns-in-Ok : goal.returns-in-Ok
-returns-in-Ok c =
-    let answer = c.in-Ok.ensures in
-    bound_done-law _ _ _ _ c.tally_in.ensures c.if-short-ne0.false _ _ _ _ c.room-short.ensures.number answer.number answer.bound c.put_front.ensures
-
-pub returns-in-Err : goal.returns-in-Err
-returns-in-Err c =
-    let answer = c.in-Err.ensures in
-    rw c.from.ensures
-    (bound_done-law _ _ _ _ c.tally_in.ensures c.if-short-ne0.false _ _ _ _ c.room-short.ensures.number answer.number answer.bound c.put_front-in-Err.ensures)
+pub returns : goal.returns
+returns c =
+    let answer = c.wave_bound.ensures in
+    rw c.put_result.ensures.number
+    (bound_done-law _ _ _ _ c.tally_in.ensures c.if-short-ne0.false _ _ _ _ c.room-short.ensures.number answer.number answer.bound c.put_result.ensures.res)

@@ -16,14 +16,17 @@ returns-in-Err-Asked c =
 pub returns-in-Err-NoSheet : goal.returns-in-Err-NoSheet
 returns-in-Err-NoSheet c =
     let check = rw c.in-Err-NoSheet.field-0-is at c.in-Err-NoSheet.ensures in
-    sheet_done _ _ _ _ _ c.room-short.ensures.number _ c.tally_in.ensures c.if-short-ne0.false check.answered c.put_front-in-Err-NoSheet.ensures
+    rw c.from-in-Err-NoSheet.ensures
+    (sheet_done _ _ _ _ _ c.room-short.ensures.number _ c.tally_in.ensures c.if-short-ne0.false check.answered c.put_front-in-Err-NoSheet.ensures)
 
 pub returns-in-Err-Clash : goal.returns-in-Err-Clash
 returns-in-Err-Clash c =
     let check = rw c.in-Err-Clash.field-0-is at c.in-Err-Clash.ensures in
-    sheet_done _ _ _ _ _ c.room-short.ensures.number _ c.tally_in.ensures c.if-short-ne0.false check.answered c.put_front-in-Err-Clash.ensures
+    rw c.from-in-Err-Clash.ensures
+    (sheet_done _ _ _ _ _ c.room-short.ensures.number _ c.tally_in.ensures c.if-short-ne0.false check.answered c.put_front-in-Err-Clash.ensures)
 
 pub returns-in-Err-ManyWaves : goal.returns-in-Err-ManyWaves
 returns-in-Err-ManyWaves c =
     let check = rw c.in-Err-ManyWaves.field-0-is at c.in-Err-ManyWaves.ensures in
-    sheet_done _ _ _ _ _ c.room-short.ensures.number _ c.tally_in.ensures c.if-short-ne0.false check.answered c.put_front-in-Err-ManyWaves.ensures
+    rw c.from-in-Err-ManyWaves.ensures
+    (sheet_done _ _ _ _ _ c.room-short.ensures.number _ c.tally_in.ensures c.if-short-ne0.false check.answered c.put_front-in-Err-ManyWaves.ensures)

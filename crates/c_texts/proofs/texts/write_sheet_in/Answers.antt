@@ -1,4 +1,6 @@
 -- `write_sheet_in` meets its contract: the bytes are written, and their length put.
+use borrow.Author.Rules.{rules}
+use Rattle.c_cells.proofs.Results.{value_is, result_same}
 use Rattle.c_cells.proofs.Rooms.{roomed_some}
 use Rattle.c_texts.proofs.Done.{text_done-law}
 use Rattle.c_texts.specs.Texts.{text_call, text_of}
@@ -12,14 +14,12 @@ pub returns-then-short-ne0 : goal.returns-then-short-ne0
 unfolding text_call
 returns-then-short-ne0 c = roomed_some _ _ _ _ c.room-short.ensures.number _ _ c.if-short-ne0.true
 
-pub overflow_cast-length : goal.overflow_cast-length
-overflow_cast-length c = let few : c.in-Ok.length ≤ 4084 = answer_most sheet _ _ _ 4084 sheet_fits (Ok c.in-Ok.length) _ c.in-Ok.ensures in omega (arith, few)
+pub map-requires : goal.map-requires
+map-requires c x is _ _ = let few : x ≤ 4084 = answer_most sheet _ _ _ 4084 sheet_fits (Ok x) _ (rw is at c.write_sheet.ensures) in omega (arith, few)
 
-pub returns-in-Ok : goal.returns-in-Ok
-returns-in-Ok c =
-    text_done-law _ _ _ _ _ _ _ _ _ c.room-short.ensures.number c.if-short-ne0.false c.tally_in-tally.ensures (ap text_of c.in-Ok.ensures) c.put_front.ensures
-
-pub returns-in-Err : goal.returns-in-Err
-returns-in-Err c =
-    rw c.from.ensures
-    (text_done-law _ _ _ _ _ _ _ _ _ c.room-short.ensures.number c.if-short-ne0.false c.tally_in-tally.ensures (ap text_of c.in-Err.ensures) c.put_front-in-Err.ensures)
+pub returns : goal.returns
+returns c =
+    let same = result_same c.write_sheet.result _ c.map.result c.map.ensures.cases (λ x q. value_is _ _ _ q (λ y p. search rules)) in
+    rw (c.put_result.ensures.number, same)
+    (text_done-law _ _ _ _ _ _ _ _ _ c.room-short.ensures.number c.if-short-ne0.false c.tally_in-tally.ensures (ap text_of c.write_sheet.ensures)
+    (rw (← same) c.put_result.ensures.res))

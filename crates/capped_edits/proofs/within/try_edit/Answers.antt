@@ -1,7 +1,7 @@
 -- `try_edit`: refused at once, made, or made and unmade.
 use Rattle.capped_edits.proofs.Unmade.{made_ready, first_refused, kept, unmade}
 use Rattle.rule.proofs.Refusals.{refused_some}
-use mathlib.Core.Path.{sym, ◌∙◌}
+use mathlib.Core.Path.{sym}
 use Rattle.capped_edits.proofs.within.try_edit.Goals as goal
 
 pub edit_alone-made-requires : goal.edit_alone-made-requires
@@ -27,5 +27,5 @@ pub returns : goal.returns
 returns c =
     let e = c.edit_alone-made.ensures in
     λ G ready.
-    unmade (e G ready) ready c.if-made-ne0.false (c.take_back.ensures _ (made_ready (e G ready) c.if-made-ne0.false)) _ c.from.result
-    (c.from.ensures ∙ c.in-Err.ensures) (λ z. refused_some _ (sym c.from.ensures ∙ z)) _ c.refuse.ensures
+    unmade (e G ready) ready c.if-made-ne0.false (c.take_back.ensures _ (made_ready (e G ready) c.if-made-ne0.false)) _ _
+    c.in-Err.ensures (refused_some _) _ c.refuse.ensures

@@ -2,14 +2,13 @@
 use Rattle.edit_calls.proofs.Calls.{call_refused, call_within}
 use Rattle.memory.specs.Lent.{given}
 use Rattle.rule.proofs.Refusals.{refused_some}
-use mathlib.Core.Path.{sym, ◌∙◌}
 use Rattle.edit_calls.proofs.editing.edit_core.Goals as goal
 
 pub returns-in-Err : goal.returns-in-Err
 returns-in-Err c =
     let a = c.args in
     call_refused _ _ _ (given a.neighbours.now a.degrees.now a.waves.now a.counts.now a.ranks.now a.trail.now a.moved.now a.tally)
-    c.from.result (c.from.ensures ∙ c.in-Err.ensures.number) (λ z. refused_some _ (sym c.from.ensures ∙ z)) c.refuse.result c.refuse.ensures.0 c.refuse.ensures.1
+    _ c.in-Err.ensures.number (refused_some _) c.refuse.result c.refuse.ensures.0 c.refuse.ensures.1
 
 pub edit_within-requires : goal.edit_within-requires
 edit_within-requires c = (_, c.in_default.ensures.ready)

@@ -2,7 +2,6 @@
 use Rattle.memory.specs.Lent.{given}
 use Rattle.planner.proofs.Outcomes.{edit_refused, editable, edit_accepted}
 use Rattle.rule.proofs.Refusals.{refused_some}
-use mathlib.Core.Path.{sym, ◌∙◌}
 use Rattle.held_edits.proofs.editing.edit_held.Goals as goal
 
 pub edit_number-requires : goal.edit_number-requires
@@ -13,8 +12,7 @@ returns-in-Err c =
     let a = c.args in record {
       edit_made = λ G ready.
           edit_refused _ G _ _ (given a.neighbours.now a.degrees.now a.waves.now a.counts.now a.ranks.now a.trail.now a.moved.now a.tally) ready
-          c.from.result (c.from.ensures ∙ c.in-Err.ensures G ready.plan) (λ z. refused_some _ (sym c.from.ensures ∙ z)) c.refuse.result c.refuse.ensures.0
-          c.refuse.ensures.1;
+          _ (c.in-Err.ensures G ready.plan) (refused_some _) c.refuse.result c.refuse.ensures.0 c.refuse.ensures.1;
       idle_2 = c.requires.idle;
     }
 

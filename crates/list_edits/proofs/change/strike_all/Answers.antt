@@ -21,39 +21,39 @@ returns-then-tally-b c =
 pub clashes_held-row-requires : goal.clashes_held-row-requires
 clashes_held-row-requires c = ((c.requires.holds_plan.0, c.requires.holds_plan.1.plan), c.if-tally-b.false)
 
-pub loop-struck-init : goal.loop-struck-init
-loop-struck-init c = (
+pub loop-init : goal.loop-init
+loop-init c = (
   λ G h. left_start G _ _ _ _ refl h c.if-tally-b.false (omega (arith, ap length (c.clashes_held-row.ensures G h.plan))),
   same _,
   c.requires.idle,
   refl,
 )
 
-pub clashes_held-row-requires-in-loop-struck : goal.clashes_held-row-requires-in-loop-struck
-clashes_held-row-requires-in-loop-struck c =
-    let w = c.loop-struck.invariant.0 c.requires.holds_plan.0 c.requires.holds_plan.1 in
+pub clashes_held-row-requires-in-loop : goal.clashes_held-row-requires-in-loop
+clashes_held-row-requires-in-loop c =
+    let w = c.loop.invariant.0 c.requires.holds_plan.0 c.requires.holds_plan.1 in
     ((w.graph, w.ready.plan), w.below)
 
 pub bounds-row-0 : goal.bounds-row-0
 bounds-row-0 c =
-    let w = c.loop-struck.invariant.0 c.requires.holds_plan.0 c.requires.holds_plan.1 in
-    left_some _ _ _ _ _ _ w (omega arith) _ (c.clashes_held-row-in-loop-struck.ensures w.graph w.ready.plan)
+    let w = c.loop.invariant.0 c.requires.holds_plan.0 c.requires.holds_plan.1 in
+    left_some _ _ _ _ _ _ w (omega arith) _ (c.clashes_held-row-in-loop.ensures w.graph w.ready.plan)
 
 pub edit_held-last-requires : goal.edit_held-last-requires
 edit_held-last-requires c =
-    let i = c.loop-struck.invariant in
+    let i = c.loop.invariant in
     let w = i.0 c.requires.holds_plan.0 c.requires.holds_plan.1 in
     record {
       holds_plan = (w.graph, w.ready);
       idle = rw i.3 i.2;
     }
 
-pub loop-struck-preserved : goal.loop-struck-preserved
-loop-struck-preserved c =
-    let i = c.loop-struck.invariant in
+pub loop-preserved : goal.loop-preserved
+loop-preserved c =
+    let i = c.loop.invariant in
     let all = length c.clashes_held-row.result.now in
-    let less : all - c.loop-struck._struck - 1 ≡ all - (c.loop-struck._struck + 1) = omega arith in
-    let row = c.clashes_held-row-in-loop-struck.ensures in
+    let less : all - c.loop.counter - 1 ≡ all - (c.loop.counter + 1) = omega arith in
+    let row = c.clashes_held-row-in-loop.ensures in
     let strike = c.edit_held-last.ensures.edit_made in
     let k = c.edit_held-last.auto in (
       λ G h. let w = i.0 G h in rw less at (left_turn G _ _ _ _ _ w (omega arith) _ (row w.graph w.ready.plan) _ _ (strike w.graph w.ready)),
@@ -64,7 +64,7 @@ loop-struck-preserved c =
 
 pub returns : goal.returns
 returns c =
-    let i = c.loop-struck.invariant in record {
+    let i = c.loop.invariant in record {
       strikes_all = λ begun. record {
         of = λ G h f. let w = i.0 G h in change_all begun G _ h f _ _ _ c.if-tally-b.false w.number
             (left_end G _ _ _ _ _ w (omega arith));

@@ -5,7 +5,7 @@ use native.Mathlib.Omega.{arith}
 use Rattle.list_reader.proofs.pass.read_list_core.Goals as goal
 
 pub returns-then-list-gt-MOST_BYTES : goal.returns-then-list-gt-MOST_BYTES
-returns-then-list-gt-MOST_BYTES c = too_long _ _ c.if-list-gt-MOST_BYTES.true
+returns-then-list-gt-MOST_BYTES c = rw c.from.ensures (too_long _ _ c.if-list-gt-MOST_BYTES.true)
 
 pub find-end-requires : goal.find-end-requires
 find-end-requires c = c.first_row-first.ensures.inside
@@ -21,8 +21,8 @@ slice_bounds-read_row_in-end c = omega (arith, c.find-end.ensures.high)
 
 pub returns-in_default : goal.returns-in_default
 returns-in_default c =
-    first_other _ _ _ _ _ _ c.find-end.ensures _ c.read_row_in.ensures c.in_default.not-Banks
-    ∙ sym (found _ _ _ c.first_row-first.ensures c.if-list-gt-MOST_BYTES.false)
+    rw c.from-in_default.ensures (first_other _ _ _ _ _ _ c.find-end.ensures _ c.read_row_in.ensures c.in_default.not-Banks
+    ∙ sym (found _ _ _ c.first_row-first.ensures c.if-list-gt-MOST_BYTES.false))
 
 pub overflow_add-next : goal.overflow_add-next
 overflow_add-next c = omega (arith, c.find-end.ensures.high)

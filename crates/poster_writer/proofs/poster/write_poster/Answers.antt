@@ -5,7 +5,8 @@ use Rattle.poster_writer.proofs.Plans.{plan_bytes, plan_text-law, plan_foot, foo
 use Rattle.wave_lines.proofs.Plans.{plan_room, plan_most, plan_few}
 use Rattle.wave_lines.proofs.Writing.{text_refused, text_short, text_done-law}
 use Rattle.std.proofs.lemmas.Result.{err_from_is_err_and}
-use mathlib.Core.Path.{ap}
+use Rattle.poster_writer.proofs.Pages.{pages}
+use mathlib.Core.Path.{◌≡◌, ap}
 use native.Mathlib.Omega.{arith}
 use Rattle.poster_writer.proofs.poster.write_poster.Goals as goal
 
@@ -66,7 +67,9 @@ returns c =
     let lines = c.count_lines-lines.ensures.0 in
     let plan = c.in_ok-check_plan.ensures.plan in
     let bytes = plan_bytes _ _ _ plan in
+    let count : c.div_ceil-pages.result ≡ pages (c.count_lines-lines.result + 1) = omega (arith, c.div_ceil-pages.ensures) in
+    let blank = rw count at c.put_blank_lines.ensures in
     let written =
     poster_written _ _ _ plan _ (omega (arith, bytes, lines, room)) _ (ap (λ (n : ℕ). n + 1) lines) _ _ _ _ _ _ c.put_waves-foot.auto.out c.put_waves-foot.ensures foot
-    c.put_blank_lines.ensures in
+    blank in
     text_done-law poster _ _ _ c.in_ok-check_plan.ensures.number (omega (arith, bytes, lines, room)) _ _ (omega (arith, bytes, lines)) written
