@@ -2,11 +2,13 @@
 #![tactic(auto)]
 
 ghost use Rattle.memory.specs.Lent.{slices_in};
-ghost use Rattle.std.specs.Prelude.{◌≡◌, ℕ, ◌<◌, get_or, IfOk};
+ghost use Rattle.memory.specs.Plan.{graph_in};
+ghost use Rattle.std.specs.Prelude.{◌≡◌, ℕ, ◌≤◌, ◌<◌, get_or, IfOk};
 ghost use Rattle.rule.specs.Refusals.{number_in};
 ghost use Rattle.rule.specs.Wave.{wave};
 ghost use Rattle.memory.specs.inner.Test.{Lowest};
 ghost use Rattle.planner.specs.inner.Held.{PlanIn};
+ghost use Rattle.planner.specs.Calls.{wave_in};
 ghost use Rattle.direct_rule.specs.Calls.{direct_number, rule_wave_of};
 ghost use Rattle.direct_rule.specs.inner.Search.{read_in, Readable};
 
@@ -66,6 +68,7 @@ fn lowest_free_wave(neighbours: &[u16], degrees: &[u16], ranks: &[u16], banks: u
 fn check_small(plan: PlanMemory, b: Bank) -> Result<(), Refusal>
     ensures number { number_in result ≡ direct_number b.0 (slices_in plan.entry) plan.entry.tally }
     ensures plan { IfOk result (λ _. PlanIn (slices_in plan.entry) plan.entry.tally × (b.0 < plan.entry.tally.banks)) }
+    ensures few { IfOk result (λ _. plan.entry.tally.banks ≤ 16) }
 {
     check_plan(plan)?;
     let banks = plan.tally.banks;
@@ -79,17 +82,26 @@ fn check_small(plan: PlanMemory, b: Bank) -> Result<(), Refusal>
     Ok(())
 }
 
-// The wave of bank b by the rule, from rows, degrees and ranks alone, or the refusal of the first no.
-pub fn wave_by_rule(plan: PlanMemory, b: Bank) -> Result<Wave, Refusal>
-    ensures number { number_in result ≡ direct_number b.0 (slices_in plan.entry) plan.entry.tally }
-    ensures wave { IfOk result (λ wave. wave.0 ≡ rule_wave_of b.0 (slices_in plan.entry) plan.entry.tally) }
+// The wave of bank b by the rule, in memory that holds a small plan. The layers above call it where they know that.
+pub fn rule_wave_held(plan: PlanMemory, b: Bank) -> Wave
+    requires plan { PlanIn (slices_in plan) plan.tally × (b.0 < plan.tally.banks) }
+    requires few { plan.tally.banks ≤ 16 }
+    ensures { result.0 ≡ wave (graph_in plan.entry.tally.banks (slices_in plan.entry)) b.0 }
 {
-    check_small(plan, b)?;
-    Ok(wave_of_bank(
+    wave_of_bank(
         plan.neighbours,
         plan.degrees,
         plan.ranks,
         plan.tally.banks,
         b,
-    ))
+    )
+}
+
+// The wave of bank b by the rule, from rows, degrees and ranks alone, or the refusal of the first no.
+pub fn wave_by_rule(plan: PlanMemory, b: Bank) -> Result<Wave, Refusal>
+    ensures number { number_in result ≡ direct_number b.0 (slices_in plan.entry) plan.entry.tally }
+    ensures wave { wave_in result ≡ rule_wave_of b.0 (slices_in plan.entry) plan.entry.tally }
+{
+    check_small(plan, b)?;
+    Ok(rule_wave_held(plan, b))
 }

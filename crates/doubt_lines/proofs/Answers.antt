@@ -68,6 +68,20 @@ module _ (s : Slices) (t : Tally) (b : ℕ) where
   pub both_passed : direct_number b s t ≡ 0 → bank_number b s t ≡ 0
   both_passed z = let p = direct_passed z in bank_fine s t b p.plan p.bank
 
+  -- and it stands in the bank's cell
+  pub kept_cell : direct_number b s t ≡ 0 → (b < length s.waves) × (get_or s.waves b 0 ≡ wave_of b s t)
+  kept_cell z =
+      let p = direct_passed z in
+      let plan = number_plan s t p.plan in
+      (Rows.wave_cell plan p.bank, Rows.plan_wave plan p.bank ∙ Rows.wave_found b s t (sym (both_passed z)))
+
+  -- in memory that holds a plan, a small one for the wave: what the calls answer for a bank
+  pub row_clashes : plan_number s t ≡ 0 → b < t.banks → {part : List ℕ} → part ≡ neighbours G b → part ≡ clashes_of b s t
+  row_clashes e l q = q ∙ Rows.clashes_found b s t (sym (bank_fine s t b e l))
+
+  pub read_straight : {w : ℕ} → w ≡ wave G b → plan_number s t ≡ 0 → t.banks ≤ 16 → b < t.banks → w ≡ rule_wave_of b s t
+  read_straight q e few l = q ∙ Numbers.wave_found s t b (sym (Numbers.direct_fine s t b e few l))
+
   -- each wave that is answered has a letter
   kept_low : wave_of b s t < 24
   kept_low = go (ℕ_discrete (bank_number b s t) 0)

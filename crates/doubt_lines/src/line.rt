@@ -7,10 +7,10 @@ ghost use Rattle.planner.specs.Calls.{plan_number, wave_of, clashes_of};
 ghost use Rattle.text.specs.Places.{Puts};
 ghost use Rattle.doubt_lines.specs.Lines.{lettered, head_text, from_text, link_text, links_text, line_of};
 
-use direct_rule::wave_by_rule;
+use direct_rule::{rule_wave_held, wave_by_rule};
 use list_program::{put_named, put_refused};
 use memory::{PlanMemory, is_earlier};
-use planner::{clashes_of, wave_of};
+use planner::clashes_held;
 use rule::{Bank, Refusal, Wave};
 use text::{put_byte, put_text};
 use wave_lines::letter;
@@ -47,10 +47,7 @@ fn put_link(out: &mut [u8], at: usize, plan: PlanMemory, b: Bank, v: Bank) -> us
     if !is_earlier(plan.degrees, plan.ranks, v, b) {
         return at;
     }
-    match wave_by_rule(plan, v) {
-        Ok(read) => put_from(out, at, v.0, read),
-        Err(_) => at,
-    }
+    put_from(out, at, v.0, rule_wave_held(plan, v))
 }
 
 // The earlier neighbours of bank b with their letters.
@@ -62,7 +59,7 @@ fn put_links(out: &mut [u8], at: usize, plan: PlanMemory, b: Bank) -> usize
     ensures { Puts (links_text b.0 (slices_in plan.entry) plan.entry.tally (clashes_of b.0 (slices_in plan.entry) plan.entry.tally)) at out.old result out.new
         × (result ≤ at + 299) }
 {
-    let clashes = clashes_of(plan, b);
+    let clashes = clashes_held(plan, b);
     let mut next = at;
     for &v in clashes {
         next = put_link(out, next, plan, b, Bank(v));
@@ -87,7 +84,7 @@ fn both_waves(plan: PlanMemory, b: Bank) -> Result<(Wave, Wave), Refusal>
         × (pair.1.0 ≡ rule_wave_of b.0 (slices_in plan.entry) plan.entry.tally)) }
 {
     let read = wave_by_rule(plan, b)?;
-    let kept = wave_of(plan, b)?;
+    let kept = Wave(plan.waves[usize::from(b.0)]);
     Ok((kept, read))
 }
 

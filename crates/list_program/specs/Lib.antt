@@ -1,3 +1,2 @@
--- What a reader must believe of the programs: Answers, and Writing, what is asked of the function that writes their text.
+-- What a reader must believe of the programs: Answers.
 pub mod Answers
-pub mod Writing

@@ -1,30 +1,22 @@
 // The answer to a list: a text of its plan, or its refusal.
-ghost use Rattle.std.specs.Prelude.{List, ℕ, ◌≡◌, ◌≤◌, length};
-ghost use Rattle.rule.specs.Graph.{Graph};
+ghost use Rattle.std.specs.Prelude.{◌≡◌, ◌≤◌, length};
 ghost use Rattle.list_program.specs.Answers.{answer_result, answer_of};
-ghost use Rattle.list_program.specs.Writing.{Writes, WritesWithin};
 
 use crate::refusal::put_refusal;
+use crate::texts::PlanText;
 use list_reader::read_list_core;
 use memory::{PlanMemory, Tally};
-use rule::{COUNT_CELLS, MOST_BANKS, MOST_WAVES, ROW_CELLS, Refusal};
+use rule::{COUNT_CELLS, MOST_BANKS, MOST_WAVES, ROW_CELLS};
 
 // The cells of Neighbours and of Counts for the most banks.
 const NEIGHBOUR_CELLS: usize = ROW_CELLS * MOST_BANKS;
 
 const WAVE_COUNT_CELLS: usize = COUNT_CELLS * MOST_BANKS;
 
-// Writes the answer to a list to the front of out, by the function that writes the text of a plan, and answers its length.
-pub fn answer_list<F: FnOnce(PlanMemory, &mut [u8]) -> Result<usize, Refusal>>(
-    write: F,
-    list: &[u8],
-    out: &mut [u8],
-) -> usize
+// Writes the answer to a list to the front of out, and answers its length.
+pub fn answer_list<W: PlanText>(list: &[u8], out: &mut [u8]) -> usize
     requires room { 24 ≤ length out.old }
-    requires callable { F.IsAlwaysCallable write }
-    requires written_within { WritesWithin (F.post write) }
-    ensures answers { (text : Graph → List ℕ) → Writes (F.post write) text
-        → answer_result result out.new ≡ answer_of text list.now out.old }
+    ensures answers { answer_result result out.new ≡ answer_of W.text list.now out.old }
     ensures within { result ≤ length out.new }
 {
     let mut neighbours = [0u16; NEIGHBOUR_CELLS];
@@ -62,5 +54,5 @@ pub fn answer_list<F: FnOnce(PlanMemory, &mut [u8]) -> Result<usize, Refusal>>(
         ranks: &ranks,
         tally: read.tally,
     };
-    write(plan, out).unwrap_or(0)
+    W::write(plan, out).unwrap_or(0)
 }

@@ -7,9 +7,11 @@ mod input;
 mod named;
 mod printing;
 mod refusal;
+mod texts;
 
 pub use arguments::{arg, arg_count};
 pub use input::{LIST_BYTES, read_from, read_input};
 pub use named::{put_named, put_refused};
 pub use printing::run;
 pub use refusal::put_refusal;
+pub use texts::{PlanText, Poster, Sheet};

@@ -20,10 +20,11 @@ pub struct Tally {
     pub cap: u16,
 }
 
-// Plan memory that is lent for reading: the five slices and the tally.
+// Plan memory that is lent for reading: the five slices and the tally. The neighbours have a lifetime of their own: a row that a call hands back is
+// lent on when the other slices are no longer.
 #[derive(Clone, Copy)]
-pub struct PlanMemory<'a> {
-    pub neighbours: &'a [u16],
+pub struct PlanMemory<'n, 'a> {
+    pub neighbours: &'n [u16],
     pub degrees: &'a [u16],
     pub waves: &'a [u16],
     pub counts: &'a [u16],

@@ -26,11 +26,19 @@ fn all_named(row: &[u16], named: usize, banks: u16, b: Bank) -> bool
     (0..named).all(|i| named_right(row, i, banks, b))
 }
 
-// Whether the cells that are left over hold UNUSED.
-fn all_unused(rest: &[u16]) -> bool
-    ensures { IsTrue result ↔ ((i : ℕ) → i < length rest.now → get_or rest.now i 0 ≡ 65535) }
+// Whether the cells of a row that are left over hold UNUSED. All cells are counted that do, so that they are tested side by side: a chain of `all`
+// tests one after the other.
+fn rest_unused(row: &[u16], named: usize) -> bool
+    requires size { length row.now ≡ 23 }
+    requires few { named ≤ 23 }
+    requires none_named { (i : ℕ) → i < named → get_or row.now i 0 ≡ 65535 → ⊥ }
+    ensures { IsTrue result ↔ ((i : ℕ) → named ≤ i → i < 23 → get_or row.now i 0 ≡ 65535) }
 {
-    rest.iter().all(|x| *x == UNUSED)
+    let mut unused: u16 = 0;
+    for cell in row {
+        unused += u16::from(*cell == UNUSED);
+    }
+    named + usize::from(unused) == ROW_CELLS
 }
 
 // Whether b's row ascends, names `degree` banks other than b, and is filled up with UNUSED.
@@ -39,7 +47,7 @@ fn row_right(row: &[u16], degree: u16, banks: u16, b: Bank) -> bool
     ensures { IsTrue result ↔ RowRight row.now degree banks b.0 }
 {
     let named = usize::from(degree);
-    named <= ROW_CELLS && all_named(row, named, banks, b) && all_unused(&row[named..])
+    named <= ROW_CELLS && all_named(row, named, banks, b) && rest_unused(row, named)
 }
 
 // The same of bank b's cells.
@@ -77,6 +85,19 @@ fn all_under(cells: &[u16], banks: u16, bound: u16) -> bool
     cells[..usize::from(banks)].iter().all(|x| *x < bound)
 }
 
+// Whether the 24 cells are equal. All are counted that are, so that they are tested side by side.
+fn cells_equal(part: &[u16], cells: &[u16]) -> bool
+    requires part_len { length part.now ≡ 24 }
+    requires cells_len { length cells.now ≡ 24 }
+    ensures { IsTrue result ↔ ((c : ℕ) → c < 24 → get_or part.now c 0 ≡ get_or cells.now c 0) }
+{
+    let mut equal: u16 = 0;
+    for c in 0..COUNT_CELLS {
+        equal += u16::from(part[c] == cells[c]);
+    }
+    equal == MOST_WAVES
+}
+
 // Whether the wave is the lowest with a count of 0.
 fn is_lowest(cells: &[u16], wave: Wave) -> bool
     requires cells_len { length cells.now ≡ 24 }
@@ -93,7 +114,7 @@ fn part_right(part: &[u16], cells: &[u16], wave: Wave) -> bool
     requires wave_bound { wave.0 < 24 }
     ensures { IsTrue result ↔ PartRight part.now (λ c. get_or cells.now c 0) wave.0 }
 {
-    part == cells && is_lowest(cells, wave)
+    cells_equal(part, cells) && is_lowest(cells, wave)
 }
 
 // The same of bank b's cells.

@@ -21,7 +21,10 @@ use Rattle.memory.proofs.Views.{held_of, tally_banks}
 use Rattle.rule.specs.declared.Kind.{Kind}
 use Rattle.planner.specs.inner.Held.{clash_number}
 use Rattle.planner.proofs.Numbers.{two_banks}
-use Rattle.planner.specs.Calls.{edit_number, bank_number, wave_by, wave_of, clashes_by, clashes_of}
+use Rattle.planner.specs.Calls.{edit_number, bank_number, wave_by, wave_in, wave_of, clashes_by, clashes_of}
+use Rattle.std.specs.Prelude.{Result, Ok, Err, IfOk}
+use Rattle.rule.specs.declared.Wave.{Wave}
+use Rattle.rule.specs.declared.refusal.Refusal.{Refusal}
 
 module _ {G : Graph} {s : Slices} {t : Tally} (p : PlanOf G s t) {b : ℕ} (l : b < t.banks) where
   held : Held G s t.banks
@@ -87,6 +90,11 @@ module _ (b : ℕ) (s : Slices) (t : Tally) where
 
   pub clashes_found : 0 ≡ bank_number b s t → neighbours (graph_in t.banks s) b ≡ clashes_of b s t
   clashes_found e = unfold clashes_by in clashes_by-law 0 e
+
+-- where such a call is not refused, that is its wave
+pub wave_ok : (r : Result Wave Refusal) (w : ℕ) → wave_in r ≡ w → IfOk r (λ x. x.0 ≡ w)
+wave_ok (Ok x) w e = e
+wave_ok (Err e) w q = tt
 
 -- a search for bank v among cells
 pub not_yet : (v : ℕ) → memb v [] ≡ false

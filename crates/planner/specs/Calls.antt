@@ -1,10 +1,12 @@
 -- What each call answers and leaves, of what it is lent (01, "Calls" and "The questions").
-use Rattle.std.specs.Prelude.{Bool, ◌&&◌, not, List, [], ◌∷◌, ℕ, zero, suc, ltb, leb, eqb, length}
+use Rattle.std.specs.Prelude.{Bool, ◌&&◌, not, List, [], ◌∷◌, ℕ, zero, suc, ltb, leb, eqb, length, Result, Ok, Err}
 use Rattle.rule.specs.Graph.{Graph, degree, neighbours, empty}
 use Rattle.rule.specs.Wave.{wave}
 use Rattle.rule.specs.Reach.{edited, trail, moved}
 use Rattle.rule.specs.declared.Kind.{Kind}
 use Rattle.rule.specs.declared.Kind.TheVariants.{Adding, Striking}
+use Rattle.rule.specs.declared.Wave.{Wave}
+use Rattle.rule.specs.declared.refusal.Refusal.{Refusal}
 use Rattle.memory.specs.declared.Tally.{Tally}
 use Rattle.memory.specs.Cells.{over}
 use Rattle.memory.specs.Plan.{Slices, long_enough, plan_in, tally_of, graph_in, holds}
@@ -110,6 +112,11 @@ wave_by (suc c) b G = 0
 -- the call wave of a bank: its rule wave, or 0 with the number
 unfoldable pub wave_of : ℕ → Slices → Tally → ℕ
 wave_of b s t = wave_by (bank_number b s t) b (graph_in t.banks s)
+
+-- the wave that such a call answers, 0 where it is refused
+abbrev pub wave_in : Result Wave Refusal → ℕ
+wave_in (Ok w) = w.0
+wave_in (Err e) = 0
 
 -- by the number of the first no
 unfoldable pub clashes_by : ℕ → ℕ → Graph → List ℕ

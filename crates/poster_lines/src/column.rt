@@ -24,12 +24,19 @@ fn put_spaces(out: &mut [u8], at: usize, count: usize) -> usize
     next
 }
 
+// The columns before the digits of a bank.
+fn columns_before(b: Bank) -> usize
+    ensures { result ≡ 5 - length (decimal b.0) }
+{
+    COLUMNS - digits(b.0)
+}
+
 // A bank, right-aligned in five columns.
 pub fn put_aligned(out: &mut [u8], at: usize, b: Bank) -> usize
     requires { (b.0 < 1024) × (at + 5 ≤ length out.old) }
     ensures { Puts (right_aligned b.0) at out.old result out.new }
 {
-    let number = put_spaces(out, at, COLUMNS - digits(b.0));
+    let number = put_spaces(out, at, columns_before(b));
     put_number(out, number, b.0)
 }
 

@@ -15,6 +15,9 @@ const OTHER_CELLS: usize = 5;
 // The cells of a tally in a place before the ranks; its cap stands after them, in the last cell.
 pub const TALLY_CELLS: usize = 3;
 
+// The used cell of a place that holds a plan.
+const USED: u16 = 1;
+
 // The cells of a place of so many banks.
 pub fn place_size(banks: u16) -> usize
     ensures { result ≡ place_size banks }
@@ -70,7 +73,7 @@ fn place_right(place: &[u16], banks: u16) -> bool
     ensures { result ≡ place_right banks place.now }
 {
     let used = place[0];
-    used == 0 || used == 1 && holds_in(place, banks)
+    used == 0 || used == USED && holds_in(place, banks)
 }
 
 // Question 5 of a shelf that is long enough.

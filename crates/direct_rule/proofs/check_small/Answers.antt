@@ -24,4 +24,5 @@ returns c =
     record {
       number = sym (direct_fine _ _ _ (sym ok.number) c.if-banks-gt-MOST_READ.false c.if-banks-bank.false);
       plan = (ok.plan, c.if-banks-bank.false);
+      few = c.if-banks-gt-MOST_READ.false;
     }

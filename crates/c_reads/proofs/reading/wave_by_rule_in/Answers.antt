@@ -1,5 +1,6 @@
 -- `wave_by_rule_in` meets its contract.
 use borrow.Author.Rules.{rules}
+use Rattle.planner.proofs.Rows.{wave_ok}
 use Rattle.direct_rule.proofs.Numbers.{wave_refused}
 use Rattle.c_cells.proofs.Results.{value_is, result_of}
 use Rattle.c_cells.proofs.Rooms.{roomed_some}
@@ -14,6 +15,6 @@ returns-then-short-ne0 c = roomed_some _ _ _ _ c.room-short.ensures.number _ _ c
 pub returns : goal.returns
 returns c =
     let answer = c.wave_by_rule.ensures in
-    let made = result_of _ _ _ _ _ answer.wave (wave_refused _ _ _ _ answer.number) c.map.ensures.cases (λ x q. value_is _ _ _ q (λ y p. search rules)) in
+    let made = result_of _ _ _ _ _ (wave_ok _ _ answer.wave) (wave_refused _ _ _ _ answer.number) c.map.ensures.cases (λ x q. value_is _ _ _ q (λ y p. search rules)) in
     rw (c.put_result.ensures.number, made.0)
     (direct_done-law _ _ _ _ _ _ c.tally_in.ensures c.if-short-ne0.false _ _ _ c.room-short.ensures.number answer.number made.1 c.put_result.ensures.res)

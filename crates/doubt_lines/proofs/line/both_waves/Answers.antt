@@ -1,8 +1,10 @@
--- A bank whose wave is read straight off has a kept one.
-use Rattle.doubt_lines.proofs.Answers.{both_passed}
-use Rattle.rule.proofs.Refusals.{refused_some}
-use mathlib.Core.Path.{sym, ◌∙◌}
+-- A bank whose wave is read straight off has a kept one, in its cell.
+use Rattle.doubt_lines.proofs.Answers.{kept_cell}
+use mathlib.Core.Path.{sym}
 use Rattle.doubt_lines.proofs.line.both_waves.Goals as goal
 
-pub returns-in_err-kept-clause-number : goal.returns-in_err-kept-clause-number
-returns-in_err-kept-clause-number c = absurd (refused_some _ (c.in_err-kept.ensures.number ∙ both_passed _ _ _ (sym c.in_ok-read.ensures.number)))
+pub bounds-plan-from : goal.bounds-plan-from
+bounds-plan-from c = rw c.from.ensures (kept_cell _ _ _ (sym c.in_ok-read.ensures.number)).0
+
+pub returns-clause-waves : goal.returns-clause-waves
+returns-clause-waves c = (rw c.from.ensures (kept_cell _ _ _ (sym c.in_ok-read.ensures.number)).1, c.in_ok-read.ensures.wave)

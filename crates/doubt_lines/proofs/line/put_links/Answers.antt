@@ -1,6 +1,6 @@
 -- The first i clashes are written, each in at most 13 bytes.
 use Prim.Native.Nat.{◌<◌}
-use Rattle.doubt_lines.proofs.Answers.{clashes_few, clash_bank}
+use Rattle.doubt_lines.proofs.Answers.{row_clashes, clashes_few, clash_bank}
 use Rattle.doubt_lines.proofs.Lines.{few_banks, link_short, links_none, links_next}
 use Rattle.doubt_lines.specs.Lines.{link_text}
 use Rattle.memory.specs.Lent.{slices_in}
@@ -17,9 +17,12 @@ use Rattle.doubt_lines.proofs.line.put_links.Goals as goal
 pub loop-v-init : goal.loop-v-init
 loop-v-init c = (rw (links_none _ _ _ _) (puts_none _ _), refl, omega arith)
 
+pub clashes_held-clashes-requires : goal.clashes_held-clashes-requires
+clashes_held-clashes-requires c = ((_, number_plan _ _ c.requires.held), c.requires.is_bank)
+
 pub put_link-next-requires : goal.put_link-next-requires
 put_link-next-requires c =
-    let is = c.clashes_of-clashes.ensures in
+    let is = row_clashes _ _ _ c.requires.held c.requires.is_bank (c.clashes_held-clashes.ensures _ (number_plan _ _ c.requires.held)) in
     let few = clashes_few _ _ _ _ is in
     let v = clash_bank _ _ _ _ is c.loop-v.v-index (omega arith) in
     record {
@@ -33,10 +36,10 @@ pub loop-v-preserved : goal.loop-v-preserved
 loop-v-preserved c =
     let a = c.args in
     let s = slices_in a.plan in
-    let is = c.clashes_of-clashes.ensures in
+    let is = row_clashes _ _ _ c.requires.held c.requires.is_bank (c.clashes_held-clashes.ensures _ (number_plan _ _ c.requires.held)) in
     let few = clashes_few _ _ _ _ is in
-    let below : c.loop-v.v-index < length c.clashes_of-clashes.result.now = omega arith in
-    let v = get_or c.clashes_of-clashes.result.now c.loop-v.v-index 0 in
+    let below : c.loop-v.v-index < length c.clashes_held-clashes.result.now = omega arith in
+    let v = get_or c.clashes_held-clashes.result.now c.loop-v.v-index 0 in
     let bank = clash_bank _ _ _ _ is c.loop-v.v-index below in
     let short = link_short a.b.0 s a.plan.tally v (omega (arith, few_banks _ _ (number_plan _ _ c.requires.held))) in
     let inv = c.loop-v.invariant in
@@ -45,7 +48,8 @@ loop-v-preserved c =
 
 pub returns : goal.returns
 returns c =
-    let row = c.clashes_of-clashes.result.now in
+    let row = c.clashes_held-clashes.result.now in
     let all : take c.loop-v.v-index row ≡ row = take_all c.loop-v.v-index row (omega arith) in
-    let few = clashes_few _ _ _ _ c.clashes_of-clashes.ensures in
-    (rw (all, c.clashes_of-clashes.ensures) at c.loop-v.invariant.0, omega (arith, c.loop-v.auto.v-index-end, c.loop-v.invariant.2))
+    let is = row_clashes _ _ _ c.requires.held c.requires.is_bank (c.clashes_held-clashes.ensures _ (number_plan _ _ c.requires.held)) in
+    let few = clashes_few _ _ _ _ is in
+    (rw (all, is) at c.loop-v.invariant.0, omega (arith, c.loop-v.auto.v-index-end, c.loop-v.invariant.2))
