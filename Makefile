@@ -70,7 +70,7 @@ dev:
 
 check:
 	rt all check
-	tools/build $(NAMES) wave_plan
+	tools/build $(NAMES) function_text wave_plan
 
 papers:
 	tests/papers

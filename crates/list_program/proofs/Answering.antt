@@ -1,14 +1,17 @@
 -- The refusal's text, and the answer to a list by what its reading left.
 use mathlib.Core.List.{List, [], ◌∷◌, ◌++◌}
-use mathlib.Core.Path.{◌≡◌, refl, sym, ap, ap₂, ◌∙◌}
+use mathlib.Core.Path.{◌≡◌, refl, sym, ap, ap₂, ◌∙◌, subst}
 use Prim.Native.Nat.{ℕ, zero, suc, ◌+◌, ◌≤◌, ◌<◌}
 use native.Mathlib.Omega.{arith}
 use lib.ListN.{length, length-append}
-use Rattle.std.specs.Prelude.{Result, Ok, Err}
+use denote.Ref.{MutBor}
+use Rattle.std.specs.Prelude.{Result, Ok, Err, IfOk}
 use Rattle.std.specs.Result.{result_unwrap_or}
 use Rattle.rule.specs.declared.refusal.Refusal.{Refusal}
 use Rattle.rule.specs.Graph.{Graph}
 use Rattle.rule.specs.Refusals.{value_or}
+use Rattle.memory.specs.declared.PlanMemory.{PlanMemory}
+use Rattle.memory.specs.Lent.{slices_in}
 use Rattle.memory.specs.Cells.{over}
 use Rattle.text.specs.Numbers.{decimal}
 use Rattle.text.specs.Places.{Puts}
@@ -17,6 +20,7 @@ use Rattle.text.proofs.Putting.{puts_three, put_front}
 use Rattle.list_pass.specs.Pass.{ListResult, read_list}
 use Rattle.wave_lines.specs.Calls.{TextResult, write_text}
 use Rattle.wave_lines.proofs.Writing.{written_within}
+use Rattle.list_program.specs.Writing.{Writes, WritesWithin}
 use Rattle.list_program.specs.Answers.{blank, refusal_text, named, answer_result, of_text, answer_by, answer_of}
 
 -- how long a number after a text is
@@ -82,3 +86,14 @@ module _ (text : Graph → List ℕ) where
 pub unwrapped : (r : Result ℕ Refusal) → result_unwrap_or r 0 ≡ value_or r 0
 unwrapped (Ok n) = refl
 unwrapped (Err refusal) = refl
+
+pub unwrapped_within : (r : Result ℕ Refusal) (most : ℕ) → IfOk r (λ n. n ≤ most) → result_unwrap_or r 0 ≤ most
+unwrapped_within (Ok n) most h = h
+unwrapped_within (Err refusal) most h = omega arith
+
+-- a function that writes a text of a plan leaves it inside the output
+pub writes_within : (post : PlanMemory → MutBor (List ℕ) → Result ℕ Refusal → MutBor (List ℕ) → Type 0) (text : Graph → List ℕ) → Writes post text → WritesWithin post
+writes_within post text w p out (Err refusal) after e = tt
+writes_within post text w p out (Ok n) after e =
+    let Within : TextResult → Type 0 = λ x. x.answer.length ≤ length x.out in
+    subst Within (sym (w p out (Ok n) after e)) (written_within text (slices_in p) p.tally out.now)

@@ -9,9 +9,9 @@ use memory::{PlanMemory, Tally};
 use rule::{COUNT_CELLS, MOST_BANKS, MOST_WAVES, ROW_CELLS};
 
 // The cells of Neighbours and of Counts for the most banks.
-const NEIGHBOUR_CELLS: usize = ROW_CELLS * MOST_BANKS;
+pub const NEIGHBOUR_CELLS: usize = ROW_CELLS * MOST_BANKS;
 
-const WAVE_COUNT_CELLS: usize = COUNT_CELLS * MOST_BANKS;
+pub const WAVE_COUNT_CELLS: usize = COUNT_CELLS * MOST_BANKS;
 
 // Writes the answer to a list to the front of out, and answers its length.
 pub fn answer_list<W: PlanText>(list: &[u8], out: &mut [u8]) -> usize

@@ -14,4 +14,4 @@ pub use input::{LIST_BYTES, read_from, read_input};
 pub use named::{put_named, put_refused};
 pub use printing::run;
 pub use refusal::put_refusal;
-pub use texts::{PlanText, Poster, Sheet};
+pub use texts::{PlanText, Poster, Sheet, run_text};

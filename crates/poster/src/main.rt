@@ -1,8 +1,8 @@
 // Reads a list from standard input, and writes its poster or its refusal to standard output.
 #![tactic(auto)]
 
-use list_program::{Poster, run};
+use list_program::{Poster, run_text};
 
 fn main(rt: HostRuntime) {
-    run::<Poster>(&rt);
+    run_text::<Poster>(&rt);
 }

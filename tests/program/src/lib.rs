@@ -1,5 +1,5 @@
-//! Runs the programs *sheet*, *poster*, *doubt* and *crew* on a list, and *agree* on a list and a sheet, and judges
-//! what they print.
+//! Runs the programs *sheet*, *poster*, *doubt*, *crew* and *function_text* on a list, and *agree* on a list and a
+//! sheet, and judges what they print.
 //!
 //! - `run`: starts a program.
 //! - `read_back`: reads the waves and the foot off a printed sheet or poster and holds them against
@@ -26,6 +26,18 @@ pub fn poster_agrees_with_model(list: &[u8]) {
     same(list, &printed, &poster::program_output(list));
     if !printed.starts_with(b"REFUSED") {
         read_back::poster_follows_rule(list, &printed);
+    }
+}
+
+/// The program *function_text* prints for this list what the model does: the sheet, and with an argument the poster.
+pub fn function_text_agrees_with_model(list: &[u8]) {
+    for (arguments, wanted) in [
+        (&[][..], sheet::program_output(list)),
+        (&["poster"][..], poster::program_output(list)),
+    ] {
+        let told = run::function_text_program(list, arguments);
+        same(list, &told.output, &wanted);
+        assert!(told.errors.is_empty());
     }
 }
 

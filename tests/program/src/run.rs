@@ -26,6 +26,15 @@ pub fn poster_program(list: &[u8]) -> Vec<u8> {
     told(&path("POSTER_PROGRAM", "poster"), list, &[]).output
 }
 
+/// What the program *function_text* tells for a list and arguments.
+pub fn function_text_program(list: &[u8], arguments: &[&str]) -> Told {
+    told(
+        &path("FUNCTION_TEXT_PROGRAM", "function_text"),
+        list,
+        arguments,
+    )
+}
+
 /// What the program *doubt* tells for a list and arguments.
 pub fn doubt_program(list: &[u8], arguments: &[&str]) -> Told {
     told(&path("DOUBT_PROGRAM", "doubt"), list, arguments)
